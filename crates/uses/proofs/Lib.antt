@@ -1,4 +1,5 @@
 pub mod Beginnings
+pub mod Capacity
 pub mod After
 pub mod CallsAlong
 pub mod ConstantText

@@ -1,4 +1,4 @@
--- The functions that an expression calls directly. Specification: Structure, Control Instructions.
+-- Specification: Structure, Control Instructions.
 use Rattle.std.specs.Prelude.{◌≡◌, ℕ, List, [], ◌∷◌, ◌++◌, flat_map, Bool, false}
 use Rattle.wasm_operators.specs.instr.declared.operator.Operator.{Operator}
 use Rattle.wasm_operators.specs.instr.declared.operator.Operator.TheVariants as operator

@@ -1,5 +1,4 @@
--- Constant expressions as offsets of segments. Specification: Binary Format, Data Section; Numeric
--- Instructions.
+-- Specification: Binary Format, Data Section; Numeric Instructions.
 use Rattle.std.specs.Prelude.{◌≡◌, ℕ, ℤ, List, ◌∷◌, [], Option, Some, None}
 use Rattle.wasm_operators.specs.below.Source.{Source, Reader, offset_of, Takes}
 use Rattle.wasm_operators.specs.instr.declared.operator.Operator.{Operator}
@@ -16,8 +15,7 @@ i32_of _ = None
 abbrev pub text_at : Reader → List ℕ → Source
 text_at r text = record { features = r.features; offset = offset_of r; bytes = text }
 
--- The reader took a constant expression with these operators, and `number` is its constant if it is
--- one `i32.const`.
+-- The reader took a constant expression, and `number` is its constant if it is one `i32.const`.
 pub record TakesOffset (number : Option ℤ) (old new : Reader) : Type 0 where
   pub text : List ℕ
   pub takes : Takes old new text

@@ -16,7 +16,7 @@ closes operator.End = 1
 closes (operator.Delegate _) = 1
 closes _ = 0
 
--- The number of frames that are open after operators, if `n` are open before.
+-- The number of open frames after operators, if `n` are open before.
 abbrev pub open_after : ℕ → List Operator → ℕ
 open_after n [] = n
 open_after n (op ∷ ops) = open_after (n + opens op - closes op) ops

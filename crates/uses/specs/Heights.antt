@@ -1,4 +1,3 @@
--- Arities of operators in a module, and visits that keep the height of the operand stack.
 -- Specification: Validation, Instructions; Appendix, Validation Algorithm.
 use Rattle.std.specs.Prelude.{◌≡◌, ℕ, List, [], ◌∷◌, None, IsSome}
 use Rattle.wasm_operators.specs.instr.Arity.{arity_of}
@@ -21,8 +20,7 @@ pub record KeepsModule (before after : Heights) : Type 0 where
   pub functions : after.context.functions.now ≡ before.context.functions.now
   pub fault : after.fault ≡ None → before.fault ≡ None
 
--- Without a fault after the visit, there was none before, and the operator has an arity in the
--- module.
+-- Without a fault after the visit, there was none before, and the operator has an arity.
 pub record StepsHeight (before : Heights) (op : Operator) (after : Heights) : Type 0 where
   pub keeps : KeepsModule before after
   pub arity : after.fault ≡ None → HasArity before.context.types.now before.context.functions.now op

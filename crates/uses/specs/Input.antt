@@ -1,4 +1,3 @@
--- The bytes that the callers receive.
 use Rattle.std.specs.Prelude.{ℕ, List}
 use Rattle.wasm_operators.specs.below.bytes.features.WasmFeatures.{WasmFeatures}
 use Rattle.wasm_operators.specs.below.Source.{Source}

@@ -1,4 +1,3 @@
--- The facts about a module on which arities depend, from lists of its types and functions.
 -- Specification: Validation, Instructions; Appendix, Validation Algorithm.
 use Rattle.std.specs.Prelude.{ℕ, ◌-◌, List, length, Option, None, if◌then◌else◌, nat_lt, min}
 use Rattle.std.specs.List.{slice_get}
@@ -23,12 +22,11 @@ arity_of block.Empty = arity.Nothing
 arity_of (block.Value ty) = arity.OneResult
 arity_of (block.FuncType index) = arity.OfType index
 
--- The block type and the kind of the frame at a depth. The innermost is the last of the list.
+-- The block type and the kind of the frame at a depth. The innermost frame is the last.
 abbrev pub label : List Frame → ℕ → Option (BlockType × FrameKind)
 label frames depth = if nat_lt depth (length frames) then option_map (λ f. (block_of f.arity, f.kind)) (slice_get frames (length frames - 1 - depth)) else None
 
--- A module of function types with these parameters and results, and functions of these types, with
--- these open frames.
+-- A module with these function types, functions and open frames.
 abbrev pub facts : List (ℕ × ℕ) → List ℕ → List Frame → ModuleFacts
 facts types functions frames = record {
   func_type_arity = slice_get types;

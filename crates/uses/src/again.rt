@@ -10,8 +10,8 @@ use wasm_operators::{
 /// Returns the operators of an expression. Calls `read_all` again after allocation failed, at most
 /// `tries` times in all.
 ///
-/// The clause `tree` of a call takes the operators that the clause `beginning` of the failed one
-/// gives, and the law `layouts` joins the lists.
+/// The clause `beginning` of a failed call gives what `tree` of the next takes; the law `layouts`
+/// joins the lists.
 pub fn operators_again<'a>(
     alloc: Global,
     features: WasmFeatures,

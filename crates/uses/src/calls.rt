@@ -53,8 +53,8 @@ impl VisitSimdOperator for Calls {}
 
 /// Returns the indices of the functions that a body calls directly, in order.
 ///
-/// The clause `tree` of `visit_all_simd` gives the expression and the relation of each visit. By
-/// the law `opened_bodies`, locals and expression are the body.
+/// The clause `tree` of `visit_all_simd` gives the expression and its visits, the law
+/// `opened_bodies` the body.
 pub fn called_functions(alloc: Global, features: WasmFeatures, bytes: &[u8]) -> Result<Vec<u32>>
     ensures { IfOk result (λ calls. (declarations : List Declaration) × (placed : Placed)
         × EncodesBody (input features bytes.now) declarations placed × (calls.items ≡ calls_of placed)) }

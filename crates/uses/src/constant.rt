@@ -1,4 +1,3 @@
-//! A constant expression, such as the offset of an active segment.
 ghost use Rattle.std.specs.Prelude.{◌≡◌, IfOk, IfErr};
 ghost use Rattle.wasm_operators.specs.Expression.{operators};
 ghost use Rattle.uses.specs.Constants.{i32_of, TakesOffset};
@@ -6,7 +5,6 @@ ghost use Rattle.uses.specs.Constants.{i32_of, TakesOffset};
 use std::alloc::Global;
 use wasm_operators::{BinaryReader, ConstExpr, Operator, Result};
 
-/// Returns the constant of an expression that is one `i32.const` and `end`.
 fn i32_of(list: &[(Operator<'_>, u64)]) -> Option<i32>
     ensures { result ≡ i32_of (operators list.now) }
 {
@@ -21,7 +19,7 @@ fn i32_of(list: &[(Operator<'_>, u64)]) -> Option<i32>
 
 /// Reads a constant expression. Returns its constant if it is one `i32.const`, otherwise `None`.
 ///
-/// By the clause `tree` of `read_all`, the list is the one expression that the text encodes.
+/// The clause `tree` of `read_all` says that the bytes encode the list.
 pub fn read_offset(alloc: Global, reader: &mut BinaryReader<'_>) -> Result<Option<i32>>
     ensures takes { IfOk result (λ offset. TakesOffset offset reader.old reader.new) }
     ensures nothing { IfErr result (λ e. reader.new ≡ reader.old) }

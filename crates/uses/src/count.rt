@@ -35,8 +35,8 @@ impl VisitSimdOperator for Count {}
 
 /// Returns the number of operators in an expression.
 ///
-/// The visitor's relation counts one visit; along the list of the clause `tree` it counts all. By
-/// the law `layouts`, the list is no longer than its bytes.
+/// The visitor's relation counts one visit, and along the list of the clause `tree` all. By the law
+/// `layouts`, the list is no longer than its bytes.
 pub fn count_operators(alloc: Global, features: WasmFeatures, bytes: &[u8]) -> Result<u64>
     ensures counts { IfOk result (λ count. (placed : Placed)
         × EncodesExpression (input features bytes.now) placed × (count ≡ length placed)) }

@@ -1,4 +1,3 @@
-//! The heights of the operand stack along the operators of a body.
 ghost use Rattle.std.specs.Prelude.{◌≡◌, List, IfOk, None};
 ghost use Rattle.wasm_operators.specs.Body.{EncodesBody};
 ghost use Rattle.wasm_operators.specs.Expression.{Placed};
@@ -49,7 +48,7 @@ fn is_stack_polymorphic(op: &Operator<'_>) -> bool {
     )
 }
 
-/// Returns the kind of frame that the innermost one becomes, if the operator turns it.
+/// Returns the kind that the operator gives the innermost frame, if it changes it.
 fn turned(op: &Operator<'_>) -> Option<FrameKind> {
     match op {
         Operator::Else => Some(FrameKind::Else),
@@ -188,11 +187,10 @@ impl<'a, 'm> VisitOperator<'a> for Heights<'m> {
 
 impl<'m> VisitSimdOperator for Heights<'m> {}
 
-/// Computes the stack heights along a body of this function type, in a module with these types and
-/// functions.
+/// Computes the stack heights along a body of the type `ty`.
 ///
 /// Proved: without a fault, the bytes encode a body whose operators have arities in the module. Not
-/// proved: that the heights are those of the validation algorithm.
+/// proved: that the validation algorithm has the same heights.
 pub fn heights_of_body<'m>(
     alloc: Global,
     features: WasmFeatures,

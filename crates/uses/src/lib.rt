@@ -13,6 +13,7 @@ mod locals;
 mod longest;
 mod module;
 mod own_visits;
+mod reserved;
 mod same;
 mod single;
 
@@ -26,5 +27,6 @@ pub use locals::{Body, read_body};
 pub use longest::{Kept, longest_beginning};
 pub use module::{BlockArity, Context, Frame};
 pub use own_visits::{Moves, count_moves};
+pub use reserved::{operators_reserved, read_reserved};
 pub use same::same_operator;
 pub use single::{Inside, operator_inside};

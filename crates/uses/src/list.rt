@@ -6,8 +6,8 @@ ghost use Rattle.uses.specs.Input.{input};
 use std::alloc::Global;
 use wasm_operators::{BinaryReader, Message, Operator, OperatorsReader, Result};
 
-/// Returns the operators of an expression, each with the offset of its first byte, as the clauses
-/// `tree` and `only` of `read_all` say.
+/// Returns the operators of an expression, each with its offset, by the clauses `tree` and `only`
+/// of `read_all`.
 pub fn operators<'a>(alloc: Global, bytes: &'a [u8]) -> Result<Vec<(Operator<'a>, u64)>>
     ensures encodes { IfOk result (λ found. EncodesExpression (input all_features bytes.now) found.items) }
     ensures whole { (placed : Placed) → EncodesExpression (input all_features bytes.now) placed

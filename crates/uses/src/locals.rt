@@ -15,8 +15,8 @@ pub struct Body<'a> {
 
 /// Reads the one body that the bytes encode.
 ///
-/// By the law `steps_of_locals`, each step of the iterator adds a declaration. By the clause `tree`
-/// of `read_all`, the rest is the expression. The law `past_locals` joins both to the body.
+/// By the law `steps_of_locals`, each step of the iterator adds a declaration; by the clause `tree`
+/// of `read_all`, the rest is the expression. The law `past_locals` joins both.
 pub fn read_body<'a>(alloc: Global, features: WasmFeatures, bytes: &'a [u8]) -> Result<Body<'a>>
     ensures { IfOk result (λ body. EncodesBody (input features bytes.now) body.locals.items body.operators.items) }
 {

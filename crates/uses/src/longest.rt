@@ -1,4 +1,4 @@
-//! The longest prefix of an expression in incomplete or invalid bytes, as an editor keeps it.
+//! The longest prefix of an expression in incomplete or invalid bytes, as in an editor.
 ghost use Rattle.std.specs.Prelude.{◌≡◌, ◌++◌, replicate, IfOk, IfErr};
 ghost use Rattle.wasm_operators.specs.Expression.{operators, AreWalk, IsLongestBeginning};
 ghost use Rattle.uses.specs.Frames.{opens, closes, open_after};
@@ -59,11 +59,11 @@ fn keep<'a>(found: Vec<(Operator<'a>, u64)>) -> Kept<'a>
     }
 }
 
-/// Returns the longest list of operators that begins an expression, and the number of `end`s that
-/// complete it. Only allocation can fail.
+/// Returns the longest prefix of an expression, and the number of `end`s that complete it. Only
+/// allocation can fail.
 ///
-/// If `read_all` fails, the clause `beginning` says so, with the laws `path_is_run` and
-/// `ends_complete`. Otherwise the clause `tree` and the law `whole_is_longest` do.
+/// If `read_all` fails, this is the clause `beginning`, with the laws `path_is_run` and
+/// `ends_complete`; otherwise the clause `tree`, with the law `whole_is_longest`.
 pub fn longest_beginning<'a>(
     alloc: Global,
     features: WasmFeatures,

@@ -1,17 +1,14 @@
-//! The types and functions of a module on which arities depend, in slices.
 ghost use Rattle.std.specs.Prelude.{◌≡◌};
 ghost use Rattle.uses.specs.Module.{arity_of, block_of};
 
 use wasm_operators::{BlockType, FrameKind, ModuleArity, ValType};
 
-/// The number of parameters and results of a block. Value types are not distinguished.
+/// A block type that does not distinguish value types.
 #[derive(Clone, Copy, Debug, PartialEq, Eq)]
 pub enum BlockArity {
-    /// No parameters and no results.
     Nothing,
-    /// No parameters, and one result.
     OneResult,
-    /// The parameters and results of the function type with this index.
+    /// The function type with this index.
     OfType(u32),
 }
 
@@ -47,8 +44,8 @@ pub struct Frame {
     pub unreachable: bool,
 }
 
-/// What arities depend on: types, as numbers of parameters and results; functions, as type indices;
-/// and the open frames, the innermost last.
+/// Types, as numbers of parameters and results; functions, as type indices; and the open frames,
+/// the innermost last.
 #[derive(Drop)]
 pub struct Context<'m> {
     pub types: &'m [(u32, u32)],

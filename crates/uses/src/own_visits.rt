@@ -1,4 +1,3 @@
-//! A visitor that overrides visits.
 ghost use Rattle.std.specs.Prelude.{◌≡◌, ◌+◌, ◌-◌, ◌^◌, ◌<◌, length, IfOk};
 ghost use Rattle.wasm_operators.specs.Expression.{Placed, EncodesExpression};
 ghost use Rattle.uses.specs.Input.{input};
@@ -9,7 +8,7 @@ use wasm_operators::{
     VisitOperator, VisitSimdOperator, Visitor, WasmFeatures, decode, dispatch, expression_laws,
 };
 
-/// The number of operators that copy or fill memory, and of all others.
+/// The number of operators that copy or fill memory, and the number of all others.
 #[derive(Debug, Drop)]
 pub struct Moves {
     pub moves: u64,
@@ -60,9 +59,9 @@ impl<'a> VisitOperator<'a> for Moves {
 
 impl VisitSimdOperator for Moves {}
 
-/// Counts the operators of an expression that copy or fill memory, and all others.
+/// Counts the operators of an expression that copy or fill memory, and separately all others.
 ///
-/// The proof is that of `count_operators`, with a relation over both counts.
+/// The proof is like the one of `count_operators`, with a relation over both counts.
 pub fn count_moves(alloc: Global, features: WasmFeatures, bytes: &[u8]) -> Result<Moves>
     ensures { IfOk result (λ found. (placed : Placed)
         × EncodesExpression (input features bytes.now) placed × (found.moves + found.others ≡ length placed)) }

@@ -1,11 +1,8 @@
-//! Operators compared by `==`.
 ghost use Rattle.std.specs.Prelude.{◌≡◌, ◌↔◌, IsTrue};
 
 use wasm_operators::{Operator, operator_laws};
 
-/// Returns whether two operators are the same, with all immediates.
-///
-/// The law `equality` says that `==` of operators is exact.
+/// Returns whether two operators are the same. The law `equality` says that `==` is exact.
 pub fn same_operator(a: &Operator<'_>, b: &Operator<'_>) -> bool
     ensures { IsTrue result ↔ (a.now ≡ b.now) }
 {

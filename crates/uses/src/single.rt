@@ -1,4 +1,3 @@
-//! One operator at a time, inside a frame that the caller gives.
 ghost use Rattle.std.specs.Prelude.{◌≡◌, ◌≢◌, ℕ, List, ◌++◌, IfOk, IfErr};
 ghost use Rattle.wasm_operators.specs.below.bytes.message.Message.{Message};
 ghost use Rattle.wasm_operators.specs.below.Source.{rest};
@@ -26,7 +25,7 @@ impl FrameStack for Inside {
 }
 
 /// Returns the operator at the reader's position, inside a frame of this kind, without consuming
-/// it. On an error other than `OutOfMemory`, none is encoded there.
+/// it. On an error other than `OutOfMemory`, no operator is encoded there.
 pub fn operator_inside<'a>(
     alloc: Global,
     reader: &BinaryReader<'a>,

@@ -1,4 +1,3 @@
--- What reading a new reader to the end says about the bytes.
 use Rattle.std.proofs.Common.{◌≡◌, ◌≢◌, ℕ, ◌+◌, List, [], length, refl, sym, ap, subst, arith, append-nil}
 use Rattle.wasm_operators.specs.below.bytes.error.Error.{Error}
 use Rattle.wasm_operators.specs.below.bytes.features.WasmFeatures.{WasmFeatures}

@@ -1,5 +1,5 @@
--- A caller that knows the encoding at the reader's position knows the result: no encoding is a
--- proper prefix of another, and a fault determines the error.
+-- The encoding at the reader's position determines the result: encodings are prefix codes, and
+-- faults determine errors.
 use Rattle.std.proofs.Common.{◌≡◌, ◌≢◌, ℕ, ◌+◌, List, [], ◌++◌, length, Result, Ok, Err, IfOk, IfErr, refl, sym, ap, subst, ◌∙◌, append-nil}
 use Rattle.wasm_operators.specs.below.bytes.error.Error.{Error}
 use Rattle.wasm_operators.specs.below.bytes.message.Message.{Message}

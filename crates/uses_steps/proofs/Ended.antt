@@ -1,5 +1,5 @@
--- No operator follows an expression at the start of the bytes. So bytes start with no expression
--- unless a read finds its end.
+-- No operator follows an expression. So bytes start with an expression only if a read finds its
+-- end.
 use Rattle.std.proofs.Common.{◌≡◌, ℕ, List, [], ◌∷◌, ◌++◌, Option, Some, None, sym, ap, subst, ◌∙◌, append-nil}
 use Rattle.std.specs.Option.{option_and_then}
 use Rattle.wasm_operators.specs.below.bytes.features.WasmFeatures.{WasmFeatures}

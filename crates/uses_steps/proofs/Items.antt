@@ -11,7 +11,7 @@ use Rattle.wasm_operators.specs.imm.Lists.{EncodesEach, EncodesMany}
 use Rattle.wasm_operators.specs.Section.{Section, SectionItems, items_of, IsDone, StopsSection}
 use Rattle.uses_steps.proofs.Codes.{refused_there}
 
--- The items that are read follow the count, and as many are left as the count exceeds them.
+-- The items read follow the count, which exceeds them by the number of items left.
 pub record HasRead {X : Type 0} (Encodes : List ℕ → X → Type 0) (r : Reader) (items : SectionItems) (found : List X) : Type 0 where
   pub count : ℕ
   pub number : List ℕ

@@ -1,4 +1,3 @@
--- The operators that a reader of unknown state reads.
 use Rattle.std.proofs.Common.{◌≡◌, ◌++◌, Result, Ok, Err, IfOk, Some, sym, ap, subst, ◌∙◌, append-nil}
 use Rattle.wasm_operators.specs.below.bytes.error.Error.{Error}
 use Rattle.wasm_operators.specs.below.Source.{rest, offset_of}

@@ -20,7 +20,6 @@ splits_at [] i x few is = absurd (omega arith)
 splits_at (y ∷ ys) zero x few is = record { before = []; after = ys; parts = ap (λ z. z ∷ ys) (sym is); place = refl }
 splits_at (y ∷ ys) (suc i) x few is = after_one ys i x y (splits_at ys i x (omega arith) is)
 
--- The elements at index `i` and after it.
 pub record SplitsInto {X : Type 0} (xs : List X) (i : ℕ) (x y : X) : Type 0 where
   pub before : List X
   pub after : List X

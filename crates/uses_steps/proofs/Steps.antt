@@ -1,4 +1,3 @@
--- Operators that an iterator returns, one after another.
 use Rattle.std.proofs.Common.{◌≡◌, ℕ, ◌+◌, List, [], ◌∷◌, ◌++◌, length, false, Some, inl, inr, IsSome, refl, sym, ap, subst, ◌∙◌, arith, append_assoc, append-nil, length-append}
 use Rattle.std.proofs.lemmas.Bool.{false≢true}
 use Rattle.wasm_operators.specs.below.Source.{Reader, rest, offset_of, source_of, at_position, Takes}

@@ -1,4 +1,3 @@
--- What bytes miss to be an expression, and expressions at the start of bytes.
 use Rattle.std.specs.Prelude.{◌≡◌, ℕ, List, [], ◌++◌, length}
 use Rattle.wasm_operators.specs.below.Source.{Source}
 use Rattle.wasm_operators.specs.Expression.{Placed, IsAny, EncodesExpression}
@@ -6,8 +5,8 @@ use Rattle.wasm_operators.specs.MainTheorem.{IsCut, IsCompletedByEnds}
 use Rattle.uses_steps.specs.declared.beginnings.Missing.{Missing}
 use Rattle.uses_steps.specs.declared.beginnings.Missing.TheVariants as missing
 
--- The bytes are an expression; some bytes 0x0b make them one; the rest of an operator is missing
--- (no claim); or no bytes make them one.
+-- `Nothing`: the bytes are an expression. `Ends`: some bytes 0x0b after them make one. `Bytes`: no
+-- claim. `Never`: no bytes after them make one.
 abbrev pub IsMissing : Source → Missing → Type 0
 IsMissing s missing.Nothing = (placed : Placed) × EncodesExpression s placed
 IsMissing s missing.Ends = (n : ℕ) × IsCompletedByEnds [] s n

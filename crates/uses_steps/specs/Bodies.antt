@@ -1,4 +1,3 @@
--- Bodies, and their first local declaration.
 use Rattle.std.specs.Prelude.{◌≡◌, ℕ, List, ◌++◌}
 use Rattle.wasm_operators.specs.below.Number.{EncodesUnsigned}
 use Rattle.wasm_operators.specs.below.Source.{Source, Reader, rest}

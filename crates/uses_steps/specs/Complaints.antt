@@ -1,5 +1,4 @@
--- The reasons why an operator is not read. Specification: Binary Format, Control Instructions.
--- Proposal legacy exception handling.
+-- Specification: Binary Format, Control Instructions. Proposal legacy exception handling.
 use Rattle.std.specs.Prelude.{◌≡◌, Option, Some, None}
 use Rattle.wasm_operators.specs.below.bytes.error.Error.{Error}
 use Rattle.wasm_operators.specs.grammar.declared.frame_kind.FrameKind.{FrameKind}
@@ -20,8 +19,7 @@ abbrev pub IsRefusal : Option Error → State → State → Type 0
 IsRefusal (Some e) old new = StopsNext EncodesAllowed OperatorFault e old new
 IsRefusal None old new = (op : Operator) × TakesOperator EncodesAllowed op old new
 
--- The next operator needs the feature of legacy exceptions, or the innermost frame does not allow
--- it.
+-- The next operator needs legacy exceptions, or the innermost frame does not allow it.
 abbrev pub IsComplaint : State → Complaint → Type 0
 IsComplaint s complaint.Feature = (g : Guard) × BeginsGuarded g s.reader × LacksFeature s.reader.features g
 IsComplaint s complaint.Frame =

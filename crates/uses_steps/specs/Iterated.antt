@@ -1,5 +1,4 @@
--- Operators that are encoded one after another, up to the end of the bytes. Specification: Binary
--- Format, Instructions; Appendix, Validation Algorithm.
+-- Specification: Binary Format, Instructions; Appendix, Validation Algorithm.
 use Rattle.std.specs.Prelude.{[], ◌∷◌, IsSome}
 use Rattle.wasm_operators.specs.below.Source.{Source}
 use Rattle.wasm_operators.specs.grammar.declared.frame_kind.FrameKind.TheVariants as frame
@@ -7,8 +6,7 @@ use Rattle.wasm_operators.specs.grammar.Frames.{frames_along}
 use Rattle.wasm_operators.specs.instr.Roles.{roles_of}
 use Rattle.wasm_operators.specs.Expression.{Placed, operators, LaidOut}
 
--- All of the bytes encode these operators, and the frames allow them, from the frame of an
--- expression on.
+-- All of the bytes encode these operators, which the frames of an expression allow.
 pub record AreAllAllowed (s : Source) (placed : Placed) : Type 0 where
   pub laid : LaidOut s.features s.offset placed s.bytes
   pub allowed : IsSome (frames_along (frame.Block ∷ []) (roles_of (operators placed)))

@@ -1,4 +1,3 @@
--- The rest of an expression, which is read after other operators.
 use Rattle.std.specs.Prelude.{◌≡◌, ◌++◌}
 use Rattle.wasm_operators.specs.below.Source.{source_of}
 use Rattle.wasm_operators.specs.Expression.{Placed, operators, AreEncoded}

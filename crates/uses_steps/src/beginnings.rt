@@ -1,4 +1,3 @@
-//! The longest prefix of an expression in some bytes, and what completes it.
 ghost use Rattle.std.specs.Prelude.{◌≡◌, ◌≢◌, ℕ, length, IfOk, IfErr, IfSome, IfNone};
 ghost use Rattle.wasm_operators.specs.Expression.{Placed, EncodesExpression, IsLongestBeginning};
 ghost use Rattle.wasm_operators.specs.Flat.{IsFlatBeginning};
@@ -25,8 +24,8 @@ pub enum Missing {
 
 /// Returns what the bytes miss to be an expression.
 ///
-/// If more bytes would complete it, `read_all` fails only because the data ends (clause `cut`), and
-/// after `FramesRemain` some `end`s complete it (clause `completed`).
+/// If more bytes would complete it, `read_all` fails only at the end of the data (clause `cut`),
+/// and after `FramesRemain` some `end`s complete it (clause `completed`).
 pub fn missing_after(alloc: Global, features: WasmFeatures, bytes: &[u8]) -> Result<Missing>
     ensures { IfOk result (λ what. IsMissing (input features bytes.now) what) }
 {
@@ -43,8 +42,8 @@ pub fn missing_after(alloc: Global, features: WasmFeatures, bytes: &[u8]) -> Res
     }
 }
 
-/// Returns as many operators from the start of the bytes as the open frames allow (clause `flat` of
-/// `read_all`). By the law `flat_beginnings`, they are the longest prefix of an expression.
+/// Returns the longest prefix of an expression: as many operators as the open frames allow (clause
+/// `flat` of `read_all`, law `flat_beginnings`).
 pub fn allowed_operators<'a>(
     alloc: Global,
     features: WasmFeatures,
@@ -68,10 +67,8 @@ pub fn allowed_operators<'a>(
     }
 }
 
-/// Returns the number of operators in the longest prefix of an expression.
-///
-/// By the laws `one_longest_beginning` and `one_expression`, a list that a caller knows is the list
-/// that was read.
+/// Returns the number of operators in the longest prefix of an expression. There is one such prefix
+/// (laws `one_longest_beginning` and `one_expression`).
 pub fn beginning_len(alloc: Global, features: WasmFeatures, bytes: &[u8]) -> Result<usize>
     ensures longest { (longest : Placed) → IsLongestBeginning (input features bytes.now) longest
         → IfOk result (λ count. count ≡ length longest) }
@@ -92,13 +89,11 @@ pub fn beginning_len(alloc: Global, features: WasmFeatures, bytes: &[u8]) -> Res
     }
 }
 
-/// Returns how many bytes at the start are an expression, whatever follows; `None` if there is no
-/// such number.
+/// Returns how many bytes at the start are an expression, or `None` if none begins there.
 ///
 /// By the law `run_messages`, the error is `OperatorsRemaining` if and only if no frame is open:
-/// then the operators read are an expression. Otherwise an expression at the start would be a
-/// prefix of the longest prefix (`one_layout`) whose frames are closed (`rules_accept_walks`), so
-/// that nothing could follow it.
+/// the operators read are then an expression. After any other error but `OutOfMemory`, none begins
+/// there (laws `one_layout` and `rules_accept_walks`).
 pub fn expression_size(alloc: Global, features: WasmFeatures, bytes: &[u8]) -> Result<Option<usize>>
     ensures some { IfOk result (λ size. IfSome size (λ n. BeginsExpression (input features bytes.now) n)) }
     ensures none { IfOk result (λ size. IfNone size ((n : ℕ) → BeginsExpression (input features bytes.now) n → ⊥)) }
@@ -120,8 +115,8 @@ pub fn expression_size(alloc: Global, features: WasmFeatures, bytes: &[u8]) -> R
     }
 }
 
-/// Reads the bytes twice, and returns both errors, which are the same unless an allocation failed
-/// (law `one_result`). Returns `None` if one read succeeds; the bytes are then an expression.
+/// Reads the bytes twice, and returns both errors, which are equal unless allocation failed (law
+/// `one_result`). If it returns `None`, the bytes are an expression.
 pub fn refused_twice(alloc: Global, features: WasmFeatures, bytes: &[u8]) -> Option<(Error, Error)>
     ensures again { IfSome result (λ both. both.0.message ≢ Message.OutOfMemory → both.1.message ≢ Message.OutOfMemory
         → (both.0.message ≡ both.1.message) × (both.0.offset ≡ both.1.offset)) }

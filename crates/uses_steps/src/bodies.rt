@@ -10,10 +10,8 @@ use wasm_operators::{
     BinaryReader, FunctionBody, Message, Result, ValType, WasmFeatures, body_laws,
 };
 
-/// Returns whether the bytes are a body.
-///
-/// They are if a reader reads them to the end (law `opened_bodies`); otherwise not
-/// (`refused_locals`, `stopped_bodies`).
+/// Returns whether the bytes are a body, by reading them to the end (laws `opened_bodies`,
+/// `refused_locals` and `stopped_bodies`).
 pub fn is_body(alloc: Global, features: WasmFeatures, bytes: &[u8]) -> Result<bool>
     ensures { IfOk result (λ outcome. IsTrue outcome ↔ IsBody (input features bytes.now)) }
 {
@@ -35,8 +33,7 @@ pub fn is_body(alloc: Global, features: WasmFeatures, bytes: &[u8]) -> Result<bo
     }
 }
 
-/// Returns the number of operators in a body, which is the only one that the bytes encode (law
-/// `one_body`).
+/// Returns the number of operators in the one body that the bytes encode (law `one_body`).
 pub fn body_len(alloc: Global, features: WasmFeatures, bytes: &[u8]) -> Result<usize>
     ensures { (declarations : List Declaration) (placed : Placed)
         → EncodesBody (input features bytes.now) declarations placed → IfOk result (λ count. count ≡ length placed) }

@@ -7,11 +7,10 @@ ghost use Rattle.wasm_operators.specs.ConstantFaults.{ConstantFault, ConstantMay
 use std::alloc::Global;
 use wasm_operators::{BinaryReader, ConstExpr, Message, Result, constant_laws};
 
-/// Returns the length in bytes of the constant expression at the reader's position, without
-/// consuming it.
+/// Returns the length in bytes of the constant expression at the reader's position.
 ///
-/// By the law `constant_expressions`, no other prefix is one. By `constant_refusals`, an error that
-/// a caller can predict is returned.
+/// No other prefix is one (law `constant_expressions`), and the bytes determine the error
+/// (`constant_refusals`).
 pub fn constant_size(alloc: Global, reader: &BinaryReader<'_>) -> Result<usize>
     ensures size { (text more : List ℕ) (constant : Reader) → rest reader.now ≡ text ++ more
         → EncodesConstantReader reader.now.features text constant → IfOk result (λ size. size ≡ length text) }

@@ -1,4 +1,3 @@
-//! Frames that the caller keeps.
 ghost use Rattle.std.specs.Prelude.{◌≡◌, ◌↔◌, [], IsTrue, None};
 ghost use Rattle.wasm_operators.specs.below.Source.{rest};
 

@@ -8,11 +8,11 @@ use wasm_operators::{
     grammar_laws, run_laws,
 };
 
-/// Returns all operators that the bytes encode, each with the offset of its first byte. Some frames
-/// may be open after the last.
+/// Returns all operators that the bytes encode, with their offsets. Frames may be open after the
+/// last.
 ///
-/// Each step of the iterator is one read, whose operator is read before the next (law
-/// `one_operator`); `path_is_run` says the same by the frames.
+/// Each step of the iterator is one read (law `one_operator`); by `path_is_run`, the frames of an
+/// expression allow these operators.
 pub fn iterated<'a>(
     alloc: Global,
     features: WasmFeatures,

@@ -1,5 +1,5 @@
-//! Proved callers of `wasm_operators` that read one operator, number or item at a time, and others
-//! that `uses` does not have. They cite public contracts and laws only.
+//! Proved callers of `wasm_operators`, which cite public contracts and laws only. Most read one
+//! operator, number or item at a time.
 //!
 //! A call that allocates may fail with `OutOfMemory`.
 #![tactic(auto)]

@@ -15,10 +15,10 @@ use wasm_operators::{
     Result, byte_laws, control_laws, memory_laws,
 };
 
-/// Returns the number of 32 bits at the reader's position, without consuming it.
+/// Returns the u32 at the reader's position, without consuming it.
 ///
-/// By the law `unsigned_numbers`, no other number is encoded there. By `number_refusals`, an error
-/// that a caller can predict is returned.
+/// No other number is encoded there (law `unsigned_numbers`), and the bytes determine the error
+/// (`number_refusals`).
 pub fn peek_index(reader: &BinaryReader<'_>) -> Result<u32>
     ensures reads { (n : ℕ) (text more : List ℕ) → rest reader.now ≡ text ++ more → EncodesUnsigned 32 text n
         → result ≡ Ok n }
@@ -31,7 +31,7 @@ pub fn peek_index(reader: &BinaryReader<'_>) -> Result<u32>
     reader.clone().read_var_u32()
 }
 
-/// Reads two numbers of 32 bits, such as the limits of a memory. On `Err` the reader is unchanged.
+/// Reads two u32, such as the limits of a memory. On `Err` the reader is unchanged.
 pub fn read_limits(reader: &mut BinaryReader<'_>) -> Result<(u32, u32)>
     ensures taken { IfOk result (λ limits. (first second : List ℕ) × Takes reader.old reader.new (first ++ second)
         × EncodesUnsigned 32 first limits.0 × EncodesUnsigned 32 second limits.1) }
@@ -44,8 +44,8 @@ pub fn read_limits(reader: &mut BinaryReader<'_>) -> Result<(u32, u32)>
     Ok((least, most))
 }
 
-/// Returns the length in bytes of the `T` at the reader's position, without consuming it. By the
-/// laws of `T`, no other prefix encodes a value.
+/// Returns the length in bytes of the `T` at the reader's position. By the laws of `T`, no other
+/// prefix encodes a value.
 pub fn value_size<'a, T: FromReader<'a>>(alloc: Global, reader: &BinaryReader<'a>) -> Result<usize>
     ensures size { (value : T) (text more : List ℕ) → rest reader.now ≡ text ++ more
         → T.encodes reader.now.features text value → IfOk result (λ size. size ≡ length text) }
@@ -59,8 +59,7 @@ pub fn value_size<'a, T: FromReader<'a>>(alloc: Global, reader: &BinaryReader<'a
     Ok(ahead.current_position() - reader.current_position())
 }
 
-/// Returns the block type at the reader's position, by the laws `block_types` and
-/// `control_refusals`.
+/// Returns the block type at the reader's position (laws `block_types` and `control_refusals`).
 pub fn peek_block_type(reader: &BinaryReader<'_>) -> Result<BlockType>
     ensures reads { (ty : BlockType) (text more : List ℕ) → rest reader.now ≡ text ++ more → EncodesBlockType text ty
         → result ≡ Ok ty }
@@ -73,8 +72,7 @@ pub fn peek_block_type(reader: &BinaryReader<'_>) -> Result<BlockType>
     BlockType::read(&mut reader.clone())
 }
 
-/// Returns the memory argument of a plain access at the reader's position, by the law
-/// `memory_arguments`.
+/// Returns the memory argument of a plain access at the reader's position (law `memory_arguments`).
 pub fn peek_memory_argument(reader: &BinaryReader<'_>, max_align: u8) -> Result<MemArg>
     ensures reads { (argument : MemArg) (text more : List ℕ) → rest reader.now ≡ text ++ more
         → EncodesMemArg reader.now.features MemArgKind.Plain max_align text argument → result ≡ Ok argument }
@@ -85,7 +83,7 @@ pub fn peek_memory_argument(reader: &BinaryReader<'_>, max_align: u8) -> Result<
     MemArg::read(&mut reader.clone(), max_align, MemArgKind::Plain)
 }
 
-/// Returns the constant of an `f64.const` at the reader's position, by the law `fixed_numbers`.
+/// Returns the constant of an `f64.const` at the reader's position (law `fixed_numbers`).
 pub fn peek_f64(reader: &BinaryReader<'_>) -> Result<Ieee64>
     ensures reads { (bits : Ieee64) (text more : List ℕ) → rest reader.now ≡ text ++ more → EncodesFixed w64 text bits
         → result ≡ Ok bits }

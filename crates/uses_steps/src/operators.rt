@@ -6,8 +6,8 @@ ghost use Rattle.wasm_operators.specs.instr.Kinds.{HoldsList};
 use std::alloc::Global;
 use wasm_operators::Operator;
 
-/// Returns the prefix byte, if the operator has one, and the opcode or subopcode, with which each
-/// encoding starts.
+/// Returns the prefix byte, if there is one, and the opcode or subopcode, with which each encoding
+/// starts.
 pub fn opcode(op: &Operator<'_>) -> (Option<u8>, u32)
     ensures { (features : WasmFeatures) (text : List ℕ) → EncodesOperator features op.now text
         → (head after : List ℕ) × (text ≡ head ++ after) × EncodesOpcode result.0 result.1 head }

@@ -1,4 +1,3 @@
-//! The offsets of operators and errors in the bytes.
 ghost use Rattle.std.specs.Prelude.{◌≡◌, ◌+◌, ◌<◌, ◌≤◌, ℕ, List, length, Some, None, IfOk, IfSome, IfNone};
 ghost use Rattle.wasm_operators.specs.below.bytes.error.Error.{Error};
 ghost use Rattle.wasm_operators.specs.below.Source.{rest, offset_of};
@@ -15,11 +14,10 @@ use wasm_operators::{
     position_laws,
 };
 
-/// Reads the bytes as an expression. Returns the bytes before the error, with the error; or all
-/// bytes, if they are an expression.
+/// Returns the bytes before the error of an expression, with the error; or all bytes, if they are
+/// an expression.
 ///
-/// By the laws `refusals_ahead` and `taken_within`, the error's offset is at most the length of the
-/// bytes.
+/// The error's offset is at most their length (laws `refusals_ahead` and `taken_within`).
 pub fn bytes_before_refusal<'a>(
     alloc: Global,
     features: WasmFeatures,
@@ -43,8 +41,7 @@ pub fn bytes_before_refusal<'a>(
 /// Returns the distance in bytes from the reader to the error of the next operator, or `None` if it
 /// is read.
 ///
-/// By the law `within`, the reader's position is within its data, and by `refusals_ahead` the
-/// error's offset too.
+/// Both offsets are within the data (laws `within` and `refusals_ahead`).
 pub fn refusal_distance(operators: &mut OperatorsReader<'_>) -> Option<u64>
     ensures ahead { IfSome result (λ distance. distance ≤ length (rest operators.new.reader)) }
     ensures refused { IfSome result (λ distance. (e : Error) × IsRefusal (Some e) operators.old operators.new
@@ -59,8 +56,8 @@ pub fn refusal_distance(operators: &mut OperatorsReader<'_>) -> Option<u64>
     Some(error.offset() - operators.original_position())
 }
 
-/// Returns the offsets of the bytes of one operator, in a list that was read up to the offset
-/// `end`. It ends where the next one starts, or at `end` (law `ranges`).
+/// Returns the byte range of the operator at `index` in a list that was read up to the offset
+/// `end`. The range ends where the next operator starts, or at `end` after the last (law `ranges`).
 pub fn range_of(
     features: WasmFeatures,
     list: &[(Operator<'_>, u64)],

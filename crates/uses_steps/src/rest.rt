@@ -1,4 +1,3 @@
-//! A reader of unknown state.
 ghost use Rattle.std.specs.Prelude.{◌≡◌, ◌+◌, ◌*◌, ◌<◌, ◌≤◌, ◌⊎◌, length, IfOk, IfErr, vec_capacity, vec_len};
 ghost use Rattle.wasm_operators.specs.below.Source.{rest};
 ghost use Rattle.wasm_operators.specs.opcodes.Allowed.{EncodesAllowed};
@@ -9,8 +8,8 @@ use wasm_operators::{Message, Operator, OperatorsReader, Result, expression_laws
 
 /// Reads the rest of an expression that another function started to read.
 ///
-/// The clause `runs` of `read_all` says which operators are read, `depth` and `memory` how many
-/// frames and how much memory they need. By the law `layouts`, each has an encoding.
+/// The clauses `runs`, `depth` and `memory` of `read_all` say which operators are read and what
+/// they need. By the law `layouts`, each has an encoding.
 pub fn read_rest<'a>(
     operators: &mut OperatorsReader<'a>,
     list: &mut Vec<(Operator<'a>, u64)>,

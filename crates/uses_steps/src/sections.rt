@@ -7,8 +7,8 @@ ghost use Rattle.wasm_operators.specs.imm.Lists.{EncodesMany};
 use std::alloc::Global;
 use wasm_operators::{BinaryReader, Error, Message, Result, SectionLimited, byte_laws};
 
-/// Reads a section that is a list of indices, such as the function section. If the bytes are such a
-/// list, only allocation can fail. By the law `unsigned_numbers`, they encode no other list.
+/// Reads the list of indices of a section, such as the function section. At such a list, only
+/// allocation can fail (law `unsigned_numbers`).
 pub fn read_indices(alloc: Global, reader: BinaryReader<'_>) -> Result<Vec<u32>>
     ensures found { IfOk result (λ indices. Then (EncodesUnsigned 32) (EncodesMany (EncodesUnsigned 32)) (rest reader.entry) indices.items) }
     ensures only { (indices : List ℕ) → Then (EncodesUnsigned 32) (EncodesMany (EncodesUnsigned 32)) (rest reader.entry) indices

@@ -1,4 +1,3 @@
-//! Operators that are read one after another.
 ghost use Rattle.std.specs.Prelude.{◌≡◌, ◌≢◌, ◌↔◌, ◌<◌, ◌⊎◌, ℕ, List, [], ◌∷◌, ◌++◌, length, Ok, Option, IsTrue, IfOk, IfErr, IfSome, IfNone};
 ghost use Rattle.wasm_operators.specs.below.bytes.error.Error.{Error};
 ghost use Rattle.wasm_operators.specs.below.Source.{rest, BeginsWith};
@@ -25,7 +24,7 @@ use wasm_operators::{
 
 #[derive(Clone, Copy, Debug, PartialEq, Eq)]
 pub enum Complaint {
-    /// The operator needs the feature of legacy exceptions, which is disabled.
+    /// The operator needs legacy exceptions, which are disabled.
     Feature,
     Frame,
     Other,
@@ -37,11 +36,10 @@ pub fn next_refusal(operators: &mut OperatorsReader<'_>) -> Option<Error>
     operators.read().err()
 }
 
-/// Returns why reading the next operator fails. Returns `None` if it succeeds, if no frame is open,
-/// or if allocation fails.
+/// Returns why reading the next operator fails; `None` if it succeeds, no frame is open, or
+/// allocation fails.
 ///
-/// The laws `features_required` and `wrong_frames` say which operators fail so. By
-/// `operator_refusals`, an error that a caller can predict is returned.
+/// The laws `features_required`, `wrong_frames` and `operator_refusals` determine the error.
 pub fn why_refused(operators: &mut OperatorsReader<'_>) -> Option<Complaint>
     ensures why { IfSome result (λ why. IsComplaint operators.old why) }
     ensures feature { (g : Guard) → BeginsGuarded g operators.old.reader → LacksFeature operators.old.reader.features g
@@ -67,8 +65,8 @@ pub fn why_refused(operators: &mut OperatorsReader<'_>) -> Option<Complaint>
     }
 }
 
-/// Reads the next operator twice if the first read fails, and returns both errors, which are equal
-/// unless allocation failed (laws `not_taken` and `refused_again`).
+/// Reads the next operator again if a read fails, and returns both errors, equal unless allocation
+/// failed (laws `not_taken` and `refused_again`).
 pub fn asked_twice(operators: &mut OperatorsReader<'_>) -> Option<(Error, Error)>
     ensures again { IfSome result (λ both. both.1.message ≢ Message.OutOfMemory
         → (both.0.message ≡ both.1.message) × (both.0.offset ≡ both.1.offset)) }
@@ -89,8 +87,8 @@ pub fn asked_twice(operators: &mut OperatorsReader<'_>) -> Option<(Error, Error)
     }
 }
 
-/// Reads the next operator from two readers in the same state, which then return the same operator
-/// and have the same state (law `same_result`).
+/// Reads the next operator from two readers in the same state. Both results and effects are equal
+/// (law `same_result`).
 pub fn read_in_step<'a>(
     first: &mut OperatorsReader<'a>,
     second: &mut OperatorsReader<'a>,
@@ -111,8 +109,8 @@ pub fn read_in_step<'a>(
 }
 
 /// Reads the first operator of an expression, with capacity for its frame. So allocation can fail
-/// only for an operator that may own a list (law `memory_asked`). After another error, no operator
-/// that an expression may begin with is encoded there.
+/// only for an operator that may own a list (law `memory_asked`). After another error, no first
+/// operator of an expression is encoded there.
 pub fn first_operator<'a>(
     alloc: Global,
     reader: BinaryReader<'a>,
@@ -130,8 +128,8 @@ pub fn first_operator<'a>(
     OperatorsReader::new_with_allocs(alloc, reader, allocs).read()
 }
 
-/// Reads the next operator, and returns its length in bytes. By the law `operators`, no other
-/// operator is encoded there.
+/// Reads the next operator, and returns its length in bytes. No other operator is encoded there
+/// (law `operators`).
 pub fn operator_size(operators: &mut OperatorsReader<'_>) -> Result<usize>
     ensures { (op : Operator) (text more : List ℕ) → rest operators.old.reader ≡ text ++ more
         → EncodesOperator operators.old.reader.features op text → IfOk result (λ size. size ≡ length text) }
@@ -154,9 +152,8 @@ pub fn is_whole(operators: &OperatorsReader<'_>) -> bool
 /// Reads the first operator of an expression, and then the others. If the bytes encode an
 /// expression, only allocation can fail.
 ///
-/// The law `one_operator` says that the first was read before the others, to which the contract of
-/// `read_all` then applies. By `single_reads`, all are one list, to which `read_to_the_end`
-/// applies. By `rules_accept_walks`, an expression begins with an operator that its frame allows.
+/// By the laws `one_operator` and `single_reads`, all operators are one list, to which
+/// `read_to_the_end` applies. By `rules_accept_walks`, the frame of an expression allows the first.
 pub fn first_and_rest<'a>(
     alloc: Global,
     features: WasmFeatures,

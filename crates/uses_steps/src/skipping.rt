@@ -8,10 +8,10 @@ ghost use Rattle.wasm_operators.specs.Reading.{GrowsLittle, TakesOperators, Stop
 
 use wasm_operators::{OperatorsReader, Result, run_laws};
 
-/// Skips `count` operators. Bounds the number of open frames and the growth of their memory.
+/// Skips `count` operators. The contract bounds the open frames and their memory.
 ///
-/// By the law `single_reads`, the reads are of one list; `one_depth` bounds the frames after one
-/// read, and `memory_adds_up` adds up the memory.
+/// By the law `single_reads`, the operators are one list; `one_depth` bounds the frames after a
+/// read, and `memory_adds_up` the memory.
 pub fn skip_operators(operators: &mut OperatorsReader<'_>, count: u32) -> Result<()>
     ensures skipped { IfOk result (λ done. (placed : Placed) × (length placed ≡ count)
         × TakesOperators operators.old operators.new placed) }

@@ -1,4 +1,3 @@
-//! SIMD operators of an expression.
 ghost use Rattle.std.specs.Prelude.{◌≡◌, true, false, [], ◌++◌, ◌∷◌, ℕ, length, IfOk};
 ghost use Rattle.wasm_operators.specs.instr.declared.operator.Operator.{Operator};
 ghost use Rattle.wasm_operators.specs.instr.Kinds.{IsVector};
@@ -14,8 +13,9 @@ use wasm_operators::{
 
 /// Returns whether an expression, up to its first error, has SIMD operators.
 ///
-/// By the clause `vector` of `visit_all`, `UnexpectedSimd` is returned if the longest prefix has
-/// one. That prefix exists (law `longest_exists`); the others are prefixes of it (`one_layout`).
+/// By the clause `vector` of `visit_all`, the error is `UnexpectedSimd` if the longest prefix has
+/// one. The longest prefix exists (law `longest_exists`), and starts with each other
+/// (`one_layout`).
 pub fn has_vectors(alloc: Global, features: WasmFeatures, bytes: &[u8]) -> Result<bool>
     ensures found { (longest : Placed) → IsLongestBeginning (input features bytes.now) longest → ¬ IsScalar longest
         → IfOk result (λ has. has ≡ true) }
@@ -43,7 +43,7 @@ pub fn has_vectors(alloc: Global, features: WasmFeatures, bytes: &[u8]) -> Resul
 /// Returns how many operators precede the first SIMD operator of an expression, up to its first
 /// error.
 ///
-/// The clause `beginning` of `visit_all` says which list was visited, and the law `scalar_longest`
+/// The clause `beginning` of `visit_all` gives the visited list, and the law `scalar_longest`
 /// relates it to the longest prefix.
 pub fn count_before_vectors(alloc: Global, features: WasmFeatures, bytes: &[u8]) -> Result<u64>
     ensures { (longest : Placed) → IsLongestBeginning (input features bytes.now) longest

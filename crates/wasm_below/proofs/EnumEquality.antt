@@ -10,7 +10,7 @@ use denote.Enum.Compared.{Each, by}
 use denote.Enum.Declared.{Choice, Declared, Record, values_one}
 use Rattle.wasm_below.specs.Equality.{IsExact}
 
--- Each function says whether the fields of two values of its variant are the same.
+-- Each function decides equality of the fields of its variant.
 abbrev pub AreExact : (Fss : List (List Field)) → Each Bool Fss → Type 0
 AreExact [] each = Unit {0}
 AreExact (Fs ∷ Fss) each = IsExact each.0 × AreExact Fss each.1
@@ -32,13 +32,9 @@ enum_exact N each h x y =
 pub bare_exact : (D : Declared) → Bare D.parts → IsExact (sameb D)
 bare_exact D bare x y = (same_true D bare x y, true_same D x y)
 
--- ---- the variants, one after another
-
 infixr 20 ◌▸◌
 abbrev pub ◌▸◌ : {A B : Type 0} → A → B → A × B
 a ▸ b = (a, b)
-
--- ---- the fields of a variant
 
 pub none : IsExact (λ (x y : Unit {0}). true)
 none x y = (λ e. refl, λ e. refl)

@@ -1,4 +1,3 @@
--- Equality of types is exact.
 use Rattle.std.proofs.Common.{◌≡◌, ◌==◌, ◌/◌, ◌%◌, ℕ, Bool, true, false, refl, sym, ap, ◌∙◌, arith}
 use Rattle.std.specs.Bool.{Decides}
 use Rattle.std.specs.contracts.prelude.BoolPartialEq.TheImpl as bool_eq

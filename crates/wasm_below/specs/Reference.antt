@@ -2,7 +2,6 @@ use Rattle.std.specs.Prelude.{ℕ, ◌≤◌, Bool}
 use Rattle.wasm_below.specs.declared.types.HeapType.{HeapType}
 use Rattle.wasm_below.specs.declared.types.HeapType.TheVariants as heap
 
--- Whether the type includes the null reference, and what it refers to.
 pub record Reference : Type 0 where
   pub nullable : Bool
   pub heap_type : HeapType

@@ -1,4 +1,3 @@
--- Heap types as reference types store them.
 use Rattle.std.specs.Prelude.{◌≡◌}
 use Rattle.std.proofs.Common.{refl}
 use Rattle.wasm_below.specs.declared.types.HeapType.{HeapType}
@@ -6,7 +5,7 @@ use Rattle.wasm_below.specs.declared.types.HeapType.TheVariants as heap
 use Rattle.wasm_below.specs.declared.types.short.ShortHeapType.{ShortHeapType}
 use Rattle.wasm_below.specs.declared.types.short.ShortHeapType.TheVariants as short
 
--- The heap type that callers see.
+-- The heap type that is stored in four bytes.
 abbrev pub heap_type_of : ShortHeapType → HeapType
 heap_type_of (short.Abstract shared ty) = heap.Abstract shared ty
 heap_type_of (short.Concrete index) = heap.Concrete index

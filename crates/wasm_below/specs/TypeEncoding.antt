@@ -1,5 +1,5 @@
--- Types as bytes. Specification: Binary Format, Types; the bytes 0x62 (exact), 0x65 (shared), 0x68
--- (cont) and 0x75 (nocont): proposals.
+-- Specification: Binary Format, Types; the bytes 0x62 (exact), 0x65 (shared), 0x68 (cont) and 0x75
+-- (nocont): proposals.
 use Rattle.std.specs.Prelude.{◌≡◌, ◌≢◌, ℕ, ◌+◌, ◌≤◌, ◌⊎◌, Bool, true, false, List, [], ◌∷◌, pos}
 use Rattle.wasm_below_bytes.specs.declared.message.Message.{Message}
 use Rattle.wasm_below_bytes.specs.declared.message.Message.TheVariants as message
@@ -40,7 +40,7 @@ EncodesShort text (heap.Abstract false ty) = text ≡ heap_type_byte ty ∷ []
 EncodesShort text (heap.Abstract true ty) = text ≡ 0x65 ∷ heap_type_byte ty ∷ []
 EncodesShort text _ = ⊥
 
--- A type index within the limit, as a signed number that is not negative.
+-- A type index within the limit, as a signed number.
 abbrev pub EncodesConcrete : List ℕ → HeapType → Type 0
 EncodesConcrete text (heap.Concrete index) = EncodesSigned 33 text (pos index) × (index ≤ max_type_index)
 EncodesConcrete text _ = ⊥
@@ -56,7 +56,6 @@ EncodesHeapType text (heap.Abstract shared ty) = EncodesShort text (heap.Abstrac
 EncodesHeapType text (heap.Concrete index) = EncodesConcrete text (heap.Concrete index)
 EncodesHeapType text (heap.Exact index) = EncodesExact text (heap.Exact index)
 
--- The first byte of a reference type: 0x63 if it includes null, otherwise 0x64.
 abbrev pub ref_byte : Bool → ℕ
 ref_byte true = 0x63
 ref_byte false = 0x64
@@ -98,28 +97,29 @@ LeadsShort byte = (0x65 ≤ byte) × (byte ≤ 0x75) × (byte ≢ 0x66) × (byte
 abbrev pub LeadsRefType : ℕ → Type 0
 LeadsRefType byte = (0x63 ≤ byte) × (byte ≤ 0x75) × (byte ≢ 0x66) × (byte ≢ 0x67)
 
--- A short form is incomplete: no byte, or only the byte 0x65 is left.
 abbrev pub IsCutShort : List ℕ → Type 0
 IsCutShort bytes = (bytes ≡ []) ⊎ (bytes ≡ 0x65 ∷ [])
 
--- The data ends at the start or after the byte 0x65, or the bytes are not a type of this name.
+-- The data ends at the start or after the byte 0x65, or the bytes are no short form; the message
+-- names the type.
 abbrev pub ShortFault : TypeName → Message → Reader → ℕ → Type 0
 ShortFault name message.EndOfData r offset = (offset ≡ end_of r) × IsCutShort (rest r)
 ShortFault name (message.InvalidType what) r offset = (what ≡ name) × (offset ≡ offset_of r) × (¬ IsCutShort (rest r))
 ShortFault name _ r offset = ⊥
 
--- The data ends, or the byte is not a type of this name.
+-- The data ends, or the byte is no number type; the message names the type.
 abbrev pub ByteFault : TypeName → Message → Reader → ℕ → Type 0
 ByteFault name message.EndOfData r offset = (offset ≡ end_of r) × (rest r ≡ [])
 ByteFault name (message.InvalidType what) r offset = (what ≡ name) × (offset ≡ offset_of r) × (rest r ≢ [])
 ByteFault name _ r offset = ⊥
 
--- The number is no index: `InvalidType` at the start of the heap type, the reader `begin`.
+-- The index of a heap type at the reader `begin` is negative or above 1048575: `InvalidType` at
+-- `begin`.
 abbrev pub NoIndex : Reader → Message → Reader → ℕ → Type 0
 NoIndex begin m r offset = (m ≡ message.InvalidType type_name.HeapType) × (offset ≡ offset_of begin)
 
--- The error of a type index after the byte 0x62 (`ExactFault`) or alone (`ConcreteFault`): of the
--- number, or it is no index.
+-- The error of a heap type that starts with 0x62: of the u32 after this byte, or, if that is above
+-- 1048575, `InvalidType` at 0x62.
 abbrev pub ExactFault : Message → Reader → ℕ → Type 0
 ExactFault m r offset = ThenFault (EncodesUnsigned 32) U32Fault (λ n. NoIndex r) m (after_byte r) offset
 
@@ -129,15 +129,14 @@ ConcreteFault m r offset = ThenFault (EncodesSigned 33) S33Fault (λ n. NoIndex 
 abbrev pub LedBy : (ℕ → Type 0) → List ℕ → Type 0
 LedBy Leads bytes = (byte : ℕ) × Leads byte × BeginsWith byte bytes
 
--- The error of an index after the byte 0x62; of a short form, if the first byte starts one;
--- otherwise of an index.
+-- By the first byte, the error of an index after 0x62, a short form, or a signed index.
 abbrev pub HeapTypeFault : Message → Reader → ℕ → Type 0
 HeapTypeFault m r offset = (BeginsWith 0x62 (rest r) × ExactFault m r offset) ⊎ ((LedBy LeadsShort (rest r) × ShortFault type_name.HeapType m r offset) ⊎ ((¬ BeginsWith 0x62 (rest r)) × (¬ LedBy LeadsShort (rest r)) × ConcreteFault m r offset))
 
--- The error of a heap type after the byte 0x63 or 0x64, otherwise of a short form.
+-- By the first byte, the error of a heap type after it or of a short form.
 abbrev pub RefTypeFault : Message → Reader → ℕ → Type 0
 RefTypeFault m r offset = ((nullable : Bool) × BeginsWith (ref_byte nullable) (rest r) × HeapTypeFault m (after_byte r) offset) ⊎ (((nullable : Bool) → BeginsWith (ref_byte nullable) (rest r) → ⊥) × ShortFault type_name.ReferenceType m r offset)
 
--- The error of a reference type, if the first byte starts one, otherwise of a type of one byte.
+-- By the first byte, the error of a reference type or of a type of one byte.
 abbrev pub ValTypeFault : Message → Reader → ℕ → Type 0
 ValTypeFault m r offset = ((byte : ℕ) × LeadsRefType byte × BeginsWith byte (rest r) × RefTypeFault m r offset) ⊎ (((byte : ℕ) → LeadsRefType byte → BeginsWith byte (rest r) → ⊥) × ByteFault type_name.ValueType m r offset)

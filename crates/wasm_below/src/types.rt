@@ -11,7 +11,7 @@ use short::ShortHeapType;
 
 const MAX_TYPE_INDEX: u32 = 1048575;
 
-/// A value type. Specification: Types, Value Types.
+/// Specification: Types, Value Types.
 #[derive(Clone, Copy, Debug, PartialEq, Eq)]
 pub enum ValType {
     I32,
@@ -85,8 +85,7 @@ impl Debug for RefType {
 }
 
 impl RefType {
-    /// Creates the type of references to `heap_type`. Returns `None` if a type index is above
-    /// 1048575.
+    /// Returns `None` if a type index is above 1048575.
     pub fn new(nullable: bool, heap_type: HeapType) -> Option<RefType>
         ensures some { IsSome result ↔ IsIndexed heap_type }
         ensures value { IfSome result (λ r. (r.nullable ≡ nullable) × (r.heap_type ≡ heap_type)) }
@@ -116,7 +115,6 @@ impl RefType {
         self.nullable
     }
 
-    /// Returns the type of what the reference refers to.
     pub fn heap_type(&self) -> HeapType
         ensures value { result ≡ self.now.heap_type }
         ensures indexed { IsIndexed result }

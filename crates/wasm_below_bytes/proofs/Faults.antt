@@ -1,4 +1,3 @@
--- The error of a read: which part failed.
 use Rattle.std.proofs.Common.{◌≡◌, ℕ, ◌+◌, inl, List, [], Result, Ok, Err, IfErr, sym, ap, ◌∙◌, arith, ◌-◌, length, length-drop}
 use Rattle.std.proofs.lemmas.List.{drop_all}
 use Rattle.wasm_below_bytes.specs.declared.error.Error.{Error}

@@ -10,8 +10,8 @@ use Rattle.wasm_below_bytes.specs.Source.{NoPrefix}
 use Rattle.wasm_below_bytes.proofs.Numbers.{unsigned_rest, unsigned_long}
 use Rattle.wasm_below_bytes.proofs.SignedNumbers.{signed_rest, signed_long}
 
--- An encoding of numbers by groups of seven bits: how a low group is joined to the number after it,
--- and which bytes are no number.
+-- An encoding by groups of seven bits: how a low group joins the number after it, and which bytes
+-- encode none.
 pub record IsLeb128 {X : Type 0} (Encodes : ℕ → List ℕ → X → Type 0) (join : ℕ → X → X) : Type 0 where
   pub more : (width b : ℕ) (text : List ℕ) (high : X) → 7 < width → 128 ≤ b → b < 256 → Encodes (width - 7) text high →
       Encodes width (b ∷ text) (join (b - 128) high)
@@ -97,7 +97,7 @@ signed_joined (c ∷ text) b =
     step_value b (low_bits text) (2 ^ (7 * length text)) (2 ^ (7 * length (c ∷ text))) (c - 128)
     (suc_power (length text) (7 * length (c ∷ text)) (omega arith))
 
--- Groups that were read so far, from the position `start` up to `position`.
+-- The groups read from `start` up to `position`.
 pub record SoFar (buffer : List ℕ) (start position low shift count : ℕ) : Type 0 where
   pub text : List ℕ
   pub go_on : AllGoOn text

@@ -1,4 +1,3 @@
--- Readers over a part of the bytes.
 use Rattle.std.proofs.Common.{◌≡◌, ℕ, ◌++◌, List, Ok, refl, ap, ◌∙◌}
 use Rattle.std.specs.Borrow.{Bor}
 use Rattle.wasm_below_bytes.specs.declared.error.Error.{Error}

@@ -1,4 +1,3 @@
--- The last byte of a signed number, shifted above the bits before it.
 use Rattle.std.proofs.Common.{◌≡◌, ℕ, ◌+◌, ◌-◌, ◌*◌, ◌%◌, ◌<◌, ◌≤◌, ◌^◌, Bool, true, false, refl, sym, ap, ◌∙◌, arith, ℤ, pos, ◌+ℤ◌, neg_ℤ, ◌≤ℤ◌, ◌<ℤ◌, w64, to_z, of_z, zero, suc, negsuc, mod-eq_of_lt}
 use Rattle.std.specs.Prelude.{ltb, ◌-ℤ◌}
 use Rattle.std.proofs.lemmas.Int.{ints, to_z-of_z}

@@ -1,4 +1,4 @@
--- What calls take from the start in sequence, and how a reader goes back.
+-- Calls in sequence, and how a reader goes back.
 use Rattle.std.proofs.Common.{◌≡◌, ℕ, ◌+◌, ◌-◌, ◌≤◌, ◌<◌, List, [], ◌∷◌, ◌++◌, length, drop, leb, Ok, refl, sym, subst, ap, ◌∙◌, append_assoc, length-append, length-drop, arith}
 use Rattle.std.specs.Prelude.{IsTrue, ◌↔◌, slice_index}
 use Rattle.std.proofs.lemmas.Bool.{le-leb, leb-true}

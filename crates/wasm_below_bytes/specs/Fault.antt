@@ -1,5 +1,4 @@
--- Errors of reads. A fault relates a message, the reader at which the read began, and the offset of
--- the error.
+-- A fault relates the message of a failed read, the reader before the read, and the error's offset.
 use Rattle.std.specs.Prelude.{◌≡◌, ◌≢◌, ℕ, zero, suc, ◌⊎◌, List, Ok}
 use Rattle.wasm_below_bytes.specs.declared.error.Error.{Error}
 use Rattle.wasm_below_bytes.specs.declared.message.Message.{Message}
@@ -14,20 +13,18 @@ HasFault Fault e r = e.message ≢ message.OutOfMemory → Fault e.message r e.o
 abbrev pub NeedsMemory : (Reader → Type 0) → Error → Reader → Type 0
 NeedsMemory Allocates e r = e.message ≡ message.OutOfMemory → Allocates r
 
--- The first part is read, and what follows it has the fault `After`.
 abbrev pub FaultAfter : {X : Type 0} → (List ℕ → X → Type 0) → (X → Message → Reader → ℕ → Type 0) → Message → Reader → ℕ → Type 0
 FaultAfter {X} First After m r offset = (x : X) × (new : Reader) × Reads First (Ok x) r new × After x m new offset
 
--- The fault of a sequence: the first part has its fault; or it is read, and the rest has the fault
--- `After`.
+-- The fault of the first of two parts; or, if that is read, `After` of its value.
 abbrev pub ThenFault : {X : Type 0} → (List ℕ → X → Type 0) → (Message → Reader → ℕ → Type 0) → (X → Message → Reader → ℕ → Type 0) → Message → Reader → ℕ → Type 0
 ThenFault First FirstFault After m r offset = (NoPrefix First (rest r) × FirstFault m r offset) ⊎ FaultAfter First After m r offset
 
--- The fault of a sequence of `n` values of one kind.
+-- The fault of reading `n` values in sequence.
 abbrev pub ManyFault : {X : Type 0} → (List ℕ → X → Type 0) → (Message → Reader → ℕ → Type 0) → ℕ → Message → Reader → ℕ → Type 0
 ManyFault Encodes Fault zero m r offset = ⊥
 ManyFault Encodes Fault (suc n) m r offset = ThenFault Encodes Fault (λ x. ManyFault Encodes Fault n) m r offset
 
--- The fault determines the message and the offset of an error.
+-- The fault determines an error's message and offset.
 abbrev pub DeterminesRefusal : (Message → Reader → ℕ → Type 0) → Type 0
 DeterminesRefusal Fault = (m k : Message) (r : Reader) (a b : ℕ) → Fault m r a → Fault k r b → (m ≡ k) × (a ≡ b)

@@ -2,7 +2,7 @@ use Rattle.std.specs.Prelude.{ℕ, ◌==◌, IsTrue}
 use Rattle.std.specs.Int.RustNames.{bit_and}
 use Rattle.wasm_below_bytes.specs.declared.features.WasmFeatures.{WasmFeatures}
 
--- The set of the features with these bits.
+-- The features with these bits.
 abbrev pub features_of : ℕ → WasmFeatures
 features_of bits = record { 0 = bits }
 
@@ -28,6 +28,6 @@ acquire_release_atomics = features_of 16
 abbrev pub multibyte_array_access : WasmFeatures
 multibyte_array_access = features_of 32
 
--- Every bit of the first set is on in the second set.
+-- Every bit of the first set is in the second.
 abbrev pub HasFeature : WasmFeatures → WasmFeatures → Type 0
 HasFeature feature features = IsTrue (bit_and features.0 feature.0 == feature.0)

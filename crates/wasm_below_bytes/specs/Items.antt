@@ -2,8 +2,7 @@ use Rattle.std.specs.Prelude.{ℕ}
 use Rattle.wasm_below_bytes.specs.declared.from_reader.BinaryReaderIter.{BinaryReaderIter}
 use Rattle.wasm_below_bytes.specs.Source.{Reader}
 
--- The number of items left. They are read from `items_reader`; `items_name` is the ghost name of
--- its reference.
+-- How many items are left, in the reader `items_reader`, whose ghost name is `items_name`.
 abbrev pub items_left : {T M : Type 0} → BinaryReaderIter T M → ℕ
 items_left items = items.remaining
 

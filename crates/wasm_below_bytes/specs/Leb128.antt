@@ -9,7 +9,7 @@ use Rattle.wasm_below_bytes.specs.declared.message.NumberName.{NumberName}
 use Rattle.wasm_below_bytes.specs.Number.{with_sign}
 use Rattle.wasm_below_bytes.specs.Source.{NoPrefix}
 
--- Each byte is a continuation byte, from 128 to 255.
+-- Each byte is a continuation byte.
 abbrev pub AllGoOn : List ℕ → Type 0
 AllGoOn [] = Unit {0}
 AllGoOn (c ∷ text) = (128 ≤ c) × (c < 256) × AllGoOn text
@@ -27,7 +27,7 @@ pub record OccursAt (buffer : List ℕ) (start after : ℕ) (text : List ℕ) : 
   pub parts : drop start buffer ≡ text ++ drop after buffer
   pub ends : after ≡ start + length text
 
--- The groups of seven bits of a number of at most `width` bits.
+-- Groups of seven bits at `start`, in at most as many bytes as `width` allows.
 pub record IsGroups (buffer : List ℕ) (start width : ℕ) (groups : Groups) : Type 0 where
   pub text : List ℕ
   pub go_on : AllGoOn text
@@ -37,8 +37,8 @@ pub record IsGroups (buffer : List ℕ) (start width : ℕ) (groups : Groups) : 
   pub small : groups.last < 128
   pub occurs : OccursAt buffer start groups.after (text ++ groups.last ∷ [])
 
--- Why there are no such groups: only continuation bytes are left, and the width allows another
--- byte; or the last byte that it allows is a continuation byte.
+-- Why there are no groups at `start`: the data ends in continuation bytes, or the last byte that
+-- the width allows is one.
 abbrev pub RefusesGroups : NumberRefusal → ℕ → List ℕ → ℕ → Type 0
 RefusesGroups refusal.EndOfData width buffer start = AllGoOn (drop start buffer) × (length (drop start buffer) ≤ (width - 1) / 7)
 RefusesGroups refusal.TooLong width buffer start = (text after : List ℕ) × (c : ℕ) × AllGoOn text × (128 ≤ c) × (length text ≡ (width - 1) / 7) × (drop start buffer ≡ text ++ c ∷ after)
@@ -50,11 +50,11 @@ NumberAt Encodes buffer start x after = (text : List ℕ) × Encodes text x × O
 abbrev pub NeverBegins : {X : Type 0} → (List ℕ → X → Type 0) → List ℕ → Type 0
 NeverBegins Encodes bytes = (more : List ℕ) → NoPrefix Encodes (bytes ++ more)
 
--- The position of the last byte that the width allows.
+-- The greatest position of the last byte of a number of `width` bits that begins at `start`.
 abbrev pub last_position : ℕ → ℕ → ℕ
 last_position width start = start + (width - 1) / 7
 
--- Why no number of this width is encoded at `start`.
+-- Why no number of `width` bits is encoded at `start`.
 abbrev pub NoNumber : {X : Type 0} → (List ℕ → X → Type 0) → NumberRefusal → ℕ → List ℕ → ℕ → Type 0
 NoNumber Encodes refusal.EndOfData width buffer start = (length buffer ≤ last_position width start) × NoPrefix Encodes (drop start buffer)
 NoNumber Encodes refusal.TooLong width buffer start = (last_position width start < length buffer) × (128 ≤ slice_index buffer (last_position width start)) × NeverBegins Encodes (drop start buffer)
@@ -65,12 +65,10 @@ refusal_message refusal.EndOfData name = message.EndOfData
 refusal_message refusal.TooLong name = message.IntegerTooLong name
 refusal_message refusal.TooLarge name = message.IntegerTooLarge name
 
--- The offset of the error: the end of the data, or the last byte that the width allows.
 abbrev pub refusal_offset : NumberRefusal → ℕ → ℕ → ℕ → ℕ
 refusal_offset refusal.EndOfData width start end = end
 refusal_offset _ width start end = last_position width start
 
--- That offset lies within the data, unless the data ended.
 abbrev pub HasPlace : NumberRefusal → ℕ → ℕ → ℕ → Type 0
 HasPlace refusal.EndOfData width start end = Unit {0}
 HasPlace _ width start end = last_position width start < end

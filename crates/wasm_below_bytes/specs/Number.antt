@@ -2,8 +2,7 @@
 use Rattle.std.specs.Prelude.{◌≡◌, ℕ, ◌+◌, ◌-◌, ◌*◌, ◌<◌, ◌≤◌, ◌^◌, Bool, true, false, List, [], ◌∷◌, ℤ, pos, ◌+ℤ◌, ◌-ℤ◌, ◌*ℤ◌, neg_ℤ, ◌≤ℤ◌, ◌<ℤ◌, ltb}
 use Rattle.std.specs.Int.{Width, byte_len, to_le_bytes}
 
--- The bytes encode n, a number of at most `width` bits: seven a byte, the lowest first. Only the
--- last byte is below 128.
+-- An unsigned LEB128 number of at most `width` bits.
 --   uN ::= n:byte ⇒ n, if n < 2^7 and n < 2^N  |  n:byte m:u(N-7) ⇒ 2^7·m + (n - 2^7), if n ≥ 2^7 and N > 7
 abbrev pub EncodesUnsigned : ℕ → List ℕ → ℕ → Type 0
 EncodesUnsigned width [] n = ⊥
@@ -15,14 +14,14 @@ abbrev pub with_sign : Bool → ℕ → ℕ → ℤ
 with_sign true n whole = pos n
 with_sign false n whole = pos n -ℤ pos whole
 
--- The highest of the seven bits is the sign.
+-- The signed value of a last byte: bit 6 is the sign.
 abbrev pub last_value : ℕ → ℤ
 last_value c = with_sign (ltb c 64) c 128
 
 abbrev pub FitsWidth : ℕ → ℤ → Type 0
 FitsWidth width n = (neg_ℤ (pos (2 ^ (width - 1))) ≤ℤ n) × (n <ℤ pos (2 ^ (width - 1)))
 
--- As `EncodesUnsigned`, for a signed number: bit 6 of the last byte is the sign.
+-- A signed LEB128 number of at most `width` bits.
 --   sN ::= n:byte ⇒ n, if n < 2^6 and n < 2^(N-1)  |  n:byte ⇒ n - 2^7, if 2^6 ≤ n < 2^7 and n ≥ 2^7 - 2^(N-1)
 --        |  n:byte i:s(N-7) ⇒ 2^7·i + (n - 2^7), if n ≥ 2^7 and N > 7
 abbrev pub EncodesSigned : ℕ → List ℕ → ℤ → Type 0

@@ -1,10 +1,9 @@
--- Errors of one byte: it is missing, or wrong.
 use Rattle.std.specs.Prelude.{◌≡◌, ℕ, ◌≢◌, ◌⊎◌}
 use Rattle.wasm_below_bytes.specs.declared.message.Message.{Message}
 use Rattle.wasm_below_bytes.specs.declared.message.Message.TheVariants as message
 use Rattle.wasm_below_bytes.specs.Source.{Reader, rest, BeginsWith, EndFault}
 
--- The next byte is wrong: the error has the message `refusal byte`, at `place`.
+-- `IsWrong` holds of the next byte. The error is `refusal byte`, at the offset `place`.
 abbrev pub WrongByteFault : (ℕ → Type 0) → (ℕ → Message) → ℕ → Message → Reader → ℕ → Type 0
 WrongByteFault IsWrong refusal place m r offset = (byte : ℕ) × BeginsWith byte (rest r) × IsWrong byte × (m ≡ refusal byte) × (offset ≡ place)
 

@@ -1,4 +1,4 @@
--- The numbers of the refusals, and the kinds of errors. docs/ERRORS-AND-FEATURES.md has the table.
+-- docs/ERRORS-AND-FEATURES.md has the table of refusals.
 use Rattle.std.specs.Prelude.{ℕ, List, codes, ◌≡◌}
 use Rattle.wasm_below_bytes.specs.declared.message.NumberName.{NumberName}
 use Rattle.wasm_below_bytes.specs.declared.message.NumberName.TheVariants as number_name
@@ -49,8 +49,7 @@ kind_of (message.FeatureRequired _) = kind.MissingFeature
 kind_of message.OutOfMemory = kind.OutOfMemory
 kind_of _ = kind.Other
 
--- A message of reading one value: not `OutOfMemory`, nor about open frames, a whole body or a
--- section (E8 to E11, E23, E25).
+-- A message about one value: any except E3, E8 to E11, E23 and E25.
 abbrev pub IsReadFault : Message → Type 0
 IsReadFault message.OutOfMemory = ⊥
 IsReadFault message.OperatorsRemaining = ⊥
@@ -91,7 +90,7 @@ type_name_text type_name.ValueType = codes "value type"
 type_name_text type_name.ReferenceType = codes "reference type"
 type_name_text type_name.HeapType = codes "heap type"
 
--- A message about an invalid number names this kind.
+-- If the message is about an invalid number, it names this kind.
 abbrev pub NamesNumber : NumberName → Message → Type 0
 NamesNumber name (message.IntegerTooLong n) = n ≡ name
 NamesNumber name (message.IntegerTooLarge n) = n ≡ name

@@ -16,7 +16,7 @@ pub record Source : Type 0 where
   pub offset : ℕ
   pub bytes : List ℕ
 
--- A reader: its features, the offset of its first byte, all its bytes, and how many it has read.
+-- Features, the offset of the first byte, all bytes, and how many are read.
 pub record Reader : Type 0 where
   pub features : WasmFeatures
   pub start : ℕ
@@ -35,7 +35,7 @@ offset_of r = r.start + r.position
 abbrev pub end_of : Reader → ℕ
 end_of r = r.start + length r.buffer
 
--- The bytes that are left, as a `Source`.
+-- The rest, as a `Source`.
 abbrev pub source_of : Reader → Source
 source_of r = record { features = r.features; offset = offset_of r; bytes = rest r }
 
@@ -43,16 +43,16 @@ source_of r = record { features = r.features; offset = offset_of r; bytes = rest
 abbrev pub reader_of : WasmFeatures → ℕ → List ℕ → Reader
 reader_of features offset bytes = record { features = features; start = offset; buffer = bytes; position = 0 }
 
--- The same reader after it has read `position` bytes.
+-- The reader with `position` bytes read.
 abbrev pub at_position : Reader → ℕ → Reader
 at_position r position = record { features = r.features; start = r.start; buffer = r.buffer; position = position }
 
--- The call read `text` from the start of the rest, and changed only the position.
+-- The call read `text`, and changed only the position.
 pub record Takes (old new : Reader) (text : List ℕ) : Type 0 where
   pub moved : new ≡ at_position old (old.position + length text)
   pub parts : rest old ≡ text ++ rest new
 
--- The same reader with other features.
+-- The reader with these features.
 abbrev pub with_features : Reader → WasmFeatures → Reader
 with_features r features = record { features = features; start = r.start; buffer = r.buffer; position = r.position }
 
@@ -68,31 +68,30 @@ NoPrefix {X} Encodes bytes = (text more : List ℕ) (x : X) → Encodes text x �
 abbrev pub SomePrefix : {X : Type 0} → (List ℕ → X → Type 0) → List ℕ → Type 0
 SomePrefix {X} Encodes bytes = (text more : List ℕ) × (x : X) × Encodes text x × (bytes ≡ text ++ more)
 
--- The claim of a failed call holds also if `more` follows its data. After `EndOfData`, `more` is
--- empty; after `OutOfMemory`, there is no claim; after any other message, `more` is any list.
+-- The bytes after the data to which `Refuses` applies: none after `EndOfData`, otherwise any. It
+-- claims nothing of `OutOfMemory`.
 abbrev pub MayFollow : Message → List ℕ → Type 0
 MayFollow message.EndOfData more = more ≡ []
 MayFollow message.OutOfMemory more = ⊥
 MayFollow _ more = Unit {0}
 
--- No prefix of the bytes encodes a value. Unless the message is `EndOfData`, this holds whatever
--- bytes follow. Nothing is said of `OutOfMemory`.
+-- No prefix of the bytes encodes a value; if the message is not `EndOfData`, whatever bytes follow.
+-- `OutOfMemory` claims nothing.
 abbrev pub Refuses : {X : Type 0} → (List ℕ → X → Type 0) → List ℕ → Message → Type 0
 Refuses Encodes bytes m = (more : List ℕ) → MayFollow m more → NoPrefix Encodes (bytes ++ more)
 
--- The offset lies within the bytes that are left, or at their end.
+-- The offset is in the rest, or at its end.
 abbrev pub IsAhead : Reader → ℕ → Type 0
 IsAhead r offset = (offset_of r ≤ offset) × (offset ≤ end_of r)
 
--- An error of a call from this reader: `Refuses` and `IsReadFault` hold for the message, and
--- `IsAhead` for the offset.
+-- An error from this reader: `Refuses`, `IsReadFault` and `IsAhead` hold.
 pub record IsRefusal {X : Type 0} (Encodes : List ℕ → X → Type 0) (e : Error) (old : Reader) : Type 0 where
   pub refuses : Refuses Encodes (rest old) e.message
   pub fault : IsReadFault e.message
   pub ahead : IsAhead old e.offset
 
--- `Ok` if and only if a prefix of the rest encodes a value. Then the call returns it and advances
--- past that prefix. On `Err`, the reader is unchanged.
+-- `Ok` if and only if a prefix of the rest encodes a value, which is returned and consumed. On
+-- `Err`, the reader is unchanged.
 abbrev pub Reads : {X : Type 0} → (List ℕ → X → Type 0) → Result X Error → Reader → Reader → Type 0
 Reads Encodes (Ok x) old new = (text : List ℕ) × Encodes text x × Takes old new text
 Reads Encodes (Err e) old new = (new ≡ old) × IsRefusal Encodes e old
@@ -105,14 +104,14 @@ IsByte text byte = (text ≡ byte ∷ []) × (byte < 256)
 abbrev pub IsBlock : ℕ → List ℕ → Bor (List ℕ) → Type 0
 IsBlock n text block = (block.now ≡ text) × (length text ≡ n)
 
--- The data ends: `EndOfData` at the reader. `IsEndHere` is the same of an error.
+-- No byte is left: `EndOfData` at the position. `IsEndHere` takes an `Error`.
 abbrev pub EndFault : Message → Reader → ℕ → Type 0
 EndFault m r offset = (m ≡ message.EndOfData) × (offset ≡ offset_of r) × (offset_of r ≡ end_of r)
 
 abbrev pub IsEndHere : Error → Reader → Type 0
 IsEndHere e r = EndFault e.message r e.offset
 
--- Fewer than `n` bytes are left: `EndOfData` at the reader. `IsShort` is the same of an error.
+-- Fewer than `n` bytes are left: `EndOfData` at the position. `IsShort` takes an `Error`.
 abbrev pub EndsWithin : ℕ → Message → Reader → ℕ → Type 0
 EndsWithin n m r offset = (m ≡ message.EndOfData) × (offset ≡ offset_of r) × (end_of r < offset_of r + n)
 
@@ -122,25 +121,25 @@ IsShort n e r = EndsWithin n e.message r e.offset
 abbrev pub byte_at : Reader → ℕ → ℕ
 byte_at r offset = slice_index r.buffer (offset - r.start)
 
--- The offset of the last byte that the width allows.
+-- The greatest offset of the last byte of a number of `width` bits at the reader.
 abbrev pub last_offset : ℕ → Reader → ℕ
 last_offset width r = offset_of r + (width - 1) / 7
 
--- `EndOfData` before the last byte that the width allows, `IntegerTooLong` if that is a
--- continuation byte, `IntegerTooLarge` if it has a bit beyond the width.
+-- `EndOfData` before the last byte that the width allows; there, `IntegerTooLong` (a continuation
+-- byte) or `IntegerTooLarge` (a bit beyond the width).
 abbrev pub NumberFault : Message → ℕ → Reader → ℕ → Type 0
 NumberFault message.EndOfData width r offset = (offset ≡ end_of r) × (end_of r ≤ last_offset width r)
 NumberFault (message.IntegerTooLong _) width r offset = (offset ≡ last_offset width r) × (128 ≤ byte_at r offset) × (offset < end_of r)
 NumberFault (message.IntegerTooLarge _) width r offset = (offset ≡ last_offset width r) × (byte_at r offset < 128) × (offset < end_of r)
 NumberFault _ width r offset = ⊥
 
--- As `NumberFault`, with one message, `IntegerTooLong`, for both faults of the last byte.
+-- `NumberFault` with `IntegerTooLong` in place of `IntegerTooLarge`.
 abbrev pub TooLongFault : Message → ℕ → Reader → ℕ → Type 0
 TooLongFault message.EndOfData width r offset = (offset ≡ end_of r) × (end_of r ≤ last_offset width r)
 TooLongFault (message.IntegerTooLong _) width r offset = (offset ≡ last_offset width r) × (offset < end_of r)
 TooLongFault _ width r offset = ⊥
 
--- The error of a number, which names its kind.
+-- The error of a number of this kind.
 abbrev pub U32Fault : Message → Reader → ℕ → Type 0
 U32Fault m r offset = NumberFault m 32 r offset × NamesNumber number_name.VarU32 m
 
@@ -156,25 +155,24 @@ S33Fault m r offset = TooLongFault m 33 r offset × NamesNumber number_name.VarS
 abbrev pub I64Fault : Message → Reader → ℕ → Type 0
 I64Fault m r offset = NumberFault m 64 r offset × NamesNumber number_name.VarI64 m
 
--- Replaces `IntegerTooLarge` by `IntegerTooLong`.
 abbrev pub as_too_long : Message → Message
 as_too_long (message.IntegerTooLarge kind) = message.IntegerTooLong kind
 as_too_long m = m
 
--- A prefix of the bytes encodes a number of 32 bits that is above the limit.
+-- A prefix of the bytes encodes a u32 above `limit`.
 abbrev pub BeginsAbove : ℕ → List ℕ → Type 0
 BeginsAbove limit bytes = (text more : List ℕ) × (n : ℕ) × EncodesUnsigned 32 text n × (limit < n) × (bytes ≡ text ++ more)
 
--- The count is above the limit, or no prefix encodes a number.
+-- The count at the reader is above `limit`, or no prefix encodes a u32.
 abbrev pub SizeFault : Message → ℕ → Reader → ℕ → Type 0
 SizeFault (message.SizeOutOfBounds _) limit r offset = (offset ≡ offset_of r) × BeginsAbove limit (rest r)
 SizeFault m limit r offset = NumberFault m 32 r offset × NoPrefix (EncodesUnsigned 32) (rest r)
 
--- As `Reads`, but errors may lie before the reader, from the offset `start` on.
+-- `Reads`, but the error's offset may be before the reader, from `start` on.
 abbrev pub ReadsFrom : {X : Type 0} → ℕ → (List ℕ → X → Type 0) → Result X Error → Reader → Reader → Type 0
 ReadsFrom start Encodes (Ok x) old new = Reads Encodes (Ok x) old new
 ReadsFrom start Encodes (Err e) old new = (new ≡ old) × Refuses Encodes (rest old) e.message × IsReadFault e.message × (start ≤ e.offset) × (e.offset ≤ end_of old)
 
--- The error of a count, which names the list and the kind of number.
+-- Above `limit`, `SizeOutOfBounds` with the list's name; without a u32, its error.
 abbrev pub CountFault : SizeName → ℕ → Message → Reader → ℕ → Type 0
 CountFault name limit m r offset = SizeFault m limit r offset × NamesSize name m × NamesNumber number_name.VarU32 m

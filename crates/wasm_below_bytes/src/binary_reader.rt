@@ -15,12 +15,10 @@ mod leb128;
 
 const END: u8 = 0x0b;
 
-/// Borrowed bytes that are read from the start.
+/// Borrowed bytes, read from the start. Offsets in errors include the offset of the first byte.
 ///
-/// Offsets in errors count from the offset given for the first byte.
-///
-/// A loop keeps a local reader in registers unless a call that is not inlined borrows it. So the
-/// functions that create errors are inline, and other calls borrow a copy.
+/// A loop's reader leaves the registers if a call that is not inlined borrows it. So functions that
+/// create errors are inline, and other calls borrow a copy.
 #[derive(Debug, Drop)]
 pub struct BinaryReader<'a> {
     buffer: &'a [u8],
@@ -62,8 +60,7 @@ impl<'a> BinaryReader<'a> {
         BinaryReader::new_features(bytes, original_offset, WasmFeatures::all())
     }
 
-    /// Creates a reader over `bytes` with these features. `original_offset` is the offset of the
-    /// first byte.
+    /// Creates a reader over `bytes` like `new`, with these features.
     pub fn new_features(
         bytes: &'a [u8],
         original_offset: u64,
@@ -109,7 +106,6 @@ impl<'a> BinaryReader<'a> {
         self.position
     }
 
-    /// Returns whether the reader is at the end of the data.
     #[inline(always)]
     pub fn eof(&self) -> bool
         ensures { IsTrue result ↔ (rest self.now ≡ []) }
@@ -130,7 +126,6 @@ impl<'a> BinaryReader<'a> {
         &self.buffer[self.position..]
     }
 
-    /// Returns the offsets of the first byte and of the end.
     pub fn range(&self) -> Range<u64>
         ensures start { result.start ≡ self.now.start }
         ensures end { result.end ≡ end_of self.now }
@@ -138,7 +133,6 @@ impl<'a> BinaryReader<'a> {
         self.original_offset..self.original_offset + self.buffer.len() as u64
     }
 
-    /// Returns the offsets of the next byte and of the end.
     pub fn remaining_range(&self) -> Range<u64>
         ensures start { result.start ≡ offset_of self.now }
         ensures end { result.end ≡ end_of self.now }
@@ -146,7 +140,6 @@ impl<'a> BinaryReader<'a> {
         self.original_position()..self.original_offset + self.buffer.len() as u64
     }
 
-    /// Returns whether a single `end` instruction is left.
     pub fn is_end_then_eof(&self) -> bool
         ensures { IsTrue result ↔ (rest self.now ≡ END ∷ []) }
     {
@@ -171,7 +164,6 @@ impl<'a> BinaryReader<'a> {
         Ok(self.buffer[self.position])
     }
 
-    /// Returns a copy of the reader.
     #[inline(always)]
     pub fn clone(&self) -> BinaryReader<'a>
         ensures { result ≡ self.now }
@@ -184,7 +176,7 @@ impl<'a> BinaryReader<'a> {
         }
     }
 
-    /// Goes back to an earlier position, a number of bytes read.
+    /// Goes back to an earlier position.
     #[inline(always)]
     pub fn rewind(&mut self, position: usize)
         requires { position ≤ self.old.position }
@@ -193,7 +185,7 @@ impl<'a> BinaryReader<'a> {
         self.position = position;
     }
 
-    /// Sets the position to this number of bytes read, as a copy of the reader has reached it.
+    /// Moves to a position that a copy of the reader has reached.
     #[inline(always)]
     pub fn set_position(&mut self, to: usize)
         requires { to ≤ length self.old.buffer }
@@ -254,7 +246,7 @@ impl<'a> BinaryReader<'a> {
         Error::new(Message::EndOfData, self.original_position())
     }
 
-    /// Creates a reader over `bytes` with the same features, from this offset.
+    /// Creates a reader over `bytes` at `offset` with the same features.
     pub fn part(&self, bytes: &'a [u8], offset: u64) -> BinaryReader<'a>
         requires { offset + length bytes.now ≤ end_of self.now }
         ensures { result ≡ reader_of self.now.features offset bytes.now }
@@ -263,7 +255,7 @@ impl<'a> BinaryReader<'a> {
         BinaryReader::new_features(bytes, offset, self.features)
     }
 
-    /// Reads a little-endian number. Fails with `EndOfData` at the offset of its first byte.
+    /// Reads a little-endian number. Fails like `read_bytes`.
     #[inline(always)]
     pub fn read_u32(&mut self) -> Result<u32>
         ensures reads { Reads (EncodesFixed w32) result self.old self.new }
@@ -273,7 +265,7 @@ impl<'a> BinaryReader<'a> {
         Ok(u32::from_le_bytes([block[0], block[1], block[2], block[3]]))
     }
 
-    /// Reads a little-endian number. Fails with `EndOfData` at the offset of its first byte.
+    /// Reads a little-endian number. Fails like `read_bytes`.
     #[inline(always)]
     pub fn read_u64(&mut self) -> Result<u64>
         ensures reads { Reads (EncodesFixed w64) result self.old self.new }
@@ -285,10 +277,10 @@ impl<'a> BinaryReader<'a> {
         ]))
     }
 
-    /// Reads the count of the list that `desc` names: an unsigned LEB128 number of 32 bits.
+    /// Reads the count of a list.
     ///
-    /// Fails with `SizeOutOfBounds` at the start of the number if it is above `limit`, otherwise
-    /// like `read_var_u32`.
+    /// Fails with `SizeOutOfBounds`, which names `desc`, at the start of a count above `limit`;
+    /// otherwise like `read_var_u32`.
     pub fn read_size(&mut self, limit: usize, desc: SizeName) -> Result<usize>
         ensures reads { Reads (EncodesSize limit) result self.old self.new }
         ensures fault { IfErr result (λ e. CountFault desc limit e.message self.old e.offset) }

@@ -4,7 +4,6 @@ ghost use Rattle.wasm_below_bytes.specs.Refusal.{kind_of};
 use crate::message::Message;
 use std::fmt;
 
-/// What is wrong with the bytes, and where.
 #[derive(Clone, Copy, Debug, PartialEq, Eq)]
 pub struct Error {
     pub message: Message,
@@ -16,14 +15,13 @@ pub type BinaryReaderError = Error;
 
 pub type Result<T> = std::result::Result<T, Error>;
 
-/// The kinds of errors that a caller may distinguish.
 #[derive(Clone, Copy, Debug, PartialEq, Eq)]
 pub enum ErrorKind {
     /// With more bytes the call might succeed.
     EndOfData,
     MissingFeature,
     OutOfMemory,
-    /// Any other error. More bytes would not help.
+    /// More bytes would not help.
     Other,
 }
 
@@ -46,7 +44,7 @@ impl Error {
         }
     }
 
-    /// Returns the offset of the error, counted from the offset given for the reader's first byte.
+    /// Returns the offset of the error, which includes the reader's `original_offset`.
     pub fn offset(&self) -> u64
         ensures { result ≡ self.now.offset }
     {

@@ -3,7 +3,7 @@ ghost use Rattle.wasm_below_bytes.specs.Features.{HasFeature, all_features, feat
 
 use bitflags::{Flag, Flags, bitflag_items};
 
-/// A set of the proposals that change what is read, as `docs/ERRORS-AND-FEATURES.md` says.
+/// A set of proposals that change what is read (`docs/ERRORS-AND-FEATURES.md`).
 #[derive(Clone, Copy, Debug, PartialEq, Eq)]
 pub struct WasmFeatures(u32);
 
@@ -47,7 +47,6 @@ impl Flags for WasmFeatures {
 }
 
 impl WasmFeatures {
-    /// Returns the set of all six features.
     pub fn all() -> WasmFeatures
         ensures { result ≡ all_features }
     {
@@ -60,7 +59,7 @@ impl WasmFeatures {
         WasmFeatures(0)
     }
 
-    /// Returns the set of the features with these bits, or `None` if a bit belongs to no feature.
+    /// Returns the features with these bits, or `None` if a bit is of no feature.
     pub fn from_bits(bits: u32) -> Option<WasmFeatures>
         ensures { SomeIff result (bits < 64) (features_of bits) }
     {
@@ -71,7 +70,6 @@ impl WasmFeatures {
         }
     }
 
-    /// Returns whether all features of `other` are on.
     #[inline(always)]
     pub fn contains(&self, other: WasmFeatures) -> bool
         ensures { IsTrue result ↔ HasFeature other self.now }

@@ -17,7 +17,7 @@ use crate::message::SizeName;
 use std::alloc::Global;
 use std::marker::PhantomData;
 
-/// A type that can be read from the start of bytes.
+/// A type that `BinaryReader::read` reads.
 pub trait FromReader<'a>: UsesMemory + Drop + Sized {
     // With these features the bytes encode the value.
     ghost encodes: { WasmFeatures → List ℕ → Self → Type 0 };
@@ -28,7 +28,7 @@ pub trait FromReader<'a>: UsesMemory + Drop + Sized {
     // Equality, except for the offset of a reader in the values.
     ghost same: { Self → Self → Type 0 } = { λ a b. a ≡ b };
 
-    // The place of the value between these readers, if the value holds it.
+    // The value's offsets agree with the readers before and after the read.
     ghost placed: { Reader → Self → Reader → Type 0 } = { λ old value new. ⊤ };
 
     // A read that starts at this reader may allocate.
@@ -41,11 +41,9 @@ pub trait FromReader<'a>: UsesMemory + Drop + Sized {
         ensures fault { IfErr result (λ e. HasFault fault e reader.old) }
         ensures memory { IfErr result (λ e. NeedsMemory allocates e reader.old) };
 
-    /// States that no encoding is a proper prefix of another, and that each has one value.
     fn is_prefix_code()
         ensures { (features : WasmFeatures) → PrefixCodeUpTo same (encodes features) };
 
-    /// States that the fault of a read determines the message and the offset of the error.
     fn determines_refusal()
         ensures { DeterminesRefusal fault };
 }
@@ -69,7 +67,6 @@ impl<'a> FromReader<'a> for u32 {
 }
 
 impl<'a> BinaryReader<'a> {
-    /// Reads a `T`. Fails like `T::from_reader`.
     #[inline(always)]
     pub fn read<T: FromReader<'a>>(&mut self, alloc: Global) -> Result<T>
         ensures reads { ReadsValue (T.encodes self.old.features) T.Memory.TAKES result self.old self.new }
@@ -80,10 +77,10 @@ impl<'a> BinaryReader<'a> {
         T::from_reader(alloc, self)
     }
 
-    /// Reads a number of 32 bits and that many bytes, and returns the bytes as a reader with the
-    /// same features and offsets.
+    /// Reads a u32 and that many bytes, and returns these as a reader with the same features and
+    /// offsets.
     ///
-    /// Fails like `read_var_u32`, or with `EndOfData` at the offset of the first of the bytes.
+    /// Fails like `read_var_u32`, or with `EndOfData` at the offset after the number.
     pub fn read_reader(&mut self) -> Result<BinaryReader<'a>>
         ensures reads { Reads (EncodesReader self.old.features) result self.old self.new }
         ensures placed { IfOk result (λ r. end_of r ≡ offset_of self.new) }
@@ -101,8 +98,7 @@ impl<'a> BinaryReader<'a> {
         }
     }
 
-    /// Reads a count of at most `limit` of the list that `desc` names, and returns an iterator over
-    /// its items. Fails like `read_size`.
+    /// Reads a count like `read_size`, and returns an iterator over that many items.
     pub fn read_iter<'r, T: FromReader<'a>>(
         &'r mut self,
         alloc: Global,
@@ -120,8 +116,7 @@ impl<'a> BinaryReader<'a> {
     }
 }
 
-/// An iterator over the items of a list. Dropping it reads the items that are left, up to the first
-/// error.
+/// An iterator over the items of a list. Dropping it reads the items left, up to the first error.
 pub struct BinaryReaderIter<'a, 'r, T: FromReader<'a>> {
     remaining: usize,
     reader: &'r mut BinaryReader<'a>,
@@ -130,7 +125,7 @@ pub struct BinaryReaderIter<'a, 'r, T: FromReader<'a>> {
 }
 
 impl<'a, 'r, T: FromReader<'a>> BinaryReaderIter<'a, 'r, T> {
-    /// Creates an iterator over this many items, which start at the reader's position.
+    /// Creates an iterator over the next `remaining` items.
     pub fn new(
         alloc: Global,
         reader: &'r mut BinaryReader<'a>,

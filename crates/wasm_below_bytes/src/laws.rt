@@ -1,5 +1,5 @@
-//! Laws: encodings are prefix codes (none is a proper prefix of another, and each has one value),
-//! and faults determine the message and the offset of their errors.
+//! Laws: no encoding is a proper prefix of another, each has one value, and a fault determines the
+//! message and the offset of its error.
 ghost use Rattle.std.specs.Prelude.{ℕ};
 ghost use Rattle.std.specs.Int.{w32, w64};
 ghost use Rattle.wasm_below_bytes.specs.Sequence.{PrefixCode};
@@ -28,8 +28,6 @@ pub fn fixed_numbers()
     ensures eight { PrefixCode (EncodesFixed w64) }
 {}
 
-/// States that the fault of a number determines its error, for any width and name. This includes
-/// 33-bit indices and counts.
 pub fn number_refusals()
     ensures any { (width : ℕ) → (name : NumberName)
         → DeterminesRefusal (λ m r offset. NumberFault m width r offset × NamesNumber name m) }

@@ -1,8 +1,7 @@
 //! Errors, features, and a reader of bytes and LEB128 numbers.
 //!
-//! A read call returns `Ok` if and only if a prefix of the rest encodes a value. It then returns
-//! the value and advances past that prefix. On `Err`, the reader is unchanged
-//! (`specs/Source.antt`).
+//! A read returns `Ok` if and only if a prefix of the rest encodes a value, and advances past that
+//! prefix. On `Err`, the reader is unchanged.
 //!
 //! Every call that allocates may fail with `OutOfMemory` at the offset where it began.
 #![tactic(auto)]

@@ -38,8 +38,7 @@ pub struct Signed {
     pub after: usize,
 }
 
-/// Returns the error of a number of at most `bits` bits. `start` and `end` are the offsets of the
-/// number and of the end of the data.
+/// Returns the error of a number at the offset `start`, in data that ends at `end`.
 #[cold]
 #[inline(never)]
 pub fn number_error(
@@ -196,7 +195,6 @@ fn read_groups(buffer: &[u8], start: usize, bits: u32) -> Result<Groups, NumberR
     })
 }
 
-/// Returns the seven bits of a last byte as a signed number: the highest bit is the sign.
 #[inline(always)]
 pub fn last_value(byte: u8) -> i64
     requires { byte < 128 }

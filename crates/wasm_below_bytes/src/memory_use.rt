@@ -24,12 +24,11 @@ impl MemoryUse for Never {
     const TAKES: bool = false;
 }
 
-/// A type that declares whether reading it allocates.
 pub trait UsesMemory {
     type Memory: MemoryUse;
 }
 
-/// Whether reading a type allocates, as a constant that its `UsesMemory` determines.
+/// Whether reading a type allocates, as a constant.
 pub trait TakesMemory {
     ghost TAKES_MEMORY: { Bool };
 

@@ -3,7 +3,6 @@ ghost use Rattle.wasm_below_bytes.specs.Refusal.{number_of, number_name_text, si
 
 use std::fmt;
 
-/// The kind of frame that an operator must occur in.
 #[derive(Clone, Copy, Debug, PartialEq, Eq)]
 pub enum FrameName {
     If,
@@ -19,7 +18,6 @@ impl fmt::Display for FrameName {
     }
 }
 
-/// A kind of number, in a message about an invalid number.
 #[derive(Clone, Copy, Debug, PartialEq, Eq)]
 pub enum NumberName {
     VarU32,
@@ -49,7 +47,7 @@ impl fmt::Display for NumberName {
     }
 }
 
-/// A list, in the message about a count above its limit.
+/// A list whose count is above its limit.
 #[derive(Clone, Copy, Debug, PartialEq, Eq)]
 pub enum SizeName {
     BrTable,
@@ -131,7 +129,6 @@ impl fmt::Display for LeadingByteName {
     }
 }
 
-/// A kind of type.
 #[derive(Clone, Copy, Debug, PartialEq, Eq)]
 pub enum TypeName {
     ValueType,
@@ -157,8 +154,8 @@ impl fmt::Display for TypeName {
     }
 }
 
-/// What is wrong. `docs/ERRORS-AND-FEATURES.md` lists each message with its number, its text and
-/// the offset of the error.
+/// What is wrong. `docs/ERRORS-AND-FEATURES.md` lists each message with its number, text and
+/// offset.
 #[derive(Clone, Copy, Debug, PartialEq, Eq)]
 pub enum Message {
     EndOfData,
@@ -171,7 +168,6 @@ pub enum Message {
     SizeOutOfBounds(SizeName),
     /// The index of a block type is negative.
     InvalidFunctionType,
-    /// The instruction occurs outside the frame that it needs.
     WrongFrame(InstructionName, FrameName),
     OperatorsRemaining,
     /// Frames are open at the end of a body or an expression.
@@ -181,7 +177,7 @@ pub enum Message {
     /// Data is left after the last operator.
     UnexpectedData,
     IllegalOpcode(u8),
-    /// No operator has this subopcode after this prefix byte.
+    /// A prefix byte, and a subopcode that no operator has after it.
     UnknownSubopcode(u8, u32),
     /// A SIMD operator, in a call that reads none.
     UnexpectedSimd,
@@ -189,9 +185,9 @@ pub enum Message {
     NonzeroAfterFence,
     /// A memory argument has both a memory index and an array index.
     MemoryAndArray,
-    /// The memory argument of an operator that is not atomic has an ordering.
+    /// An operator that is not atomic has an ordering.
     OrderingOnPlain,
-    /// A byte is not an ordering. If `hex` is set, the text has it in hexadecimal.
+    /// If `hex` is set, the text has the byte in hexadecimal.
     InvalidOrdering { byte: u8, hex: bool },
     ReservedFlags,
     /// The flags of a cast are above 3.

@@ -1,6 +1,5 @@
-//! Long LEB128 numbers, read by calls that are not inlined. A result of two words is returned in
-//! registers; a larger enum would go through memory. Position 0, where no number ends, says that
-//! there is none; `value` is then the code of the reason.
+//! Long LEB128 numbers, read out of line. A result of two words is returned in registers, unlike a
+//! larger enum. If `after` is 0, there is no number, and `value` is the code of the reason.
 ghost use Rattle.std.specs.Prelude.{◌≡◌, ◌<◌, ◌^◌, unsigned_abs};
 ghost use Rattle.wasm_below_bytes.specs.Number.{EncodesUnsigned, EncodesSigned};
 ghost use Rattle.wasm_below_bytes.specs.Leb128.{NumberAt, NoNumber, HasPlace, refusal_of_code, refusal_message, refusal_offset};
@@ -54,7 +53,7 @@ pub fn long_i64(buffer: &[u8], start: usize) -> Signed
     }
 }
 
-/// Returns the error for the reason with this code.
+/// Returns the error for the reason that `refusal_of_code` gives for this code.
 #[cold]
 #[inline(never)]
 pub fn coded_error(code: u64, start: u64, end: u64, bits: u32, name: NumberName) -> Error

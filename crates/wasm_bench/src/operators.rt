@@ -15,7 +15,7 @@ fn operators_of(alloc: Global, body: &[u8]) -> Option<OperatorsReader<'_>> {
     Some(OperatorsReader::new(alloc, reader))
 }
 
-/// Returns the number of operators, counted by a visitor that overrides no visit.
+/// Returns the number of operators before any error, by a visitor that overrides no visit.
 #[unsafe(no_mangle)]
 pub extern "C" fn wasm_bench_count_any(alloc: Global, body: &[u8]) -> u64 {
     let mut count = CountAny { operators: 0 };
@@ -25,8 +25,8 @@ pub extern "C" fn wasm_bench_count_any(alloc: Global, body: &[u8]) -> u64 {
     count.operators
 }
 
-/// Returns the number of operators, counted by a visitor that overrides four visits and adds up
-/// their immediates.
+/// Returns the number of operators before any error. The visitor overrides four visits to add up
+/// immediates; the sum is not returned.
 #[unsafe(no_mangle)]
 pub extern "C" fn wasm_bench_count_some(alloc: Global, body: &[u8]) -> u64 {
     let mut count = CountSome {
@@ -42,7 +42,7 @@ pub extern "C" fn wasm_bench_count_some(alloc: Global, body: &[u8]) -> u64 {
     count.operators
 }
 
-/// Returns a sum over the operators: the index, constant or offset of four operators, and 1 for
+/// Returns a sum over the operators before any error: the immediate of four operators, and 1 for
 /// each other.
 #[unsafe(no_mangle)]
 pub extern "C" fn wasm_bench_read(alloc: Global, body: &[u8]) -> u64 {

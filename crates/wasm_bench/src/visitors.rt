@@ -1,4 +1,4 @@
-//! The visitors that are measured. `CountAny` has `visit_any` alone.
+//! `CountAny` has no overridden visits.
 ghost use Rattle.std.specs.Prelude.{◌≡◌, ◌+◌, ◌-◌, ◌^◌, ◌<◌};
 
 use std::alloc::Global;

@@ -1,14 +1,12 @@
--- The places after bodies, one after another.
-use Rattle.std.proofs.Common.{◌≡◌, ℕ, ◌+◌, ◌<◌, ◌≤◌, List, [], ◌∷◌, ◌++◌, length, length-append, length-drop, Option, Some, None, Ok, refl, sym, ap, subst, ◌∙◌, arith}
+use Rattle.std.proofs.Common.{◌≡◌, ℕ, ◌+◌, ◌<◌, List, [], ◌∷◌, ◌++◌, length, length-append, Some, None, Ok, refl, ap, subst, ◌∙◌, arith}
 use Rattle.wasm_functions.specs.of_module.below.FromReader.{EncodesReader}
 use Rattle.wasm_functions.specs.of_module.below.Number.{EncodesUnsigned}
 use Rattle.wasm_functions.specs.of_module.below.Source.{Reader, Reads, rest, offset_of, end_of}
 use Rattle.wasm_functions.specs.Items.{ItemsOccur}
 use Rattle.wasm_functions.specs.ModuleFunctions.{ModuleFunctions}
-use Rattle.wasm_functions.specs.Sections.{IsSection}
 use Rattle.wasm_bodies.specs.declared.bodies.WasmBodies.{WasmBodies}
 use Rattle.wasm_bodies.specs.declared.next.WasmBody.{WasmBody}
-use Rattle.wasm_bodies.specs.Bodies.{module_of, after_bytes, InSection, Declares, DeclaresIn, StartsItems, OpensBodies, TakesBody, BodiesOccur, IsAfter, IsBodyOf}
+use Rattle.wasm_bodies.specs.Bodies.{after_bytes, InSection, DeclaresIn, StartsItems, OpensBodies, TakesBody, BodiesOccur, IsAfter, IsBodyOf}
 use Rattle.wasm_bodies.proofs.Places.{OneSection, same_place}
 
 -- One more body after some.
@@ -23,7 +21,7 @@ one_item : {X : Type 0} (Encodes : List ℕ → X → Type 0) (r mid end : Reade
 one_item Encodes r mid end [] x same reads = subst (λ r. ItemsOccur Encodes r (x ∷ []) end) same (end, reads, refl)
 one_item Encodes r mid end (first ∷ items) x (next, read, others) reads = (next, read, one_item Encodes next mid end items x others reads)
 
--- The start of the items of a section that has some.
+-- A section with items has a first one.
 record Start (bytes : List ℕ) (id count n : ℕ) : Type 0 where
   first : Reader
   starts : StartsItems bytes id count first
@@ -40,6 +38,9 @@ start_of bytes id count n some (Some contents, is, (text, encodes, takes)) =
       there = record { contents = contents; is_section = is; within = omega (arith, sum, moved); is_there = refl };
     }
 
+plus_none : (n : ℕ) → n ≡ 0 + n
+plus_none n = omega arith
+
 pub after_none : (bytes : List ℕ) (c : WasmBodies) (opens : OpensBodies bytes c) → 0 < c.left → IsAfter bytes opens.functions [] [] c
 after_none bytes c opens some =
     let code = start_of bytes 10 c.left c.code some opens.code in
@@ -48,12 +49,12 @@ after_none bytes c opens some =
       described = opens.described;
       imported = opens.imported;
       first_body = code.first;
-      starts_bodies = code.starts;
+      starts_bodies = subst (λ n. StartsItems bytes 10 n code.first) (plus_none c.left) code.starts;
       next_body = code.first;
       at_body = code.there;
       bodies_occur = refl;
       first_type = types.first;
-      starts_types = types.starts;
+      starts_types = subst (λ n. StartsItems bytes 3 n types.first) (plus_none c.left) types.starts;
       next_type = types.first;
       at_type = types.there;
       types_occur = refl;

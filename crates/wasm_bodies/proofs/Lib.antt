@@ -1,3 +1,4 @@
+pub mod Texts
 mod Places
 mod Following
 mod Opened

@@ -1,5 +1,4 @@
--- Places in the contents of a section, and what is read there.
-use Rattle.std.proofs.Common.{◌≡◌, ℕ, ◌+◌, ◌-◌, ◌≤◌, List, [], ◌++◌, length, length-append, length-drop, append-nil, Option, Some, Ok, Err, refl, sym, ap, subst, ◌∙◌, arith, inl, inr}
+use Rattle.std.proofs.Common.{◌≡◌, ℕ, ◌+◌, ◌-◌, ◌≤◌, List, [], length, length-append, length-drop, append-nil, Option, Some, Ok, refl, sym, ap, subst, ◌∙◌, arith, inl, inr}
 use Rattle.std.specs.Borrow.{Bor}
 use Rattle.wasm_functions.specs.of_module.below.bytes.error.Error.{Error}
 use Rattle.wasm_functions.specs.of_module.below.bytes.message.Message.{Message}
@@ -12,14 +11,13 @@ use Rattle.wasm_functions.specs.Sections.{IsSection}
 use Rattle.wasm_bodies.specs.declared.bodies.WasmBodies.{WasmBodies}
 use Rattle.wasm_bodies.specs.Bodies.{module_of, after_bytes, InSection, TakesType, HasType, TakesPart, IsPlace}
 
--- The law `sections`.
 abbrev pub OneSection : Type 0
 OneSection = (whole : Reader) → (id : ℕ) → (a b : Option Reader) → IsSection whole id a → IsSection whole id b → a ≡ b
 
 the_contents : (a b : Reader) → Some a ≡ Some b → a ≡ b
 the_contents a b same = cc same
 
--- A place is determined by the number of bytes before it.
+-- The number of bytes before a place determines it.
 pub same_place : OneSection → (bytes : List ℕ) (id n : ℕ) (one other : Reader) → InSection bytes id n one → InSection bytes id n other → one ≡ other
 same_place law bytes id n one other a b =
     let same = the_contents a.contents b.contents (law (module_of bytes) id (Some a.contents) (Some b.contents) a.is_section b.is_section) in
@@ -37,7 +35,6 @@ at_start bytes id contents is = record {
     plus_none : (n : ℕ) → n ≡ n + 0
     plus_none n = omega arith
 
--- The place after a block.
 pub after_block : (bytes : List ℕ) (id n : ℕ) (contents place : Reader) (block : Bor (List ℕ)) → IsSection (module_of bytes) id (Some contents) →
     n ≤ length (rest contents) → Reads (IsBlock n) (Ok block) contents place → InSection bytes id n place
 after_block bytes id n contents place block is within (text, (same, long), takes) = record {
@@ -47,7 +44,6 @@ after_block bytes id n contents place block is within (text, (same, long), takes
   is_there = takes.moved ∙ ap (after_bytes contents) long;
 }
 
--- There is no place beyond the contents.
 pub not_beyond : OneSection → (bytes : List ℕ) (id n : ℕ) (contents there : Reader) → IsSection (module_of bytes) id (Some contents) →
     (n ≤ length (rest contents) → ⊥) → InSection bytes id n there → ⊥
 not_beyond law bytes id n contents there is beyond a =
@@ -105,14 +101,14 @@ nothing_follows message.EndOfData h = refl
 nothing_follows message.OutOfMemory h = h
 nothing_follows _ h = tt
 
--- No type index is encoded where reading it fails.
+-- If reading a type index fails, none is encoded.
 pub no_type : OneSection → (bytes : List ℕ) (n : ℕ) (place : Reader) (e : Error) → InSection bytes 3 n place → IsRefusal (EncodesUnsigned 32) e place →
     HasType bytes n → ⊥
-no_type law bytes n place e there refused (new, ty, before, after, a, b, (text, encodes, takes)) =
+no_type law bytes n place e there refused (new, ty, (before, after, a, b, (text, encodes, takes))) =
     let same = same_place law bytes 3 n place before there a in
     refused.refuses [] (nothing_follows e.message refused.fault) text (rest after) ty encodes (append-nil (rest place) ∙ ap rest same ∙ takes.parts)
 
--- The number of items of a section, and how many bytes it has.
+-- The number of items of a section, and how many bytes encode it.
 pub declared : (contents reader : Reader) (count n : ℕ) → Reads (EncodesUnsigned 32) (Ok count) contents reader → n ≡ reader.position - contents.position →
     Reads (EncodesUnsigned 32) (Ok count) contents (after_bytes contents n)
 declared contents reader count n (text, encodes, takes) is =
@@ -121,14 +117,14 @@ declared contents reader count n (text, encodes, takes) is =
     let same : reader ≡ after_bytes contents n = takes.moved ∙ ap (after_bytes contents) long in
     subst (Reads (EncodesUnsigned 32) (Ok count) contents) same (text, encodes, takes)
 
--- There is no place if no body is left, some bytes were read, and the code section has fewer.
+-- No place: no body is left, some bytes were read, and the code section has fewer.
 pub no_end : (bytes : List ℕ) (c : WasmBodies) → c.left ≡ 0 → (c.code ≡ 0 → ⊥) → ((there : Reader) → InSection bytes 10 c.code there → ⊥) →
     IsPlace bytes c → ⊥
 no_end bytes c none some nowhere (inl (zero, inl start)) = some start
 no_end bytes c none some nowhere (inl (zero, inr (there, a))) = nowhere there a
-no_end bytes c none some nowhere (inr (left, others)) = absurd (omega (arith, left, none))
+no_end bytes c none some nowhere (inr (left, ty, code)) = absurd (omega (arith, left, none))
 
--- There is no place before a body if the code section has fewer bytes.
+-- No place before a body: the code section has fewer bytes.
 pub no_body_there : (bytes : List ℕ) (c : WasmBodies) → (c.left ≡ 0 → ⊥) → ((there : Reader) → InSection bytes 10 c.code there → ⊥) → IsPlace bytes c → ⊥
 no_body_there bytes c some nowhere (inl (zero, h)) = some zero
-no_body_there bytes c some nowhere (inr (left, (ty, (there, a)))) = nowhere there a
+no_body_there bytes c some nowhere (inr (left, ty, (there, a))) = nowhere there a

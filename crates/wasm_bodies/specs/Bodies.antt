@@ -1,6 +1,6 @@
--- The bodies of a module's functions, one after another.
--- WebAssembly Core Specification 3.0, Binary Format, Modules: Indices, Function Section, Code Section.
-use Rattle.std.specs.Prelude.{◌≡◌, ◌≢◌, ◌⊎◌, ◌+◌, ◌-◌, ◌<◌, ◌≤◌, ◌^◌, ℕ, List, [], ◌∷◌, length, Option, Some, None, Ok, min}
+-- Specification: Binary Format, Modules: Indices, Function Section, Code Section.
+use Rattle.std.specs.Prelude.{◌≡◌, ◌≢◌, ◌⊎◌, ◌+◌, ◌-◌, ◌<◌, ◌≤◌, ◌^◌, ℕ, List, [], ◌∷◌, length, Option, Some, None, Ok, min, slice_index_or, if◌then◌else◌}
+use Rattle.std.specs.Str.{is_utf8}
 use Rattle.wasm_functions.specs.of_module.below.bytes.error.Error.{Error}
 use Rattle.wasm_functions.specs.of_module.below.bytes.message.Message.TheVariants as message
 use Rattle.wasm_functions.specs.of_module.below.Features.{all_features}
@@ -8,7 +8,7 @@ use Rattle.wasm_functions.specs.of_module.below.FromReader.{EncodesReader, Reade
 use Rattle.wasm_functions.specs.of_module.below.Number.{EncodesUnsigned}
 use Rattle.wasm_functions.specs.of_module.below.Source.{Reader, Reads, U32Fault, rest, offset_of, end_of, reader_of, at_position}
 use Rattle.wasm_functions.specs.Items.{ItemsOccur}
-use Rattle.wasm_functions.specs.ModuleFunctions.{ModuleFunctions, DescribesFunctions, IsOwn, index_of, name_at}
+use Rattle.wasm_functions.specs.ModuleFunctions.{ModuleFunctions, DescribesFunctions, IsOwn, index_of}
 use Rattle.wasm_functions.specs.Refusals.{ModuleFunctionsFault, IsRefusedAs}
 use Rattle.wasm_functions.specs.Sections.{IsSection}
 use Rattle.wasm_bodies.specs.declared.bodies.WasmBodies.{WasmBodies}
@@ -18,32 +18,30 @@ use Rattle.wasm_bodies.specs.declared.fault.BodiesFault.TheVariants as fault
 use Rattle.wasm_bodies.specs.declared.fault.NoBody.{NoBody}
 use Rattle.wasm_bodies.specs.declared.fault.NoBody.TheVariants as no_body
 
--- A reader of the bytes of a module.
 abbrev pub module_of : List ℕ → Reader
 module_of bytes = reader_of all_features 0 bytes
 
--- A reader of the contents of a section after `n` more of their bytes.
+-- The reader after `n` more bytes.
 abbrev pub after_bytes : Reader → ℕ → Reader
 after_bytes contents n = at_position contents (contents.position + n)
 
--- The module has a section with this number, and the reader is after `n` bytes of its contents.
+-- The reader is after `n` bytes of the contents of the section with this number.
 pub record InSection (bytes : List ℕ) (id n : ℕ) (there : Reader) : Type 0 where
   pub contents : Reader
   pub is_section : IsSection (module_of bytes) id (Some contents)
   pub within : n ≤ length (rest contents)
   pub is_there : there ≡ after_bytes contents n
 
--- The number of items of a section, and how many bytes of the contents it has. Without the section both are 0.
+-- The number of items of a section, and how many bytes encode it. Without the section both are 0.
 abbrev pub Declares : Option Reader → ℕ → ℕ → Type 0
 Declares None count n = (count ≡ 0) × (n ≡ 0)
 Declares (Some contents) count n = Reads (EncodesUnsigned 32) (Ok count) contents (after_bytes contents n)
 
--- The number of items of a section is in error.
 abbrev pub RefusesCount : Error → Option Reader → Type 0
 RefusesCount e None = ⊥
 RefusesCount e (Some contents) = IsRefusedAs (EncodesUnsigned 32) U32Fault e contents
 
--- The section with this number, if there is one, declares this many items, in this many bytes.
+-- As `Declares`, for the section with this number.
 abbrev pub DeclaresIn : List ℕ → ℕ → ℕ → ℕ → Type 0
 DeclaresIn bytes id count n = (contents : Option Reader) × IsSection (module_of bytes) id contents × Declares contents count n
 
@@ -51,7 +49,7 @@ DeclaresIn bytes id count n = (contents : Option Reader) × IsSection (module_of
 abbrev pub Describes : List ℕ → Type 0
 Describes bytes = (t : ModuleFunctions) × DescribesFunctions (module_of bytes) t
 
--- The place before the first body of a module, in which there are as many bodies as functions.
+-- The place before the first body of a module, which has as many bodies as functions.
 pub record OpensBodies (bytes : List ℕ) (c : WasmBodies) : Type 0 where
   pub functions : ModuleFunctions
   pub described : DescribesFunctions (module_of bytes) functions
@@ -61,7 +59,6 @@ pub record OpensBodies (bytes : List ℕ) (c : WasmBodies) : Type 0 where
   pub read : c.read ≡ 0
   pub reserved : c.reserved ≡ 0
 
--- The number of bodies differs from the number of functions.
 abbrev pub CountsDiffer : List ℕ → Type 0
 CountsDiffer bytes = (functions bodies types code : ℕ) × DeclaresIn bytes 3 functions types × DeclaresIn bytes 10 bodies code × (bodies ≢ functions)
 
@@ -72,7 +69,7 @@ RefusesBodies (fault.Code e) bytes = Describes bytes × (contents : Option Reade
 RefusesBodies fault.Counts bytes = Describes bytes × CountsDiffer bytes
 RefusesBodies fault.NoFunction bytes = ⊥
 
--- A type index is read: it is after `old` bytes of the function section, and after it `new` bytes are read.
+-- A type index is between `old` and `new` bytes of the function section.
 abbrev pub TakesType : List ℕ → ℕ → ℕ → ℕ → Type 0
 TakesType bytes old new ty =
     (before after : Reader) × InSection bytes 3 old before × InSection bytes 3 new after × Reads (EncodesUnsigned 32) (Ok ty) before after
@@ -80,7 +77,7 @@ TakesType bytes old new ty =
 abbrev pub HasType : List ℕ → ℕ → Type 0
 HasType bytes n = (new ty : ℕ) × TakesType bytes n new ty
 
--- A body is read: its length and that many bytes. It is after `old` bytes of the code section, and after it `new` bytes are read.
+-- A body, with its length before it, is between `old` and `new` bytes of the code section.
 pub record TakesPart (bytes : List ℕ) (old new : ℕ) (part : Reader) : Type 0 where
   pub before : Reader
   pub is_before : InSection bytes 10 old before
@@ -89,7 +86,7 @@ pub record TakesPart (bytes : List ℕ) (old new : ℕ) (part : Reader) : Type 0
   pub reads : Reads (EncodesReader before.features) (Ok part) before after
   pub place : end_of part ≡ offset_of after
 
--- The next body of a module is read, with the index and the type of its function.
+-- The next body is read, with the index and the type of its function.
 pub record TakesBody (bytes : List ℕ) (old new : WasmBodies) (body : WasmBody) : Type 0 where
   pub left : old.left ≡ new.left + 1
   pub type_index : TakesType bytes old.types new.types body.type_index
@@ -102,41 +99,39 @@ pub record TakesBody (bytes : List ℕ) (old new : WasmBodies) (body : WasmBody)
   pub imported : new.imported ≡ old.imported
   pub reserved : new.reserved ≡ old.reserved
 
--- The module has a code section with at least this many bytes.
 abbrev pub HasCode : List ℕ → ℕ → Type 0
 HasCode bytes n = (there : Reader) × InSection bytes 10 n there
 
--- The C struct is a place of this module: before a body and the index of a type, or after the last body.
+-- The C struct is a place of this module: before a body and a type index, or after the last body.
 abbrev pub IsPlace : List ℕ → WasmBodies → Type 0
 IsPlace bytes c = ((c.left ≡ 0) × ((c.code ≡ 0) ⊎ HasCode bytes c.code)) ⊎ ((0 < c.left) × HasType bytes c.types × HasCode bytes c.code)
 
--- Data is left in the code section, and this is the error.
+-- Data is left in the code section, which is this error.
 abbrev pub LeavesData : Error → List ℕ → ℕ → Type 0
 LeavesData e bytes n =
     (there : Reader) × InSection bytes 10 n there × (rest there ≢ []) × (e ≡ record { message = message.DataAfterSection; offset = offset_of there })
 
--- The next body is in error.
 abbrev pub RefusesPart : Error → List ℕ → ℕ → Type 0
 RefusesPart e bytes n = (there : Reader) × InSection bytes 10 n there × IsRefusedAs (EncodesReader there.features) ReaderFault e there
 
--- Why no body is read. At the end no body is left, and the code section, if there is one, has no more data.
+-- Why no body is read. At the end, no body and no data of the code section is left.
 abbrev pub StopsBodies : NoBody → List ℕ → WasmBodies → Type 0
 StopsBodies no_body.End bytes c = (c.left ≡ 0) × ((c.code ≡ 0) ⊎ ((there : Reader) × InSection bytes 10 c.code there × (rest there ≡ [])))
 StopsBodies (no_body.Refused e) bytes c =
     ((c.left ≡ 0) × (c.code ≢ 0) × LeavesData e bytes c.code) ⊎ ((0 < c.left) × HasType bytes c.types × RefusesPart e bytes c.code)
 StopsBodies no_body.NotBodies bytes c = IsPlace bytes c → ⊥
 
--- Between the two readers, the bytes encode these bodies, each with its length before it, one after another. Their offsets are those of the module.
+-- Between the two readers, the bytes encode these bodies, each after its length, with the offsets of the module.
 abbrev pub BodiesOccur : Reader → List Reader → Reader → Type 0
 BodiesOccur r [] end = end ≡ r
 BodiesOccur r (b ∷ bs) end = (mid : Reader) × Reads (EncodesReader r.features) (Ok b) r mid × (end_of b ≡ offset_of mid) × BodiesOccur mid bs end
 
--- The module has a section with this number that declares this many items, and the reader is before the first of them.
+-- The section with this number declares `count` items, and `first` is the reader before them.
 abbrev pub StartsItems : List ℕ → ℕ → ℕ → Reader → Type 0
 StartsItems bytes id count first =
     (contents : Reader) × IsSection (module_of bytes) id (Some contents) × Reads (EncodesUnsigned 32) (Ok count) contents first
 
--- The C struct is the place after these bodies of the module, which are the first, and after as many type indices.
+-- The C struct is the place after these bodies, the first of the module, and as many type indices.
 pub record IsAfter (bytes : List ℕ) (functions : ModuleFunctions) (bodies : List Reader) (types : List ℕ) (c : WasmBodies) : Type 0 where
   pub described : DescribesFunctions (module_of bytes) functions
   pub imported : c.imported ≡ index_of functions 0
@@ -153,18 +148,25 @@ pub record IsAfter (bytes : List ℕ) (functions : ModuleFunctions) (bodies : Li
   pub as_many : length types ≡ length bodies
   pub read : c.read ≡ min (length bodies) (2 ^ 32 - 1)
 
--- The body is this part of the module, and the body of the function with this ordinal after the imported functions.
+-- The body is this part of the module. Its function is the defined function with this ordinal.
 pub record IsBodyOf (functions : ModuleFunctions) (ordinal : ℕ) (part : Reader) (body : WasmBody) : Type 0 where
   pub offset : body.offset ≡ offset_of part
   pub length : body.length ≡ length (rest part)
   pub index : body.index ≡ index_of functions ordinal
 
--- The name of the function with this index, which the module defines.
+-- A name as text: empty if its bytes are not UTF-8.
+abbrev pub text_of_name : List ℕ → List ℕ
+text_of_name name = if is_utf8 name then name else []
+
+abbrev pub name_at : ModuleFunctions → ℕ → List ℕ
+name_at t index = text_of_name (slice_index_or t.names index [])
+
+-- The name, as text, of a function that the module defines. It is empty if the function has none.
 abbrev pub NamesFunction : List ℕ → ℕ → List ℕ → Type 0
 NamesFunction bytes index name =
-    (t : ModuleFunctions) × DescribesFunctions (module_of bytes) t × IsOwn t index × (name ≡ name_at t (index - t.imported))
+    (t : ModuleFunctions) × DescribesFunctions (module_of bytes) t × IsOwn t index × (name ≡ name_at t index)
 
--- Why a function has no name: the functions can't be read, or the module does not define it.
+-- The functions can't be read, or the module does not define the function.
 abbrev pub RefusesName : BodiesFault → List ℕ → ℕ → Type 0
 RefusesName (fault.Functions f) bytes index = ModuleFunctionsFault f (module_of bytes)
 RefusesName fault.NoFunction bytes index = (t : ModuleFunctions) × DescribesFunctions (module_of bytes) t × (IsOwn t index → ⊥)

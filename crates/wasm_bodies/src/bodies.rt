@@ -1,4 +1,3 @@
-//! The place between two bodies of a module.
 ghost use Rattle.std.specs.Prelude.{◌≡◌, IfOk, IfErr};
 ghost use Rattle.wasm_bodies.specs.Bodies.{OpensBodies, RefusesBodies};
 
@@ -12,9 +11,9 @@ use wasm_functions::{Functions, ModuleFault, find_section};
 #[repr(C)]
 #[derive(Clone, Copy, Debug, PartialEq, Eq)]
 pub struct WasmBodies {
-    /// The number of bytes of the code section that were read, from its contents on.
+    /// The number of bytes of the code section's contents that were read.
     pub code: u64,
-    /// The number of bytes of the function section that were read, from its contents on.
+    /// The number of bytes of the function section's contents that were read.
     pub types: u64,
     /// The number of imported functions.
     pub imported: u32,
@@ -22,14 +21,11 @@ pub struct WasmBodies {
     pub read: u32,
     /// The number of bodies that are left.
     pub left: u32,
-    /// Always 0.
+    /// 0. `next_body` does not change it.
     pub reserved: u32,
 }
 
-/// Returns the place before the first body of a module.
-///
-/// Fails with `Functions` if the functions of the module can't be read, with `Code` if the number of
-/// bodies can't be read, and with `Counts` if it differs from the number of functions.
+/// Returns the place before the first body of a module. Fails with any fault except `NoFunction`.
 pub fn open_bodies(alloc: Global, bytes: &[u8]) -> Result<WasmBodies, BodiesFault>
     ensures opens { IfOk result (λ bodies. OpensBodies bytes.now bodies) }
     ensures fault { IfErr result (λ fault. RefusesBodies fault bytes.now) }

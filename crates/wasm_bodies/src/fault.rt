@@ -1,9 +1,7 @@
-//! The reasons why there is no body.
-
 use wasm_functions::ModuleFault;
 use wasm_functions::module::below::Error;
 
-/// The reason why the functions of a module can't be read.
+/// Why the bodies of a module, or the name of a function, can't be read.
 #[derive(Clone, Copy, Debug, PartialEq, Eq)]
 pub enum BodiesFault {
     /// The sections that describe functions are in error, or allocation failed.
@@ -16,13 +14,14 @@ pub enum BodiesFault {
     NoFunction,
 }
 
-/// The reason why no body is read.
+/// Why no body is read.
 #[derive(Clone, Copy, Debug, PartialEq, Eq)]
 pub enum NoBody {
     /// All bodies were read, and no data is left.
     End,
-    /// The next body is in error, or data is left after the last one.
+    /// The body's length is in error, the data ends within the body, or data is left after the last
+    /// one.
     Refused(Error),
-    /// The C struct is not a place between bodies of these bytes.
+    /// The place was not opened with these bytes, or was overwritten.
     NotBodies,
 }

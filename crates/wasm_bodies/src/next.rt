@@ -1,4 +1,3 @@
-//! The next body of a module.
 ghost use Rattle.std.specs.Prelude.{◌≡◌, IfOk, IfErr, IfSome, IfNone};
 ghost use Rattle.wasm_bodies.specs.Bodies.{TakesType, HasType, TakesBody, StopsBodies};
 
@@ -22,7 +21,8 @@ pub struct WasmBody {
     pub type_index: u32,
 }
 
-/// Reads the next type index. Returns it, and how many bytes of the function section are then read.
+/// Returns the next type index, and how many bytes of the function section are then read; `None` if
+/// there is no type index.
 fn read_type(bytes: &[u8], bodies: &WasmBodies) -> Option<(u32, u64)>
     ensures some { IfSome result (λ found. TakesType bytes.now bodies.now.types found.1 found.0) }
     ensures none { IfNone result (HasType bytes.now bodies.now.types → ⊥) }
@@ -38,7 +38,7 @@ fn read_type(bytes: &[u8], bodies: &WasmBodies) -> Option<(u32, u64)>
     }
 }
 
-/// Returns why no body follows a place at which none is left.
+/// Returns why there is no body after all are read.
 fn end_of_bodies(bytes: &[u8], bodies: &WasmBodies) -> NoBody
     requires { bodies.now.left ≡ 0 }
     ensures { StopsBodies result bytes.now bodies.now }
@@ -58,12 +58,7 @@ fn end_of_bodies(bytes: &[u8], bodies: &WasmBodies) -> NoBody
     }
 }
 
-/// Reads the next body of a module. The place is then after it.
-///
-/// On failure the place is unchanged. Fails with `End` if no body and no data is left, with
-/// `Refused` if the body's length can't be read, the data ends within the body, or data is left
-/// after the last body. Fails with `NotBodies` if `bodies` is not a place between bodies of these
-/// bytes: it was not opened, or was overwritten.
+/// Reads the next body of a module. The place is then after it; on failure it is unchanged.
 pub fn next_body(bytes: &[u8], bodies: &mut WasmBodies) -> Result<WasmBody, NoBody>
     ensures takes { IfOk result (λ body. TakesBody bytes.now bodies.old bodies.new body) }
     ensures stops { IfErr result (λ reason. StopsBodies reason bytes.now bodies.old) }

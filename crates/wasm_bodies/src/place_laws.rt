@@ -8,9 +8,8 @@ ghost use Rattle.wasm_bodies.specs.Bodies.{OpensBodies, TakesBody, IsAfter, IsBo
 
 use wasm_functions::function_laws::sections;
 
-/// States which body of the module a call of `next_body` reads. The place that `open_bodies` returns
-/// is after no body. A call from the place after some bodies reads the next one, and its function is
-/// the next one too.
+/// States that `open_bodies` returns the place after no body. From the place after some bodies,
+/// `next_body` reads the next body, of the next function.
 pub fn bodies_follow()
     ensures first { (bytes : List ℕ) (c : WasmBodies) (opens : OpensBodies bytes c) → 0 < c.left
         → IsAfter bytes opens.functions [] [] c }

@@ -1,4 +1,3 @@
-//! Places in the contents of a section.
 ghost use Rattle.std.specs.Prelude.{◌≡◌, ◌+◌, IfOk, IfErr, IfSome, IfNone};
 ghost use Rattle.wasm_functions.specs.of_module.below.Source.{Reader};
 ghost use Rattle.wasm_bodies.specs.Bodies.{InSection, Declares, RefusesCount};
@@ -13,8 +12,8 @@ pub const FUNCTIONS: u8 = 3;
 /// The number of the code section.
 pub const CODE: u8 = 10;
 
-/// Returns a reader of the contents of a section after `read` of their bytes, and the position of
-/// the reader before them. Returns `None` if there is no such section, or if it has fewer bytes.
+/// Returns a reader after `read` bytes of a section's contents, and the position before them.
+/// Returns `None` if there is no such section, or if it is shorter.
 pub fn place_in<'a>(bytes: &'a [u8], id: u8, read: u64) -> Option<(BinaryReader<'a>, usize)>
     ensures some { IfSome result (λ found. InSection bytes.now id read found.0) }
     ensures start { IfSome result (λ found. found.0.position ≡ found.1 + read) }
@@ -40,8 +39,8 @@ pub fn place_in<'a>(bytes: &'a [u8], id: u8, read: u64) -> Option<(BinaryReader<
     }
 }
 
-/// Reads the number of items of a section, which is 0 if there is no section. Returns it, and how
-/// many bytes of the contents it has.
+/// Returns the number of items of a section, and how many bytes encode it. Without a section both
+/// are 0.
 pub fn read_count(contents: Option<BinaryReader<'_>>) -> Result<(u32, u64)>
     ensures declares { IfOk result (λ found. Declares contents.entry found.0 found.1) }
     ensures refused { IfErr result (λ e. RefusesCount e contents.entry) }

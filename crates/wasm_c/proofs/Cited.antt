@@ -1,6 +1,7 @@
 -- The statements of the laws of `run_laws` that proofs here get as arguments.
 use Rattle.std.proofs.Common.{◌≡◌, List, []}
 use Rattle.wasm_operators.specs.below.bytes.error.Error.{Error}
+use Rattle.wasm_operators.specs.below.bytes.message.Message.TheVariants as message
 use Rattle.wasm_operators.specs.below.Source.{rest}
 use Rattle.wasm_operators.specs.instr.declared.operator.Operator.{Operator}
 use Rattle.wasm_operators.specs.opcodes.Allowed.{EncodesAllowed}
@@ -26,3 +27,8 @@ OfBeginning = (before : List Operator) (e : Error) (old new : State) (placed : P
 abbrev pub OfStops : Type 0
 OfStops = (e : Error) (s : State) → StopsRead EncodesAllowed OperatorFault (NextMayAllocate EncodesAllowed) e s →
     StopsRead EncodesAllowed OperatorFault Anywhere e s
+
+-- `memory_asked`
+abbrev pub OfMemory : Type 0
+OfMemory = (e : Error) (s : State) → StopsRun EncodesAllowed OperatorFault (NextMayAllocate EncodesAllowed) e s → e.message ≡ message.OutOfMemory →
+    NextMayAllocate EncodesAllowed s

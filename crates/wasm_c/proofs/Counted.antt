@@ -1,12 +1,12 @@
 -- If each visit adds one, the count grows by the length of the list.
-use Rattle.std.proofs.Common.{◌≡◌, ℕ, ◌+◌, ◌-◌, ◌^◌, ◌<◌, ◌≤◌, List, [], ◌∷◌, ◌++◌, length, length-append, length-drop, drop, refl, ap, sym, ◌∙◌, arith}
+use Rattle.std.proofs.Common.{◌≡◌, ℕ, ◌+◌, ◌-◌, ◌^◌, ◌<◌, ◌≤◌, List, [], ◌∷◌, ◌++◌, length, length-append, length-drop, drop, append-nil, refl, ap, sym, ◌∙◌, arith, ◌⊎◌, inl, inr}
 use Rattle.wasm_operators.specs.instr.declared.operator.Operator.{Operator}
 use Rattle.wasm_operators.specs.Expression.{Placed}
 use Rattle.wasm_operators.specs.Visiting.{VisitRun, Visited}
 use Rattle.wasm_view.specs.View.{views}
 use Rattle.wasm_view.specs.declared.view.WasmOperator.{WasmOperator}
 use Rattle.wasm_view.specs.Lists.{written}
-use Rattle.wasm_c.proofs.Written.{written_after, views_join, views_length}
+use Rattle.wasm_c.proofs.Written.{written_after, written_first, views_join, views_length}
 
 counted_run : {V A : Type 0} (total : V → ℕ) (placed : Placed) (outcomes : List A) (before after : V) →
     VisitRun (λ (s : V) (op : Operator) (a : A) (t : V). total s < 2 ^ 64 - 1 → total t ≡ total s + 1) before placed outcomes after →
@@ -41,3 +41,11 @@ array_full found more old new full is =
     let others : drop (length (views found)) old ≡ [] = drop_all old (length (views found)) (omega (arith, views_length found, full)) in
     is ∙ ap (λ list. views found ++ list) (after ∙ sym (ap (written (views more)) others)) ∙ sym (written_after (views found) (views more) old room) ∙
     ap (λ list. written list old) (sym (views_join found more))
+
+-- An array that is full, or after whose operators no operator follows.
+pub array_whole : (found more : Placed) (old new : List WasmOperator) → length found ≤ length old → (length found ≡ length old) ⊎ (length more ≡ 0) →
+    new ≡ views found ++ drop (length found) old → new ≡ written (views (found ++ more)) old
+array_whole found more old new fits (inl full) is = array_full found more old new full is
+array_whole found [] old new fits (inr none) is =
+    is ∙ sym (written_first found old fits) ∙ ap (λ list. written (views list) old) (sym (append-nil found))
+array_whole found (p ∷ ps) old new fits (inr none) is = absurd (omega (arith, none))

@@ -1,5 +1,6 @@
 -- An array that starts with the C structs of the operators that were read.
-use Rattle.std.proofs.Common.{◌≡◌, ℕ, ◌+◌, ◌<◌, ◌≤◌, List, [], ◌∷◌, ◌++◌, length, drop, set, refl, sym, subst, arith, length-append}
+use Rattle.std.proofs.Common.{◌≡◌, ℕ, ◌+◌, ◌<◌, ◌≤◌, List, [], ◌∷◌, ◌++◌, length, drop, set, Result, Ok, Err, refl, sym, subst, arith, length-append}
+use Rattle.wasm_operators.specs.below.bytes.error.Error.{Error}
 use Rattle.wasm_operators.specs.below.Source.{offset_of}
 use Rattle.wasm_operators.specs.instr.declared.operator.Operator.{Operator}
 use Rattle.wasm_operators.specs.opcodes.Allowed.{EncodesAllowed}
@@ -8,6 +9,7 @@ use Rattle.wasm_operators.specs.Reading.{State, IsUnchanged, TakesOperator, Take
 use Rattle.wasm_operators.specs.Laws.{TakesOneMore, TakesNoMore}
 use Rattle.wasm_view.specs.View.{view_of, views}
 use Rattle.wasm_view.specs.declared.view.WasmOperator.{WasmOperator}
+use Rattle.wasm_c.specs.Reads.{EndsFilling, FillsArray}
 use Rattle.wasm_c.proofs.Written.{one_more}
 
 -- The operators read since the reader was opened are at the start of the array, and its other elements are unchanged.
@@ -35,3 +37,7 @@ filled_on opened now next old out count offset op v law (found, ran, counted, fi
 pub filled_still : (opened now next : State) (old out : List WasmOperator) (count : ℕ) → TakesNoMore → Filled opened now count old out → IsUnchanged now next →
     Filled opened next count old out
 filled_still opened now next old out count law (found, ran, counted, fits, is) same = (found, law opened now next found ran same, counted, fits, is)
+
+pub filled_to : {X : Type 0} (result : Result X Error) (opened now : State) (old out : List WasmOperator) (count : ℕ) (f : Filled opened now count old out) →
+    EndsFilling result now (length f.0 ≡ length old) → (found : Placed) × FillsArray result opened now count old out found
+filled_to result opened now old out count f ends = (f.0, record { takes = f.1; counted = f.2; fits = f.3; in_array = f.4; ends = ends })

@@ -1,19 +1,23 @@
 -- What is found in two steps is found in one; and the same after the locals of a body.
-use Rattle.std.proofs.Common.{◌≡◌, ℕ, ◌+◌, ◌≤◌, List, [], ◌++◌, length, length-append, length-drop, Result, Ok, Err, refl, sym, ap, subst, ◌∙◌, arith, inl, inr}
+use Rattle.std.proofs.Common.{◌≡◌, ℕ, ◌+◌, ◌≤◌, List, [], ◌++◌, length, length-append, length-drop, Result, Ok, Err, refl, sym, ap, subst, ◌∙◌, arith, ◌⊎◌, inl, inr}
 use Rattle.wasm_operators.specs.below.bytes.error.Error.{Error}
+use Rattle.wasm_operators.specs.below.bytes.message.Message.TheVariants as message
 use Rattle.wasm_operators.specs.below.bytes.features.WasmFeatures.{WasmFeatures}
+use Rattle.wasm_operators.specs.below.Refusal.{IsReadFault}
 use Rattle.wasm_operators.specs.below.Source.{Source, Reader, rest, offset_of, source_of, end_of}
 use Rattle.wasm_operators.specs.opcodes.Allowed.{EncodesAllowed}
 use Rattle.wasm_operators.specs.opcodes.OperatorFaults.{OperatorFault}
 use Rattle.wasm_operators.specs.Body.{source_after, EncodesBody, OpensBody, StopsBody}
 use Rattle.wasm_operators.specs.Expression.{Placed, OfPlaced, EncodesExpression}
 use Rattle.wasm_operators.specs.Locals.{Declaration, IsPastLocals, RefusesLocals}
-use Rattle.wasm_operators.specs.Reading.{State, Adds, Anywhere, TakesOperators, EndsRun, RunsToEnd}
+use Rattle.wasm_operators.specs.Reading.{State, Anywhere, TakesOperators, EndsRun, RunsToEnd}
 use Rattle.wasm_operators.specs.Next.{NextMayAllocate}
 use Rattle.wasm_operators.specs.MainTheorem.{ReadSoFar}
 use Rattle.wasm_operators.specs.Laws.{TakesBoth, IsNoLonger}
-use Rattle.wasm_c.specs.Reads.{EndsBody, EndsOperators}
-use Rattle.wasm_c.proofs.Cited.{OfTree, OfBeginning, OfStops}
+use Rattle.wasm_view.specs.declared.view.WasmOperator.{WasmOperator}
+use Rattle.wasm_c.specs.Reads.{EndsBody, EndsOperators, IfMemory, MayAllocateAfter, BodyMayAllocate, FillsArray, FindsOperators}
+use Rattle.wasm_c.proofs.Cited.{OfTree, OfBeginning, OfStops, OfMemory}
+use Rattle.wasm_c.proofs.Written.{written_first}
 
 -- The contract of a body does not say when allocation may fail.
 ends_anywhere : {X : Type 0} → OfStops → (result : Result X Error) (s : State) → EndsRun EncodesAllowed OperatorFault (NextMayAllocate EncodesAllowed) result s →
@@ -27,24 +31,47 @@ ends_run : {X : Type 0} → OfTree → OfBeginning → (result : Result X Error)
 ends_run tree beginning (Ok x) opened new all read_so_far ran (closed, taken) = (tree [] opened new all read_so_far ran closed taken).encodes
 ends_run tree beginning (Err e) opened new all read_so_far ran stops = (new, beginning [] e opened new all read_so_far ran stops)
 
--- The operators found before, and those read to the end after them.
-pub ends_joined : {X : Type 0} → TakesBoth → OfTree → OfBeginning → (result : Result X Error) (opened old new : State) (found more : Placed) →
-    ReadSoFar [] opened → TakesOperators opened old found → RunsToEnd (Adds [] more) EncodesAllowed OperatorFault Anywhere result old new →
-    EndsOperators result opened (found ++ more)
-ends_joined joined tree beginning result opened old new found more read_so_far ran (placed, came, on, ends) =
-    subst (λ list. EndsOperators result opened (found ++ list)) (sym came)
-    (ends_run tree beginning result opened new (found ++ placed) read_so_far (joined opened old new found placed ran on) ends)
+asked_memory : {X : Type 0} → OfMemory → (result : Result X Error) (opened new : State) (all : Placed) → TakesOperators opened new all →
+    EndsRun EncodesAllowed OperatorFault (NextMayAllocate EncodesAllowed) result new → IfMemory result (MayAllocateAfter opened all)
+asked_memory asked (Ok x) opened new all ran ends = tt
+asked_memory asked (Err e) opened new all ran stops = λ is. record { stopped = new; takes = ran; asks = asked e new stops is }
 
--- The same if the later operators are visited.
-pub ends_visited : {X : Type 0} (Effect : OfPlaced) → TakesBoth → OfTree → OfBeginning → OfStops → (result : Result X Error) (opened old new : State)
-    (found : Placed) → ReadSoFar [] opened → TakesOperators opened old found →
+-- The operators found before, and those visited to the end after them.
+pub ends_visited : {X : Type 0} (Effect : OfPlaced) → TakesBoth → OfTree → OfBeginning → OfStops → OfMemory → (result : Result X Error)
+    (opened old new : State) (found : Placed) → ReadSoFar [] opened → TakesOperators opened old found →
     RunsToEnd Effect EncodesAllowed OperatorFault (NextMayAllocate EncodesAllowed) result old new →
-    (more : Placed) × Effect more × EndsOperators result opened (found ++ more)
-ends_visited Effect joined tree beginning stops result opened old new found read_so_far ran (placed, effect, on, ends) = (
+    (more : Placed) × Effect more × TakesOperators old new more × EndsOperators result opened (found ++ more) ×
+    IfMemory result (MayAllocateAfter opened (found ++ more))
+ends_visited Effect joined tree beginning stops asked result opened old new found read_so_far ran (placed, effect, on, ends) = (
   placed,
   effect,
+  on,
   ends_run tree beginning result opened new (found ++ placed) read_so_far (joined opened old new found placed ran on) (ends_anywhere stops result new ends),
+  asked_memory asked result opened new (found ++ placed) (joined opened old new found placed ran on) ends,
 )
+
+-- A read that failed in the array.
+pub found_stopped : {X : Type 0} → OfTree → OfBeginning → OfStops → OfMemory → (e : Error) (opened new : State) (count : ℕ) (old out : List WasmOperator)
+    (found : Placed) → ReadSoFar [] opened → FillsArray {X = X} (Err e) opened new count old out found →
+    FindsOperators {X = X} (Err e) opened count old out found
+found_stopped {X} tree beginning stops asked e opened new count old out found read_so_far f = record {
+  ends = ends_run {X = X} tree beginning (Err e) opened new found read_so_far f.takes (ends_anywhere {X = X} stops (Err e) new f.ends);
+  memory = asked_memory {X = X} asked (Err e) opened new found f.takes f.ends;
+  counted = f.counted;
+  in_array = f.in_array ∙ sym (written_first found old f.fits);
+}
+
+-- After all data was read, no operator follows.
+none_left : (old new : State) (more : Placed) → IsNoLonger old.reader.features → rest old.reader ≡ [] → TakesOperators old new more → length more ≡ 0
+none_left old new more lengths none on =
+    let few = lengths (offset_of old.reader) more on.text on.laid in
+    let sum : length (rest old.reader) ≡ length on.text + length (rest new.reader) = ap length on.takes.parts ∙ length-append on.text (rest new.reader) in
+    omega (arith, few, sum, ap length none)
+
+pub full_or_none : (Full : Type 0) (old new : State) (more : Placed) → IsNoLonger old.reader.features → Full ⊎ (rest old.reader ≡ []) →
+    TakesOperators old new more → Full ⊎ (length more ≡ 0)
+full_or_none Full old new more lengths (inl full) on = inl full
+full_or_none Full old new more lengths (inr none) on = inr (none_left old new more lengths none on)
 
 -- The number of operators is at most that of the bytes.
 pub ends_few : {X : Type 0} (result : Result X Error) (opened : State) (placed : Placed) → IsNoLonger opened.reader.features →
@@ -85,6 +112,16 @@ pub ends_body : {X : Type 0} (result : Result X Error) (body : Reader) (opened :
     EndsOperators result opened placed → EndsBody result body placed
 ends_body (Ok x) body opened placed ((declarations, past), fresh) h = (declarations, body_after_locals body opened.reader declarations placed past h)
 ends_body (Err e) body opened placed opens h = inr (record { opened = opened; opens = opens; stopped = h.0; reads = h.1 })
+
+-- When reading its operators may allocate.
+pub memory_body : {X : Type 0} (result : Result X Error) (body : Reader) (opened : State) (placed : Placed) → OpensBody (Ok opened) body →
+    IfMemory result (MayAllocateAfter opened placed) → IfMemory result (BodyMayAllocate body placed)
+memory_body (Ok x) body opened placed opens h = tt
+memory_body (Err e) body opened placed opens h = λ is. record { opened = opened; opens = opens; next = h is }
+
+-- Reading locals does not allocate.
+pub no_memory : (P : Type 0) (e : Error) (body : Reader) → RefusesLocals e body → e.message ≡ message.OutOfMemory → P
+no_memory P e body h is = absurd (subst IsReadFault is h.refusal.fault)
 
 -- A body whose locals are an error.
 pub refused_locals : (e : Error) (body : Reader) → RefusesLocals e body → StopsBody e body []

@@ -11,5 +11,7 @@ pub mod Steps
 pub mod Batch
 pub mod Named
 pub mod Members
+pub mod ValueReads
+pub mod BeforeSimd
 pub mod Whole
 pub mod Room

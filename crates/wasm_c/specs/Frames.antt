@@ -1,5 +1,4 @@
--- Open frames as bytes, and the effects of operators on them.
--- WebAssembly Core Specification 3.0: Appendix, Validation Algorithm, control frames.
+-- Specification: Appendix, Validation Algorithm, control frames.
 use Rattle.std.specs.Prelude.{◌==◌, ℕ, List, [], ◌∷◌, ◌++◌, map, if◌then◌else◌}
 use Rattle.wasm_operators.specs.grammar.declared.frame_kind.FrameKind.{FrameKind}
 use Rattle.wasm_operators.specs.grammar.declared.frame_kind.FrameKind.TheVariants as frame
@@ -8,7 +7,7 @@ use Rattle.wasm_operators.specs.grammar.Role.{Role, plain, opens, opens_if, open
 use Rattle.wasm_c.specs.declared.frames.FrameChange.{FrameChange}
 use Rattle.wasm_c.specs.declared.frames.FrameChange.TheVariants as change
 
--- The kind of a frame from its byte; a byte of no kind counts as a block.
+-- The kind of a frame. A byte of no kind counts as a block.
 abbrev pub kind_of : ℕ → FrameKind
 kind_of byte =
     if byte == 1 then frame.If else (

@@ -1,5 +1,4 @@
--- The list of the operator at an offset.
--- WebAssembly Core Specification 3.0: Binary Format, Instructions.
+-- Specification: Binary Format, Instructions.
 use Rattle.std.specs.Prelude.{◌≡◌, ℕ, ◌+◌, ◌-◌, ◌^◌, ◌<◌, ◌≤◌, List, ◌++◌, length, Option, Some, None, Result, Ok, Err, ◌⊎◌}
 use Rattle.wasm_operators.specs.below.bytes.error.Error.{Error}
 use Rattle.wasm_operators.specs.below.Features.{features_of}
@@ -15,15 +14,15 @@ use Rattle.wasm_c.specs.declared.refusal.WasmRefusal.{WasmRefusal}
 use Rattle.wasm_c.specs.Reads.{IsWithin}
 use Rattle.wasm_c.specs.Refused.{no_refusal, refusal_of, misuse}
 
--- The bytes from the offset `at` on; `offset` is the offset of the first of the bytes.
+-- The bytes from the offset `at` on, if the first has the offset `offset`.
 abbrev pub bytes_at : List ℕ → ℕ → ℕ → ℕ → Reader
 bytes_at bytes offset features at = at_position (reader_of (features_of features) offset bytes) (at - offset)
 
--- An encoding of the operator is at the start of what is left.
+-- The operator is encoded here.
 abbrev pub OccursThere : Reader → Operator → Type 0
 OccursThere input op = (text more : List ℕ) × (rest input ≡ text ++ more) × EncodesOperator input.features op text
 
--- Reading an operator here, inside a block, fails with this error.
+-- Reading an operator here, inside a block, fails.
 abbrev pub RefusesThere : WasmRefusal → Reader → Type 0
 RefusesThere r input =
     (e : Error) × (r ≡ refusal_of e) × RefusesOperator (EncodesAllowed input.features frame.Block) (OperatorFault input.features frame.Block) e input input
@@ -32,13 +31,11 @@ RefusesThere r input =
 abbrev pub Unchanged : {X : Type 0} → ℕ → ℕ → List X → List X → Type 0
 Unchanged count_old count_new old new = (count_new ≡ count_old) × (new ≡ old)
 
--- The operator that is encoded here, or the error of reading one.
 abbrev pub ReturnsThere : Result Operator WasmRefusal → Reader → Type 0
 ReturnsThere (Ok op) input = OccursThere input op
 ReturnsThere (Err r) input = RefusesThere r input
 
--- The result of a call at an offset. Unknown features, bytes past the largest offset, and an offset before the first byte or past the end are misuse. For any
--- other offset, the end included, `There` says what holds of the bytes from there on.
+-- The result of a call at an offset: misuse, or what `There` says of the bytes from there on. The offset may be that of the end.
 pub record AtOffset (IsMisuse : ℕ → ℕ → Type 0) (There : Reader → Type 0) (bytes : List ℕ) (offset features at : ℕ) : Type 0 where
   pub unknown : 64 ≤ features → IsMisuse 100 offset
   pub past : features < 64 → 2 ^ 64 ≤ offset + length bytes → IsMisuse 101 offset
@@ -50,18 +47,18 @@ pub record AtOffset (IsMisuse : ℕ → ℕ → Type 0) (There : Reader → Type
 abbrev pub ReadsAt : Result Operator WasmRefusal → List ℕ → ℕ → ℕ → ℕ → Type 0
 ReadsAt result bytes offset features at = AtOffset (λ number place. result ≡ Err (misuse number place)) (ReturnsThere result) bytes offset features at
 
--- The members of an operator's list from an index on, or 104 if it has no such list.
+-- The members of a list from `index` on are placed; without a list, the error is 104.
 abbrev pub ReportsMembers : {X : Type 0} → Option (List X) → WasmRefusal → ℕ → ℕ → ℕ → ℕ → List X → List X → Type 0
 ReportsMembers None r at index count_old count_new old new = (r ≡ misuse 104 at) × Unchanged count_old count_new old new
 ReportsMembers (Some members) r at index count_old count_new old new = (r ≡ no_refusal at) × PlacesMembers members index old count_new new
 
--- The same for the operator that is encoded here, or the error of reading one.
+-- As `ReportsMembers`, for the operator that is encoded here, or the error of reading one.
 abbrev pub FindsMembers : {X : Type 0} → (Operator → Option (List X)) → WasmRefusal → Reader → ℕ → ℕ → ℕ → ℕ → List X → List X → Type 0
 FindsMembers members_of r input at index count_old count_new old new =
     ((op : Operator) × OccursThere input op × ReportsMembers (members_of op) r at index count_old count_new old new)
     ⊎ (RefusesThere r input × Unchanged count_old count_new old new)
 
--- The result of a call for the list of the operator at an offset, or misuse.
+-- A call for the list of the operator at an offset.
 abbrev pub ReturnsList : {X : Type 0} → (Operator → Option (List X)) → WasmRefusal → List ℕ → ℕ → ℕ → ℕ → ℕ → ℕ → ℕ → List X → List X → Type 0
 ReturnsList members_of r bytes offset features at index count_old count_new old new =
     AtOffset (λ number place. (r ≡ misuse number place) × Unchanged count_old count_new old new)

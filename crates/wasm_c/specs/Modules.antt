@@ -1,5 +1,5 @@
 -- The bodies of a module's functions as C structs, one after another, and the names of functions.
--- WebAssembly Core Specification 3.0: Binary Format, Modules, Code Section; Appendix, Custom Sections, Name Section.
+-- Specification: Binary Format, Modules, Code Section; Appendix, Custom Sections, Name Section.
 use Rattle.std.specs.Prelude.{◌≡◌, ℕ, List, ◌⊎◌}
 use Rattle.wasm_bodies.specs.functions.declared.fault.ModuleFault.{ModuleFault}
 use Rattle.wasm_bodies.specs.functions.declared.fault.ModuleFault.TheVariants as whole_fault
@@ -32,31 +32,31 @@ refusal_of_module (whole_fault.ImportKind byte offset) = reported offset 107 0 b
 refusal_of_module (whole_fault.TypeKind byte offset) = reported offset 108 0 byte
 refusal_of_module whole_fault.Memory = out_of_memory 0
 
--- The same for the bodies of a module, and the name of a function.
+-- The C struct of the error if the bodies of a module, or the name of a function, can't be read.
 abbrev pub refusal_of_bodies : BodiesFault → WasmRefusal
 refusal_of_bodies (fault.Functions f) = refusal_of_module f
 refusal_of_bodies (fault.Code e) = refusal_of e
 refusal_of_bodies fault.Counts = misuse 109 0
 refusal_of_bodies fault.NoFunction = misuse 110 0
 
--- The same for the next body.
+-- The C struct of the reason why there is no next body.
 abbrev pub refusal_of_next : NoBody → WasmRefusal
 refusal_of_next no_body.End = misuse 111 0
 refusal_of_next (no_body.Refused e) = refusal_of e
 refusal_of_next no_body.NotBodies = misuse 103 0
 
--- One call of `wasm_open_bodies`: the place before the first body, or an error, and then nothing changes.
+-- `wasm_open_bodies` returns the place before the first body, or an error, and then nothing changes.
 abbrev pub ReturnsBodies : WasmRefusal → List ℕ → WasmBodies → WasmBodies → Type 0
 ReturnsBodies r bytes old new =
     ((r ≡ no_refusal 0) × OpensBodies bytes new) ⊎ ((new ≡ old) × (f : BodiesFault) × (r ≡ refusal_of_bodies f) × RefusesBodies f bytes)
 
--- One call of `wasm_next_body`: the next body, or the reason why there is none, and then nothing changes.
+-- `wasm_next_body` returns the next body, or why none follows, and then nothing changes.
 abbrev pub ReturnsBody : WasmRefusal → List ℕ → WasmBodies → WasmBodies → WasmBody → WasmBody → Type 0
 ReturnsBody r bytes old new body_old body_new =
     ((r ≡ no_refusal body_new.offset) × TakesBody bytes old new body_new) ⊎
     ((new ≡ old) × (body_new ≡ body_old) × (reason : NoBody) × (r ≡ refusal_of_next reason) × StopsBodies reason bytes old)
 
--- One call of `wasm_function_name`: the function's name is written if it fits; or it has none, and nothing changes.
+-- `wasm_function_name` writes the name if it fits. If it can't be found, nothing changes.
 abbrev pub ReturnsName : WasmRefusal → List ℕ → ℕ → ℕ → ℕ → List ℕ → List ℕ → Type 0
 ReturnsName r bytes index count_old count_new old new =
     ((name : List ℕ) × NamesFunction bytes index name × PlacesText name 0 r count_new old new) ⊎

@@ -1,5 +1,4 @@
--- The text and the name of the operator at an offset, as the text format has them.
--- WebAssembly Core Specification 3.0: Text Format, Instructions; Binary Format, Instructions.
+-- Specification: Text Format, Instructions; Binary Format, Instructions.
 use Rattle.std.specs.Prelude.{◌≡◌, ◌==◌, ℕ, ◌<◌, ◌≤◌, List, [], ◌∷◌, length, ◌⊎◌, if◌then◌else◌}
 use Rattle.wasm_operators.specs.below.bytes.error.Error.{Error}
 use Rattle.wasm_operators.specs.below.bytes.message.Message.TheVariants as message
@@ -15,8 +14,7 @@ use Rattle.wasm_c.specs.declared.refusal.WasmRefusal.{WasmRefusal}
 use Rattle.wasm_c.specs.Members.{AtOffset, OccursThere, Unchanged}
 use Rattle.wasm_c.specs.Refused.{no_refusal, refusal_of, misuse}
 
--- A frame that allows the operator with this opcode, if one does: `else` needs an `if`, and `catch`, `catch_all` and `delegate` need a legacy `try`.
--- A block allows all others.
+-- A frame that allows the operator with this opcode, if one does. A block allows all but `else`, `catch`, `catch_all` and `delegate`.
 abbrev pub frame_for : List ℕ → FrameKind
 frame_for [] = frame.Block
 frame_for (byte ∷ bytes) =
@@ -25,11 +23,11 @@ frame_for (byte ∷ bytes) =
     if byte == 0x18 then frame.LegacyTry else (
     if byte == 0x19 then frame.LegacyTry else frame.Block)))
 
--- The error of a failed allocation for a text, at this offset.
+-- The error of a failed allocation, at this offset.
 abbrev pub out_of_memory : ℕ → WasmRefusal
 out_of_memory at = refusal_of (record { message = message.OutOfMemory; offset = at })
 
--- A text is written to the start of the array, if it fits. Otherwise the array is unchanged, which is misuse. In both cases `count` is the text's length.
+-- The array starts with the text if it fits. Otherwise it is unchanged: misuse. `count` is the text's length.
 abbrev pub PlacesText : List ℕ → ℕ → WasmRefusal → ℕ → List ℕ → List ℕ → Type 0
 PlacesText text at r count old new = (count ≡ length text) ×
     (((length text ≤ length old) × (r ≡ no_refusal at) × (new ≡ written text old)) ⊎
@@ -41,12 +39,12 @@ RefusesText r input at =
     ((e : Error) × (r ≡ refusal_of e) × RefusesOperator (EncodesAllowed input.features (frame_for (rest input))) (OperatorFault input.features (frame_for (rest input))) e input input)
     ⊎ (r ≡ out_of_memory at)
 
--- The text of the operator that is encoded here is written; or there is none, and nothing changes.
+-- The text of the operator here is written; or there is none, and nothing changes.
 abbrev pub FindsText : (Operator → List ℕ) → WasmRefusal → Reader → ℕ → ℕ → ℕ → List ℕ → List ℕ → Type 0
 FindsText text_of r input at count_old count_new old new =
     ((op : Operator) × OccursThere input op × PlacesText (text_of op) at r count_new old new) ⊎ (RefusesText r input at × Unchanged count_old count_new old new)
 
--- The result of a call for the text of the operator at an offset, or misuse.
+-- A call for the text of the operator at an offset.
 abbrev pub ReturnsTextAt : (Operator → List ℕ) → WasmRefusal → List ℕ → ℕ → ℕ → ℕ → ℕ → ℕ → List ℕ → List ℕ → Type 0
 ReturnsTextAt text_of r bytes offset features at count_old count_new old new =
     AtOffset (λ number place. (r ≡ misuse number place) × Unchanged count_old count_new old new)

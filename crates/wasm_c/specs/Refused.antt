@@ -18,7 +18,7 @@ use Rattle.wasm_operators.specs.below.bytes.message.TypeName.TheVariants as type
 use Rattle.wasm_operators.specs.below.Refusal.{number_of}
 use Rattle.wasm_c.specs.declared.refusal.WasmRefusal.{WasmRefusal}
 
--- The numbers of the names in texts, each list counted from 0.
+-- The numbers of the names in texts.
 abbrev pub instruction_number : InstructionName → ℕ
 instruction_number instruction_name.Else = 0
 instruction_number instruction_name.Try = 1
@@ -52,8 +52,7 @@ type_number type_name.ValueType = 0
 type_number type_name.ReferenceType = 1
 type_number type_name.HeapType = 2
 
--- The number of the name in a message's text. For a subopcode it is the prefix byte. A number that is too large has 16 more than one that is too long. A
--- frame adds 16 times its number. An ordering has 1 if its byte is shown in hexadecimal.
+-- The number of the name in a message's text, which also tells messages of one number apart.
 abbrev pub reported_name : Message → ℕ
 reported_name (message.FeatureRequired name) = instruction_number name
 reported_name (message.IntegerTooLong name) = number_name_number name
@@ -75,7 +74,7 @@ reported_value (message.InvalidCastFlags flags) = flags
 reported_value (message.InvalidLeadingByte byte name) = byte
 reported_value _ = 0
 
--- The C struct with these numbers.
+-- The C struct with this offset, error number, name's number and value.
 abbrev pub reported : ℕ → ℕ → ℕ → ℕ → WasmRefusal
 reported offset number name value = record { offset = offset; number = number; name = name; value = value; reserved = 0 }
 

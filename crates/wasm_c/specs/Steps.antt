@@ -1,4 +1,3 @@
--- Readers of operators as C structs, and the results of their calls.
 use Rattle.std.specs.Prelude.{◌≡◌, ℕ, ◌+◌, ◌-◌, ◌^◌, ◌<◌, ◌≤◌, List, [], ◌∷◌, ◌++◌, length, take, drop, Some, Result, Ok, Err, ◌⊎◌}
 use Rattle.wasm_operators.specs.below.bytes.error.Error.{Error}
 use Rattle.wasm_operators.specs.below.Features.{features_of}
@@ -23,19 +22,17 @@ use Rattle.wasm_c.specs.Frames.{kinds}
 use Rattle.wasm_c.specs.Reads.{IsWithin}
 use Rattle.wasm_c.specs.Refused.{no_refusal, refusal_of, refusal_at, misuse}
 
--- The C struct is a reader of these bytes, for an array of `room` frames.
+-- A reader of these bytes, for an array of `room` frames.
 pub record IsReader (bytes : List ℕ) (room : ℕ) (r : WasmReader) : Type 0 where
   pub features : r.features < 64
   pub offsets : IsWithin r.offset bytes
   pub position : r.position ≤ length bytes
   pub depth : r.depth ≤ room
 
--- The reader of the bytes at the C struct's position.
 abbrev pub reader_at : List ℕ → WasmReader → Reader
 reader_at bytes r = at_position (reader_of (features_of r.features) r.offset bytes) r.position
 
--- The state of an operators reader that the C struct and the array of frames represent. The first `depth` frames are open, and the rest of the array is the
--- capacity. If no frame is open, the capacity is all of the array except its first element.
+-- The state that the C struct and the array represent. The first `depth` frames are open, the others capacity, except the first if none is open.
 abbrev pub state_at : List ℕ → WasmReader → List ℕ → State
 state_at bytes r frames = record {
   reader = reader_at bytes r;
@@ -43,11 +40,10 @@ state_at bytes r frames = record {
   room = (length frames - 1) - (r.depth - 1);
 }
 
--- The same reader at another position, with another number of open frames.
 abbrev pub reader_moved : WasmReader → ℕ → ℕ → WasmReader
 reader_moved r position depth = record { offset = r.offset; position = position; depth = depth; features = r.features; reserved = r.reserved }
 
--- An operator is read, and `view` is its C struct. Of the reader, only the position and the number of open frames change.
+-- An operator is read, with the C struct `view`. Only the reader's position and number of open frames change.
 pub record TakesPlain (bytes : List ℕ) (old new : WasmReader) (frames_old frames_new : List ℕ) (view : WasmOperator) : Type 0 where
   pub op : Operator
   pub was : IsReader bytes (length frames_old) old
@@ -69,7 +65,7 @@ pub record FindsNoRoom (s : State) : Type 0 where
   pub opens : opened_by op ≡ 1
   pub full : s.room ≡ 0
 
--- Why no operator is read: the next one is an error, its frame has no space, or the C struct is not a reader.
+-- Why no operator is read.
 abbrev pub StopsPlain : WasmRefusal → List ℕ → WasmReader → List ℕ → Type 0
 StopsPlain r bytes reader frames =
     (IsReader bytes (length frames) reader × (e : Error) × (r ≡ refusal_of e) ×
@@ -77,28 +73,27 @@ StopsPlain r bytes reader frames =
     ⊎ ((IsReader bytes (length frames) reader × (r ≡ misuse 102 (offset_of (reader_at bytes reader))) × FindsNoRoom (state_at bytes reader frames))
     ⊎ ((IsReader bytes (length frames) reader → ⊥) × (r ≡ misuse 103 reader.offset)))
 
--- One read: an operator is read; or none is, and nothing changes.
+-- An operator is read; or none is, and nothing changes.
 abbrev pub ReadsPlain : Result WasmOperator WasmRefusal → List ℕ → WasmReader → WasmReader → List ℕ → List ℕ → Type 0
 ReadsPlain (Ok view) bytes old new frames_old frames_new = TakesPlain bytes old new frames_old frames_new view
 ReadsPlain (Err r) bytes old new frames_old frames_new = (new ≡ old) × (frames_new ≡ frames_old) × StopsPlain r bytes old frames_old
 
--- The same if the reader of the bytes ahead is already known; it is then at the new position.
+-- As `ReadsPlain`. On `Ok`, `ahead` is then the reader of the bytes at the new position.
 abbrev pub StepsPlain : Result (Unit {0}) WasmRefusal → List ℕ → WasmReader → WasmReader → List ℕ → List ℕ → WasmOperator → Reader → Type 0
 StepsPlain (Ok done) bytes old new frames_old frames_new view ahead =
     TakesPlain bytes old new frames_old frames_new view × (ahead ≡ reader_at bytes new)
 StepsPlain (Err r) bytes old new frames_old frames_new view ahead = (new ≡ old) × (frames_new ≡ frames_old) × StopsPlain r bytes old frames_old
 
--- One call of `wasm_next`: an operator is read and written to its place; or none is read, and nothing changes.
+-- `wasm_next` reads an operator and writes its C struct; or it reads none, and nothing changes.
 abbrev pub ReturnsNext : WasmRefusal → List ℕ → WasmReader → WasmReader → List ℕ → List ℕ → WasmOperator → WasmOperator → Type 0
 ReturnsNext r bytes old new frames_old frames_new out_old out_new =
     ((r ≡ no_refusal (offset_of (reader_at bytes new))) × ReadsPlain (Ok out_new) bytes old new frames_old frames_new)
     ⊎ (ReadsPlain (Err r) bytes old new frames_old frames_new × (out_new ≡ out_old))
 
--- The error before a SIMD operator, at its offset.
 abbrev pub unexpected_simd : ℕ → Error
 unexpected_simd offset = record { message = message.UnexpectedSimd; offset = offset }
 
--- The C struct is a reader with an open frame, and the next byte is the prefix byte of SIMD operators.
+-- The C struct is a reader with an open frame, before the byte 0xfd.
 pub record IsBeforeSimd (bytes : List ℕ) (reader : WasmReader) (frames : List ℕ) : Type 0 where
   pub is_reader : IsReader bytes (length frames) reader
   pub open_frame : 0 < reader.depth
@@ -109,7 +104,7 @@ abbrev pub RefusesSimd : {X : Type 0} → Result X WasmRefusal → List ℕ → 
 RefusesSimd result bytes old new frames_old frames_new =
     (result ≡ Err (refusal_of (unexpected_simd (offset_of (reader_at bytes old))))) × (new ≡ old) × (frames_new ≡ frames_old)
 
--- One call of `wasm_next_plain`: before a SIMD operator it fails, and nothing changes. Otherwise it is a call of `wasm_next`.
+-- `wasm_next_plain` fails before a SIMD operator, and nothing changes. Otherwise it is a call of `wasm_next`.
 pub record ReturnsNextPlain (r : WasmRefusal) (bytes : List ℕ) (old new : WasmReader) (frames_old frames_new : List ℕ) (out_old out_new : WasmOperator) : Type 0 where
   pub simd : IsBeforeSimd bytes old frames_old →
       (r ≡ refusal_of (unexpected_simd (offset_of (reader_at bytes old)))) × (new ≡ old) × (frames_new ≡ frames_old) × (out_new ≡ out_old)
@@ -126,7 +121,7 @@ FinishesPlain r bytes reader frames =
 abbrev pub fresh_reader : ℕ → ℕ → ℕ → WasmReader
 fresh_reader offset features position = record { offset = offset; position = position; depth = 1; features = features; reserved = 0 }
 
--- Why nothing is opened: unknown features, bytes past the largest offset, or no space for a frame. Nothing changes then.
+-- Why nothing is opened; then nothing changes.
 pub record RefusesOpening (r : WasmRefusal) (bytes : List ℕ) (offset features : ℕ) (old new : WasmReader) (frames_old frames_new : List ℕ) : Type 0 where
   pub unknown : 64 ≤ features → (r ≡ misuse 100 offset) × (new ≡ old) × (frames_new ≡ frames_old)
   pub past : features < 64 → 2 ^ 64 ≤ offset + length bytes → (r ≡ misuse 101 offset) × (new ≡ old) × (frames_new ≡ frames_old)
@@ -150,20 +145,19 @@ pub record OpensPlain (r : WasmRefusal) (bytes : List ℕ) (offset features : �
   pub opens : features < 64 → IsWithin offset bytes → (frames_old ≡ [] → ⊥) → OpensAfterLocals r bytes offset features old new frames_old frames_new
   pub refuses : RefusesOpening r bytes offset features old new frames_old frames_new
 
--- Reads of these operators, one after another, each with the offset of its first byte.
+-- Reads of these operators, each with the offset of its first byte.
 abbrev pub ReadsEach : State → Placed → State → Type 0
 ReadsEach old [] new = new ≡ old
 ReadsEach old (p ∷ ps) new =
     (between : State) × TakesOperator EncodesAllowed p.0 old between × (p.1 ≡ offset_of old.reader) × ReadsEach between ps new
 
--- Why a batch ends: the array is full, all bytes are read, or no operator is read at the position.
+-- A batch ends if the array is full (`Full`), the data ends, or no operator can be read.
 abbrev pub EndsBatch : WasmRefusal → List ℕ → WasmReader → List ℕ → Type 0 → Type 0
 EndsBatch r bytes reader frames Full =
     ((r ≡ no_refusal (offset_of (reader_at bytes reader))) × IsReader bytes (length frames) reader × (Full ⊎ (rest (reader_at bytes reader) ≡ [])))
     ⊎ StopsPlain r bytes reader frames
 
--- A batch of reads: the C structs of these operators are at the start of the array, and its other elements are unchanged. If the C struct is not a reader,
--- none is read. If none is read, nothing changes. A reader remains a reader; only its position and the number of open frames change.
+-- A batch of reads: the C structs of these operators are at the start of the array, and its other elements are unchanged.
 pub record ReadsBatch (r : WasmRefusal) (count : ℕ) (bytes : List ℕ) (old new : WasmReader) (frames_old frames_new : List ℕ) (out_old out_new : List WasmOperator) : Type 0 where
   pub placed : Placed
   pub reads : ReadsEach (state_at bytes old frames_old) placed (state_at bytes new frames_new)

@@ -1,4 +1,4 @@
--- The texts of errors. docs/ERRORS-AND-FEATURES.md has the table.
+-- docs/ERRORS-AND-FEATURES.md has the table.
 use Rattle.std.specs.Prelude.{◌≡◌, ◌==◌, ℕ, ◌+◌, ◌-◌, ◌/◌, ◌%◌, List, [], ◌∷◌, ◌++◌, length, map, true, false, if◌then◌else◌, nat_lt, Option, Some, None, codes}
 use Rattle.std.specs.Option.{option_map, option_and_then}
 use Rattle.std.specs.Fmt.{digits, decimal}
@@ -64,7 +64,7 @@ message_text message.TooManyLocals = codes "too many locals"
 message_text (message.InvalidType name) = codes "invalid " ++ type_name_text name
 message_text message.DataAfterSection = codes "unexpected data at the end of the section"
 
--- The names of numbers, for each list of names.
+-- The names in messages, by number.
 abbrev pub instruction_numbered : ℕ → Option InstructionName
 instruction_numbered n =
     if n == 0 then Some instruction_name.Else else (
@@ -100,12 +100,12 @@ type_numbered n =
     if n == 1 then Some type_name.ReferenceType else (
     if n == 2 then Some type_name.HeapType else None))
 
--- The message for a number that does not fit: too long below 16, too large from 16 on.
+-- The message for an integer that does not fit, by the number of its name: too long below 16, too large from 16 on.
 abbrev pub integer_numbered : ℕ → Option Message
 integer_numbered name =
     if nat_lt name 16 then option_map message.IntegerTooLong (number_name_numbered name) else option_map message.IntegerTooLarge (number_name_numbered (name - 16))
 
--- The message for a frame, from the instruction's number and 16 times the frame's number.
+-- The message for a wrong frame; `name` is the instruction's number plus 16 times the frame's.
 abbrev pub frames_numbered : ℕ → Option Message
 frames_numbered name =
     option_and_then (λ instruction. option_map (λ frame. message.WrongFrame instruction frame) (frame_numbered (name / 16))) (instruction_numbered (name % 16))
@@ -114,7 +114,6 @@ abbrev pub ordering_numbered : ℕ → ℕ → Option Message
 ordering_numbered name value =
     if name == 0 then Some (message.InvalidOrdering value false) else (if name == 1 then Some (message.InvalidOrdering value true) else None)
 
--- The messages whose text has no name or value.
 abbrev pub bare_numbered : ℕ → Option Message
 bare_numbered number =
     if number == 1 then Some message.EndOfData else (
@@ -133,7 +132,8 @@ bare_numbered number =
     if number == 23 then Some message.TooManyLocals else (
     if number == 25 then Some message.DataAfterSection else None))))))))))))))
 
--- The message with these numbers. Numbers that its text does not show are ignored.
+-- The message with this error number, the number of the name in its text (`name`), and the `value` in its text. What its text lacks is ignored. `None` if no
+-- message has these numbers.
 abbrev pub message_numbered : ℕ → ℕ → ℕ → Option Message
 message_numbered number name value =
     if number == 2 then option_map message.FeatureRequired (instruction_numbered name) else (
@@ -151,12 +151,12 @@ message_numbered number name value =
 abbrev pub text_of_refusal : WasmRefusal → Option (List ℕ)
 text_of_refusal r = option_map message_text (message_numbered r.number r.name r.value)
 
--- A call that writes this text to an array, as much of it as fits, and returns the length of the whole text. Without a text it writes nothing, and returns 0.
+-- The array starts with as much of the text as fits, and the result is the text's length. Without a text nothing changes, and the result is 0.
 abbrev pub ReturnsText : Option (List ℕ) → List ℕ → ℕ → List ℕ → Type 0
 ReturnsText None old result new = (result ≡ 0) × (new ≡ old)
 ReturnsText (Some text) old result new = (result ≡ length text) × (new ≡ written text old)
 
--- The same for a piece that follows `at` bytes, whatever they are; the result is the index after the piece.
+-- A call that writes the text `piece` from index `at` of an array on, as much as fits, and returns `at` plus the length of `piece`.
 abbrev pub PutsPiece : List ℕ → ℕ → List ℕ → ℕ → List ℕ → Type 0
 PutsPiece piece at old result new =
     (result ≡ at + length piece) × ((before room : List ℕ) → at ≡ length before → old ≡ written before room → new ≡ written (before ++ piece) room)

@@ -1,5 +1,4 @@
--- Values at a reader's position, as C structs.
--- WebAssembly Core Specification 3.0: Binary Format, Values; Types; Instructions, Control Instructions and Expressions; Modules, Code Section.
+-- Specification: Binary Format, Values; Types; Instructions, Control Instructions and Expressions; Modules, Code Section.
 use Rattle.std.specs.Prelude.{◌≡◌, ℕ, ◌+◌, ◌≤◌, ◌<◌, ◌⊎◌, List, [], ◌∷◌, length, ℤ, true, Some, Result, Ok, Err, slice_get}
 use Rattle.std.specs.Int.{w32, w64, cast_unsigned}
 use Rattle.wasm_operators.specs.below.bytes.error.Error.{Error}
@@ -38,11 +37,10 @@ use Rattle.wasm_c.specs.Steps.{IsReader, reader_at, reader_moved}
 abbrev pub number_value : ℕ → WasmValue
 number_value n = record { number = n; kind = 0; index = 0 }
 
--- The C struct of a signed number, which is sign-extended to 64 bits.
+-- A signed number, sign-extended to 64 bits.
 abbrev pub signed_value : ℤ → WasmValue
 signed_value n = number_value (cast_unsigned w64 n)
 
--- The C struct of a number, followed by the kind and the index of a type.
 abbrev pub typed_value : ℕ → ℕ → ℕ → WasmValue
 typed_value n kind index = record { number = n; kind = kind; index = index }
 
@@ -62,15 +60,15 @@ of_heap_type ty = typed_value 0 (heap_kind ty) (heap_index ty)
 abbrev pub of_block_type : BlockType → WasmValue
 of_block_type ty = typed_value 0 (block_kind ty) (block_index ty)
 
--- The C struct of a declaration of locals: their number and their type.
+-- A declaration of locals: how many, and their type.
 abbrev pub of_declaration : Declaration → WasmValue
 of_declaration d = typed_value d.0 (value_kind d.1) (value_index d.1)
 
--- The C struct of a clause: its form, its tag as the number, and its label as the index.
+-- A clause: the tag is the number, and the label the index.
 abbrev pub of_handler : WasmHandler → WasmValue
 of_handler h = typed_value h.tag h.kind h.label
 
--- A read of what the bytes encode, as a C struct; or the error of these bytes, and then nothing is read.
+-- A read as a C struct; or the error of these bytes, and then nothing is read.
 abbrev pub ReadsAs : {X : Type 0} → (List ℕ → X → Type 0) → (X → WasmValue) → (Message → Reader → ℕ → Type 0) → Result WasmValue Error → Reader → Reader → Type 0
 ReadsAs {X} Encodes value Fault (Ok v) old new = (x : X) × Reads Encodes (Ok x) old new × (v ≡ value x)
 ReadsAs Encodes value Fault (Err e) old new = Reads Encodes (Err e) old new × Fault e.message old e.offset
@@ -80,7 +78,7 @@ abbrev pub ReadsLocals : Result WasmValue Error → Reader → Reader → Type 0
 ReadsLocals (Ok v) old new = ReadsPastLocals (Ok new) old × (v ≡ number_value 0)
 ReadsLocals (Err e) old new = (new ≡ old) × RefusesLocals e old
 
--- A constant expression is read; the number is its length in bytes. Allocation fails only if one of its operators may allocate.
+-- A constant expression is read; the number is its length in bytes.
 abbrev pub ReadsConstant : Result WasmValue Error → Reader → Reader → Type 0
 ReadsConstant (Ok v) old new =
     (c : Reader) × ReadsValue (EncodesConstantReader old.features) true (Ok c) old new × (v ≡ number_value (length c.buffer))
@@ -95,14 +93,14 @@ RefusesLocal total e old =
     (((max_locals < total + number) × (e.message ≡ message.TooManyLocals) × (e.offset ≡ offset_of mid)) ⊎
     ((total + number ≤ max_locals) × IsRefusal EncodesValType e mid × ValTypeFault e.message mid e.offset)))
 
--- A declaration of locals is read, after declarations of `total` locals. Or its number is in error, there are too many locals with it, or its type is in error.
+-- A declaration of locals is read, after declarations of `total` locals.
 abbrev pub ReadsLocal : ℕ → Result WasmValue Error → Reader → Reader → Type 0
 ReadsLocal total (Ok v) old new =
     (d : Declaration) × (mid : Reader) × Reads (EncodesUnsigned 32) (Ok d.0) old mid × (total + d.0 ≤ max_locals) × Reads EncodesValType (Ok d.1) mid new ×
     (v ≡ of_declaration d)
 ReadsLocal total (Err e) old new = (new ≡ old) × RefusesLocal total e old
 
--- A read of a value of this kind. Of bytes, and of a part with its length, the number is how many bytes there are; they end at the new position.
+-- A read of a value of this kind. Of bytes, the number is how many there are; they end at the new position.
 abbrev pub ReadsKind : ValueKind → ℕ → Result WasmValue Error → Reader → Reader → Type 0
 ReadsKind kind.U8 argument result old new = ReadsAs IsByte number_value EndFault result old new
 ReadsKind kind.U32 argument result old new = ReadsAs (EncodesFixed w32) number_value (EndsWithin 4) result old new
@@ -125,7 +123,7 @@ ReadsKind kind.Local argument result old new = ReadsLocal argument result old ne
 ReadsKind kind.Catch argument result old new = ReadsAs EncodesCatch (λ c. of_handler (catch_of c)) CatchFault result old new
 ReadsKind kind.Clause argument result old new = ReadsAs EncodesHandle (λ h. of_handler (handle_of h)) HandleFault result old new
 
--- The kinds by their numbers, counted from 0.
+-- The kinds, each at the index of its number.
 abbrev pub value_kinds : List ValueKind
 value_kinds =
     kind.U8 ∷ kind.U32 ∷ kind.U64 ∷ kind.VarU32 ∷ kind.VarU64 ∷ kind.VarI32 ∷ kind.VarS33 ∷ kind.VarI64 ∷ kind.Size ∷ kind.Bytes ∷ kind.Sized ∷ kind.Locals ∷
@@ -141,7 +139,7 @@ ReturnsRead (Ok v) r bytes old new value_old value_new =
     (r ≡ no_refusal (offset_of (reader_at bytes new))) × (new ≡ reader_moved old new.position old.depth) × (value_new ≡ v)
 ReturnsRead (Err e) r bytes old new value_old value_new = (r ≡ refusal_of e) × KeepsValue old new value_old value_new
 
--- A call that reads a value of the kind with this number. The number of no kind is misuse, and so is what is not a reader without frames.
+-- A call that reads a value of the kind with this number.
 pub record ReturnsValue (r : WasmRefusal) (bytes : List ℕ) (old new : WasmReader) (number argument : ℕ) (value_old value_new : WasmValue) : Type 0 where
   pub unknown : length value_kinds ≤ number → (r ≡ misuse 105 old.offset) × KeepsValue old new value_old value_new
   pub misused : number < length value_kinds → (IsReader bytes 0 old → ⊥) → (r ≡ misuse 103 old.offset) × KeepsValue old new value_old value_new

@@ -3,7 +3,6 @@ ghost use Rattle.std.specs.Prelude.{◌≡◌, ◌+◌, ◌-◌, ◌^◌, ◌<�
 
 use wasm_operators::{BrTable, Operator, VisitGroups, VisitOperator, VisitSimdOperator, Visitor};
 
-/// The number of operators that were visited.
 #[derive(Debug, Drop)]
 pub struct Counter {
     pub count: usize,

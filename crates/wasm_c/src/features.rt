@@ -1,4 +1,3 @@
-//! The check of offset and features, which comes first in each call that has them.
 ghost use Rattle.std.specs.Prelude.{◌≡◌, ◌<◌, ◌≤◌, ◌+◌, ◌^◌, length, IfOk, Ok, Err};
 ghost use Rattle.wasm_operators.specs.below.Features.{features_of};
 ghost use Rattle.wasm_c.specs.Reads.{IsWithin};
@@ -7,8 +6,8 @@ ghost use Rattle.wasm_c.specs.Refused.{misuse};
 use crate::refusal::{PAST_OFFSETS, UNKNOWN_FEATURES, WasmRefusal};
 use wasm_operators::WasmFeatures;
 
-/// Returns the features of these bits. Fails with 100 if a bit is not a feature. Fails with 101 if
-/// the offset of the end of the bytes does not fit in 64 bits.
+/// Returns the features of these bits. Fails with 100 if a bit is not a feature, and with 101 if
+/// the offset of the end does not fit in 64 bits.
 pub fn known_features(
     bytes: &[u8],
     offset: u64,

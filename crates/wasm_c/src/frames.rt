@@ -13,9 +13,8 @@ pub const BLOCK: u8 = 0;
 /// The effect of an operator on the open frames.
 #[derive(Clone, Copy, Debug, PartialEq, Eq)]
 pub enum FrameChange {
-    /// No change.
     Stays,
-    /// A frame of this kind opens, as the innermost.
+    /// A frame of this kind opens.
     Opens(FrameKind),
     /// The innermost frame becomes one of this kind.
     Turns(FrameKind),
@@ -24,7 +23,6 @@ pub enum FrameChange {
 }
 
 impl FrameChange {
-    /// Returns whether a frame opens.
     pub fn opens(self) -> bool
         ensures { IsTrue result ↔ OpensFrame self }
     {
@@ -32,7 +30,6 @@ impl FrameChange {
     }
 }
 
-/// Returns the effect of this operator on the open frames.
 pub fn change_of(op: &Operator<'_>) -> FrameChange
     ensures { result ≡ change_of (role_of op.now) }
 {
@@ -50,7 +47,7 @@ pub fn change_of(op: &Operator<'_>) -> FrameChange
     }
 }
 
-/// Returns the kind of a frame from its byte. A byte of no kind counts as a block.
+/// Returns the kind of a frame. A byte of no kind counts as a block.
 fn kind_of(byte: u8) -> FrameKind
     ensures { result ≡ kind_of byte }
 {
@@ -66,7 +63,6 @@ fn kind_of(byte: u8) -> FrameKind
     }
 }
 
-/// Returns the byte of a frame kind.
 fn byte_of(kind: FrameKind) -> u8
     ensures { kind_of result ≡ kind }
 {
@@ -82,7 +78,7 @@ fn byte_of(kind: FrameKind) -> u8
     }
 }
 
-/// Returns the kind of the innermost of `depth` frames.
+/// Returns the innermost of `depth` frames.
 pub fn innermost(depth: usize, frames: &[u8]) -> FrameKind
     requires some { 0 < depth }
     requires within { depth ≤ length frames.now }
@@ -91,7 +87,7 @@ pub fn innermost(depth: usize, frames: &[u8]) -> FrameKind
     kind_of(frames[depth - 1])
 }
 
-/// Changes the innermost of `depth` frames, and returns how many frames are then open.
+/// Changes the innermost of `depth` frames. Returns how many frames are then open.
 pub fn change_frames(change: FrameChange, depth: usize, frames: &mut [u8]) -> usize
     requires some { 0 < depth }
     requires within { depth ≤ length frames.old }

@@ -1,5 +1,4 @@
-//! Laws of `WasmReader`: what its calls, one after another, say about the bytes. Each law is the
-//! contract of a function that does nothing.
+//! Laws of `WasmReader`: what its calls, one after another, say about the bytes.
 ghost use Rattle.std.specs.Prelude.{◌≡◌, ℕ, ◌+◌, ◌/◌, ◌≤◌, List, [], ◌∷◌, ◌++◌, length};
 ghost use Rattle.wasm_operators.specs.below.Features.{features_of};
 ghost use Rattle.wasm_operators.specs.below.Source.{reader_of, source_of};
@@ -16,8 +15,7 @@ ghost use Rattle.wasm_c.specs.Steps.{IsReader, state_at, FindsNoRoom, TakesPlain
 
 use wasm_operators::{WasmFeatures, expression_laws, run_laws};
 
-/// States that one `wasm_next` is a list of one read, and that the lists of two successive calls
-/// join to one list. So any number of `wasm_next` and `wasm_read` is a list of reads.
+/// States that any number of `wasm_next` and `wasm_read` is a list of reads.
 pub fn reads_follow()
     ensures next { (bytes : List ℕ) (old new : WasmReader) (frames_old frames_new : List ℕ) (view : WasmOperator)
         → TakesPlain bytes old new frames_old frames_new view
@@ -28,8 +26,7 @@ pub fn reads_follow()
 {}
 
 /// States that if `wasm_open` and `wasm_finish` return 0, the operators read between them are those
-/// of the one expression that the bytes encode. The law `one_expression` of `wasm_operators` says
-/// that there is no other.
+/// of the expression that the bytes encode. By the law `one_expression` there is no other.
 pub fn whole_expression()
     ensures { (opening end : WasmRefusal) (bytes : List ℕ) (offset features : ℕ) (before opened last : WasmReader)
         (frames_before frames_opened frames_last : List ℕ) (placed : Placed)
@@ -43,8 +40,8 @@ pub fn whole_expression()
     run_laws::read_to_the_end();
 }
 
-/// States the same for `wasm_open_body`: the operators are those of the one body that the bytes
-/// encode. The law `one_body` of `wasm_operators` says that there is no other.
+/// States that if `wasm_open_body` and `wasm_finish` return 0, the operators read between them are
+/// those of the body that the bytes encode.
 pub fn whole_body()
     ensures { (opening end : WasmRefusal) (bytes : List ℕ) (offset features : ℕ) (before opened last : WasmReader)
         (frames_before frames_opened frames_last : List ℕ) (placed : Placed)
@@ -59,8 +56,7 @@ pub fn whole_body()
     run_laws::read_to_the_end();
 }
 
-/// States that an array of as many frames as `wasm_frames_needed` returns has space for each
-/// operator. With the bytes that the reader was opened with, no call returns 102.
+/// States that no call returns 102 if the array has as many frames as `wasm_frames_needed` returns.
 pub fn always_room(features: WasmFeatures)
     ensures { (bytes : List ℕ) (opened now : WasmReader) (frames_opened frames_now : List ℕ) (placed : Placed)
         → IsFresh (state_at bytes opened frames_opened)

@@ -1,8 +1,8 @@
-//! The operators of function bodies for C, and for languages that call C. Results are C structs in
-//! memory of the caller. No call has a `requires`: all bytes, offsets, features and lengths are
-//! allowed.
+//! The operators of function bodies for C, and for languages that call C. No call has a `requires`.
 //!
-//! The calls that read operators may allocate. If allocation fails, they return 3 (`OutOfMemory`).
+//! `include/wasm_operators.h` describes the calls. Each returns 0, or the number of its error, and
+//! sets `refusal`. On failure, nothing else changes, unless the call says so. If allocation fails,
+//! the number is 3.
 #![tactic(auto)]
 
 ghost use Rattle.std.specs.Prelude.{◌≡◌, ◌<◌, ◌≤◌, ◌+◌, ◌^◌, ◌/◌, length, Some, List, ℕ};
@@ -57,30 +57,20 @@ use wasm_view::laws::names;
 use wasm_view::name_at;
 pub use wasm_view::{WasmHandler, WasmOperator, WasmType};
 
-/// The version of the structs and calls, the same as in `wasm_operators.h`.
+/// The version of the structs and calls, also in `wasm_operators.h`.
 const VERSION: u32 = 4;
 
-/// Returns the version of the structs and calls. A header with another `WASM_OPERATORS_VERSION`
-/// does not belong to this library.
+/// Returns the version of the structs and calls.
 pub fn wasm_operators_version() -> u32
     ensures { result ≡ 4 }
 {
     VERSION
 }
 
-/// Reads all operators of a function body, after its locals.
+/// Reads all operators of a function body, after its locals. Sets `count` to their number, and
+/// writes as many as fit to `out`.
 ///
-/// The body is `bytes`, and `offset` is the offset of the first byte. Sets `count` to the number of
-/// operators, which may be more than fit in `out`. Writes as many as fit to `out`, in order, and
-/// leaves its other elements unchanged.
-///
-/// Returns 0 if the bytes encode a body, else the number of the error. The operators are then the
-/// longest prefix of a body; after allocation failure (3), a prefix. `refusal` has the same number,
-/// and the offset of the error, or of the end of the bytes.
-///
-/// Returns 100 if a bit of `features` is not a feature; then 101 if the offset of the end does not
-/// fit in 64 bits. In both cases nothing is read: `count` is 0, and the offset in `refusal` is that
-/// of the first byte.
+/// On failure, the operators are the longest prefix of a body; after allocation failure, a prefix.
 pub fn wasm_read_body(
     alloc: Global,
     bytes: &[u8],
@@ -113,8 +103,8 @@ pub fn wasm_read_body(
     }
 }
 
-/// Writes the text of an error to `text`, as much of it as fits, without a NUL byte after it.
-/// Returns the length of the whole text in bytes, or 0 if the numbers are those of no error.
+/// Writes the text of an error, as much of it as fits. Returns its whole length, or 0 if the
+/// numbers are those of no error.
 pub fn wasm_refusal_text(refusal: &WasmRefusal, text: &mut [u8]) -> usize
     ensures reported { (e : Error) → refusal.now ≡ refusal_of e
         → ReturnsText (Some (message_text e.message)) text.old result text.new }
@@ -123,8 +113,8 @@ pub fn wasm_refusal_text(refusal: &WasmRefusal, text: &mut [u8]) -> usize
     text::write_text(refusal.number, refusal.name, refusal.value, text)
 }
 
-/// Writes the name of the operator to `name`, as much of it as fits, without a NUL byte after it.
-/// Returns the length of the whole name in bytes, or 0 if no operator has this number.
+/// Writes the name of an operator, as much of it as fits. Returns its whole length, or 0 if no
+/// operator has this number.
 pub fn wasm_operator_name(operator: &WasmOperator, name: &mut [u8]) -> usize
     ensures named { (op : Operator) (at : ℕ) → operator.now ≡ view_of (op, at)
         → ReturnsText (Some (name_of op)) name.old result name.new }
@@ -134,11 +124,7 @@ pub fn wasm_operator_name(operator: &WasmOperator, name: &mut [u8]) -> usize
     text::write_one(name_at(operator.opcode, operator.shape), name)
 }
 
-/// Opens an expression. `offset` is the offset of the first byte. The new reader has read no byte,
-/// and the frame of the expression is the first element of `frames`. Returns 0.
-///
-/// Returns 100 if a bit of `features` is not a feature; then 101 if the offset of the end does not
-/// fit in 64 bits. Then returns 102 if `frames` is empty. In these cases only `refusal` changes.
+/// Opens an expression: no byte is read, and its frame is the first of `frames`.
 pub fn wasm_open(
     bytes: &[u8],
     offset: u64,
@@ -154,8 +140,7 @@ pub fn wasm_open(
     refusal.number
 }
 
-/// Opens the expression of a function body: reads the locals, and then does the same as
-/// [`wasm_open`]. An error in the locals is returned.
+/// Reads the locals of a function body, and opens the expression after them.
 pub fn wasm_open_body(
     bytes: &[u8],
     offset: u64,
@@ -171,12 +156,7 @@ pub fn wasm_open_body(
     refusal.number
 }
 
-/// Reads the next operator, with the bytes and the frames that the reader was opened with. Returns
-/// 0: `operator` is the operator, and the reader is after it.
-///
-/// On failure, returns the number of the error, and only `refusal` changes. It is 102 if the
-/// operator opens a frame and `frames` is full. It is 103 if `reader` is not a reader of these
-/// bytes and frames: it was not opened, or was overwritten.
+/// Reads the next operator, with the bytes and the frames that the reader was opened with.
 pub fn wasm_next(
     alloc: Global,
     bytes: &[u8],
@@ -198,8 +178,8 @@ pub fn wasm_next(
     refusal.number
 }
 
-/// Reads the next operator in the same way as [`wasm_next`], except that a SIMD operator is an error:
-/// before the byte 0xfd, whatever follows it, returns 14 (`UnexpectedSimd`) with its offset.
+/// Reads the next operator as [`wasm_next`] does, but fails with 14 (`UnexpectedSimd`) before the
+/// byte 0xfd.
 pub fn wasm_next_plain(
     alloc: Global,
     bytes: &[u8],
@@ -221,16 +201,10 @@ pub fn wasm_next_plain(
     refusal.number
 }
 
-/// Reads a value of the kind with the number `kind` at the position of `reader`, which has no open
-/// frame. Returns 0: `value` is the value, and the reader is after it.
+/// Reads a value of this kind at the position of a reader without open frames.
 ///
-/// On failure, returns the number of the error, and only `refusal` changes. It is 105 if there is no
-/// such kind, and 103 if `reader` is not a reader of these bytes without frames.
-///
-/// `argument` is the limit of a count, the number of bytes, or the number of locals that were
-/// declared before a declaration. Of bytes, of a part with its length, and of a constant expression,
-/// the value is how many bytes there are; they end at the new position. The part's length is not
-/// among them.
+/// `argument` is the limit of a count, a number of bytes, or the number of locals that were
+/// declared before.
 pub fn wasm_read_value(
     alloc: Global,
     bytes: &[u8],
@@ -247,9 +221,8 @@ pub fn wasm_read_value(
     refusal.number
 }
 
-/// Reads operators into `out`, in the same way as [`wasm_next`]. Returns 0 when the array is full
-/// or all bytes are read, and the number of the error if a read fails. Sets `count` to the number
-/// of operators written, in order; the other elements of `out` are unchanged.
+/// Reads operators as [`wasm_next`] does, until `out` is full, the data ends, or a read fails. Sets
+/// `count` to the number of operators written.
 pub fn wasm_read(
     alloc: Global,
     bytes: &[u8],
@@ -266,8 +239,7 @@ pub fn wasm_read(
     refusal.number
 }
 
-/// Checks whether an expression ends at the reader's position. Returns 0 if no frame is open and
-/// all bytes are read, else the number of the error.
+/// Checks that an expression ends at the reader's position.
 pub fn wasm_finish(
     bytes: &[u8],
     frames: &[u8],
@@ -281,8 +253,7 @@ pub fn wasm_finish(
     refusal.number
 }
 
-/// Returns how many frames may be open at once in so many bytes. An array of this length never gets
-/// full.
+/// Returns an upper bound of the frames that are open at once in `bytes_length` bytes.
 pub fn wasm_frames_needed(bytes_length: usize) -> usize
     ensures is { result ≡ bytes_length / 2 + 1 }
     ensures enough { (opened now : State) (text : List ℕ) → IsFresh opened → Takes opened.reader now.reader text
@@ -291,15 +262,10 @@ pub fn wasm_frames_needed(bytes_length: usize) -> usize
     bytes_length / 2 + 1
 }
 
-/// Writes the targets of the `br_table` at the offset `at` to `out`, without the default target:
-/// those from index `index` on, as many as fit. `offset` is the offset of the first of the bytes.
-/// Returns 0, and sets `count` to the number of all targets. The other elements of `out` are
-/// unchanged.
+/// Writes the targets of the `br_table` at the offset `at`, without the default target: those from
+/// index `index` on that fit. Sets `count` to the number of all.
 ///
-/// On failure, returns the number of the error, and only `refusal` changes. The operator at `at` is
-/// read as if inside a block, and its error is returned; at the end of the bytes that is 1. It is
-/// 104 if another operator is there, or if `at` is before the first byte or past the end. It is 100
-/// or 101 as in [`wasm_read_body`].
+/// The operator is read as if inside a block.
 pub fn wasm_br_table_targets(
     alloc: Global,
     bytes: &[u8],
@@ -318,8 +284,8 @@ pub fn wasm_br_table_targets(
     refusal.number
 }
 
-/// Writes the types of the `select` with types at the offset `at`, in the same way as
-/// [`wasm_br_table_targets`].
+/// Writes the types of the typed `select` at the offset `at`: those from index `index` on that fit.
+/// Sets `count` to the number of all.
 pub fn wasm_select_types(
     alloc: Global,
     bytes: &[u8],
@@ -338,8 +304,8 @@ pub fn wasm_select_types(
     refusal.number
 }
 
-/// Writes the clauses of the `try_table` at the offset `at`, in the same way as
-/// [`wasm_br_table_targets`].
+/// Writes the clauses of the `try_table` at the offset `at`: those from index `index` on that fit.
+/// Sets `count` to the number of all.
 pub fn wasm_try_table_catches(
     alloc: Global,
     bytes: &[u8],
@@ -358,8 +324,8 @@ pub fn wasm_try_table_catches(
     refusal.number
 }
 
-/// Writes the clauses of the `resume`, `resume_throw` or `resume_throw_ref` at the offset `at`, in
-/// the same way as [`wasm_br_table_targets`].
+/// Writes the clauses of the `resume`, `resume_throw` or `resume_throw_ref` at the offset `at`:
+/// those from index `index` on that fit. Sets `count` to the number of all.
 pub fn wasm_resume_handlers(
     alloc: Global,
     bytes: &[u8],
@@ -378,17 +344,10 @@ pub fn wasm_resume_handlers(
     refusal.number
 }
 
-/// Writes the text of the operator at the offset `at` to `text`, such as `i32.const 5`: its name and
-/// its operands in the text format, in UTF-8 without a NUL byte after it. `offset` is the offset of
-/// the first of the bytes. Returns 0, and sets `length` to the length of the text in bytes.
+/// Writes the text of the operator at the offset `at`: its name and its operands in the text
+/// format. Sets `length` to the length of the text, also if the text does not fit.
 ///
-/// Returns 102 if the text is longer than the array. Then `length` is the text's length, and nothing
-/// else changes, except `refusal`.
-///
-/// On any other failure, returns the number of the error, and only `refusal` changes. The operator is
-/// read inside a frame that allows it, if one does. Fails as [`wasm_br_table_targets`] does, except
-/// that any operator has a text. If allocation for the text fails,
-/// returns 3.
+/// The operator is read inside a frame that allows it, if one does.
 pub fn wasm_operator_text(
     alloc: Global,
     bytes: &[u8],
@@ -406,8 +365,8 @@ pub fn wasm_operator_text(
     refusal.number
 }
 
-/// Writes the name of the operator at the offset `at` in the text format, such as `i32.const`, in
-/// the same way as [`wasm_operator_text`].
+/// Writes the name in the text format of the operator at the offset `at`. Sets `length` to its
+/// length, also if it does not fit.
 pub fn wasm_operator_text_name(
     alloc: Global,
     bytes: &[u8],
@@ -425,12 +384,7 @@ pub fn wasm_operator_text_name(
     refusal.number
 }
 
-/// Opens the bodies of the module `bytes`, and returns 0. `bodies` is then the place before the first
-/// body.
-///
-/// On failure, returns the number of the error, and only `refusal` changes. It is 106 if the bytes
-/// are no module, 107 at an import of an unknown kind, 108 at a type of an unknown sort, and 109 if
-/// there are more or fewer bodies than functions. Otherwise it is the error of a section, or 3.
+/// Opens the bodies of a module.
 pub fn wasm_open_bodies(
     alloc: Global,
     bytes: &[u8],
@@ -444,13 +398,7 @@ pub fn wasm_open_bodies(
     refusal.number
 }
 
-/// Reads the next body of the module `bytes`, with which `bodies` was opened. Returns 0: `body` has
-/// the offset and the length of the body, and the index and the type index of its function.
-///
-/// On failure, returns the number of the error, and only `refusal` changes. It is 111 if no body is
-/// left, and 25 if data is left after the last body. It is 103 if `bodies` is not a place between
-/// bodies of these bytes: it was not opened, or was overwritten. Otherwise it is the error of the
-/// body's length, or 1 if the data ends within the body.
+/// Reads the place of the next body, with the bytes that `bodies` was opened with.
 pub fn wasm_next_body(
     bytes: &[u8],
     bodies: &mut WasmBodies,
@@ -464,15 +412,8 @@ pub fn wasm_next_body(
     refusal.number
 }
 
-/// Writes the name of the function with this index, which the module `bytes` defines, to `name`.
-/// Returns 0, and sets `length` to the length of the name in bytes, which is 0 if the function has
-/// no name. A name in the custom section `name` replaces the name of an export.
-///
-/// Returns 102 if the name is longer than the array. Then `length` is the name's length, and nothing
-/// else changes, except `refusal`.
-///
-/// On any other failure, returns the number of the error, and only `refusal` changes. It is 110 if
-/// the module does not define the function. Otherwise it is as in [`wasm_open_bodies`].
+/// Writes the name of a function that the module defines. Sets `length` to its length, also if it
+/// does not fit.
 pub fn wasm_function_name(
     alloc: Global,
     bytes: &[u8],

@@ -13,7 +13,7 @@ use std::alloc::Global;
 use wasm_operators::{BinaryReader, FrameKind, FrameStack, Operator, ReadOperators};
 use wasm_view::{WasmHandler, WasmType, catches_of, handles_of, targets_of, types_of};
 
-/// The frame in which operators with lists are read: a block, which allows all of them.
+/// The frame in which operators with lists are read.
 #[derive(Clone, Copy, Debug)]
 struct InBlock;
 
@@ -28,8 +28,7 @@ impl FrameStack for InBlock {
     }
 }
 
-/// Returns a reader of the bytes from the offset `at` on. `offset` is the offset of the first of
-/// the bytes.
+/// Returns a reader of the bytes from the offset `at` on.
 pub fn bytes_from<'a>(
     bytes: &'a [u8],
     offset: u64,
@@ -58,7 +57,6 @@ pub fn bytes_from<'a>(
     }
 }
 
-/// Returns the operator at the offset `at`. `offset` is the offset of the first of the bytes.
 fn operator_at<'a>(
     alloc: Global,
     bytes: &'a [u8],
@@ -77,7 +75,7 @@ fn operator_at<'a>(
     }
 }
 
-/// Sets `count` to the length of an operator's list. Fails with 104 if it has no such list.
+/// Sets `count`. Fails with 104 if there is no list.
 fn store_count(found: Option<usize>, at: u64, count: &mut usize) -> WasmRefusal
     ensures some { IfSome found (λ members. (result ≡ no_refusal at) × (count.new ≡ members)) }
     ensures none { IfNone found ((result ≡ misuse 104 at) × (count.new ≡ count.old)) }
@@ -110,7 +108,6 @@ pub fn targets_at(
     }
 }
 
-/// Writes the types of the `select` at the offset `at`, from an index on.
 pub fn types_at(
     alloc: Global,
     bytes: &[u8],
@@ -129,7 +126,6 @@ pub fn types_at(
     }
 }
 
-/// Writes the clauses of the `try_table` at the offset `at`, from an index on.
 pub fn catches_at(
     alloc: Global,
     bytes: &[u8],
@@ -148,8 +144,6 @@ pub fn catches_at(
     }
 }
 
-/// Writes the clauses of the `resume`, `resume_throw` or `resume_throw_ref` at the offset `at`,
-/// from an index on.
 pub fn handles_at(
     alloc: Global,
     bytes: &[u8],

@@ -10,22 +10,17 @@ use wasm_bodies::{
     BodiesFault, ModuleFault, NoBody, WasmBodies, WasmBody, function_name, next_body, open_bodies,
 };
 
-/// The number of the error for bytes that are no module.
+// The numbers of errors, as in `include/wasm_operators.h`.
 const NOT_A_MODULE: u32 = 106;
 
-/// The number of the error for an import of an unknown kind.
 const IMPORT_KIND: u32 = 107;
 
-/// The number of the error for a type of an unknown sort.
 const TYPE_KIND: u32 = 108;
 
-/// The number of the error for a module with another number of bodies than of functions.
 const COUNTS_DIFFER: u32 = 109;
 
-/// The number of the error for a function that the module does not define.
 const NO_FUNCTION: u32 = 110;
 
-/// The number of the error for a module of which all bodies were read.
 const NO_BODY: u32 = 111;
 
 /// Returns the number of a kind of binary.
@@ -40,7 +35,7 @@ fn preamble_number(kind: PreambleKind) -> u32
     }
 }
 
-/// Returns the C struct of the error if the functions of a module can't be read.
+/// Returns the C struct of the fault of a module.
 fn refusal_of_module(fault: &ModuleFault) -> WasmRefusal
     ensures { result ≡ refusal_of_module fault.now }
 {
@@ -59,7 +54,7 @@ fn refusal_of_module(fault: &ModuleFault) -> WasmRefusal
     }
 }
 
-/// Returns the C struct of the error if the bodies of a module, or a function, can't be read.
+/// Returns the C struct of the fault of a module's bodies.
 fn refusal_of_bodies(fault: &BodiesFault) -> WasmRefusal
     ensures { result ≡ refusal_of_bodies fault.now }
 {
@@ -119,7 +114,7 @@ pub fn write_name(
     ensures { ReturnsName result bytes.now index length.old length.new name.old name.new }
 {
     match function_name(alloc, bytes, index) {
-        Ok(found) => place_text(found, 0, name, length),
+        Ok(found) => place_text(found.as_str(), 0, name, length),
         Err(fault) => refusal_of_bodies(&fault),
     }
 }

@@ -1,4 +1,4 @@
-//! The text and the name of the operator at an offset, as the text format has them.
+//! The text and the name of the operator at an offset.
 ghost use Rattle.std.specs.Prelude.{◌≡◌};
 ghost use Rattle.wasm_operators.specs.below.Source.{rest};
 ghost use Rattle.wasm_text.specs.Names.{text_name};
@@ -12,7 +12,6 @@ use std::alloc::Global;
 use wasm_operators::{BinaryReader, Error, FrameKind, FrameStack, Message, ReadOperators};
 use wasm_text::{text_name, write_operator};
 
-/// The frame in which an operator is read.
 #[derive(Clone, Copy, Debug)]
 struct InFrame {
     kind: FrameKind,
@@ -39,14 +38,13 @@ fn frame_for(ahead: &BinaryReader<'_>) -> FrameKind
     }
 }
 
-/// Returns the error of a failed allocation for a text.
 pub fn out_of_memory(at: u64) -> WasmRefusal
     ensures { result ≡ out_of_memory at }
 {
     WasmRefusal::of(&Error::new(Message::OutOfMemory, at))
 }
 
-/// Writes a text to the start of an array, if it fits. Sets `length` to the text's length.
+/// Writes a text, if it fits. Sets `length` to its length.
 pub fn place_text(text: &str, at: u64, out: &mut [u8], length: &mut usize) -> WasmRefusal
     ensures { PlacesText text.now at result length.new out.old out.new }
 {
@@ -58,7 +56,7 @@ pub fn place_text(text: &str, at: u64, out: &mut [u8], length: &mut usize) -> Wa
     WasmRefusal::none(at)
 }
 
-/// Writes the text of the next operator: its name and its operands.
+/// Writes the name and the operands of the next operator.
 fn write_text_ahead(
     alloc: Global,
     ahead: &BinaryReader<'_>,
@@ -83,7 +81,6 @@ fn write_text_ahead(
     }
 }
 
-/// Writes the name of the next operator.
 fn write_name_ahead(
     alloc: Global,
     ahead: &BinaryReader<'_>,
@@ -102,7 +99,6 @@ fn write_name_ahead(
     }
 }
 
-/// Writes the text of the operator at the offset `at`.
 pub fn write_text_at(
     alloc: Global,
     bytes: &[u8],
@@ -120,7 +116,6 @@ pub fn write_text_at(
     }
 }
 
-/// Writes the name of the operator at the offset `at`.
 pub fn write_name_at(
     alloc: Global,
     bytes: &[u8],

@@ -1,4 +1,4 @@
-//! Readers of operators as C structs, with the open frames in an array of the caller.
+//! Readers of operators as C structs, with the open frames in an array.
 ghost use Rattle.std.specs.Prelude.{◌≡◌, ◌≤◌, length, IfSome, IfNone, IfOk, IfErr, List, ℕ};
 ghost use Rattle.wasm_operators.specs.below.Source.{reader_of, offset_of, at_position, Takes};
 ghost use Rattle.wasm_operators.specs.instr.declared.operator.Operator.{Operator};
@@ -32,7 +32,7 @@ use wasm_view::WasmOperator;
 /// The prefix byte of SIMD operators.
 const SIMD: u8 = 0xfd;
 
-/// A reader of operators as a C struct of 32 bytes without padding.
+/// A reader of operators as a C struct of 32 bytes.
 #[repr(C)]
 #[derive(Clone, Copy, Debug, PartialEq, Eq)]
 pub struct WasmReader {
@@ -42,14 +42,11 @@ pub struct WasmReader {
     pub position: u64,
     /// The number of open frames.
     pub depth: u64,
-    /// The bits of the enabled features.
     pub features: u32,
-    /// Always 0.
     pub reserved: u32,
 }
 
-/// Reads an operator inside this frame. The visitor then has its C struct and its effect on the
-/// frames.
+/// Reads an operator inside this frame. The visitor then has its C struct and its effect.
 #[inline(always)]
 fn view_operator(
     alloc: Global,
@@ -68,7 +65,7 @@ fn view_operator(
     reader.visit_operator_simd(alloc, viewer)
 }
 
-/// Creates a reader of the bytes after the locals of a body.
+/// Returns a reader of the bytes after the locals of a body.
 fn past_locals<'a>(bytes: &'a [u8], offset: u64, features: WasmFeatures) -> Result<BinaryReader<'a>>
     requires { IsWithin offset bytes.now }
     ensures { ReadsPastLocals result (reader_of features offset bytes.now) }
@@ -98,8 +95,7 @@ impl WasmReader {
         }
     }
 
-    /// Reads one operator from the bytes ahead, which are at this position. The visitor then has
-    /// its C struct.
+    /// Reads one operator from the bytes ahead, which are at this position.
     #[inline(always)]
     fn step(
         &mut self,
@@ -130,7 +126,6 @@ impl WasmReader {
         }
     }
 
-    /// Reads one operator.
     pub fn read_next(
         &mut self,
         alloc: Global,
@@ -149,7 +144,6 @@ impl WasmReader {
         }
     }
 
-    /// Reads operators into an array until it is full, the data ends, or a read fails.
     pub fn read_many(
         &mut self,
         alloc: Global,
@@ -182,7 +176,6 @@ impl WasmReader {
         WasmRefusal::none(ahead.original_position())
     }
 
-    /// Reads a value of the kind with this number, without frames.
     pub fn read_value(
         &mut self,
         alloc: Global,
@@ -235,7 +228,7 @@ impl WasmReader {
         }
     }
 
-    /// Reads one operator, if it is not a SIMD operator.
+    /// Reads one operator, unless it is a SIMD operator.
     pub fn read_plain(
         &mut self,
         alloc: Global,
@@ -253,7 +246,6 @@ impl WasmReader {
         }
     }
 
-    /// Checks whether an expression ends at this position.
     pub fn finish(&self, bytes: &[u8], frames: &[u8]) -> WasmRefusal
         ensures { FinishesPlain result bytes.now self.now frames.now }
     {
@@ -270,8 +262,7 @@ impl WasmReader {
         WasmRefusal::none(offset)
     }
 
-    /// Creates a reader that has read `position` bytes, and in which only the frame of the
-    /// expression is open.
+    /// Creates a reader in which only the frame of the expression is open.
     fn fresh(offset: u64, features: u32, position: u64) -> WasmReader
         ensures { result ≡ fresh_reader offset features position }
     {
@@ -284,7 +275,6 @@ impl WasmReader {
         }
     }
 
-    /// Opens the expression that the bytes should encode.
     pub fn open(
         &mut self,
         bytes: &[u8],
@@ -307,7 +297,6 @@ impl WasmReader {
         }
     }
 
-    /// Opens the expression after the locals of the body that the bytes should encode.
     pub fn open_body(
         &mut self,
         bytes: &[u8],

@@ -8,46 +8,35 @@ use wasm_operators::{
     TypeName,
 };
 
-/// The number of the error for features with an unknown bit.
 pub const UNKNOWN_FEATURES: u32 = 100;
 
-/// The number of the error for bytes that reach past the largest offset.
 pub const PAST_OFFSETS: u32 = 101;
 
-/// The number of the error for a frame that does not fit in the array.
 pub const NO_ROOM: u32 = 102;
 
-/// The number of the error for a struct that is not a reader of these bytes and frames.
 pub const NOT_A_READER: u32 = 103;
 
-/// The number of the error for an offset at which no operator with such a list starts.
 pub const NO_LIST: u32 = 104;
 
-/// The number of the error for the number of no kind of values.
 pub const NO_VALUE_KIND: u32 = 105;
 
-/// An error as a C struct of 24 bytes. The last four bytes are 0.
+/// An error as a C struct of 24 bytes.
 #[repr(C)]
 #[derive(Clone, Copy, Debug, PartialEq, Eq)]
 pub struct WasmRefusal {
-    /// The offset of the error: that of the first byte with 100, 101 and 103, and the requested one
-    /// with 104. Without an error, the offset of the end of the bytes, of the reader's position, or
-    /// the requested one.
+    /// The offset of the error, else of where the call ended.
     pub offset: u64,
-    /// The number of the error: 1 to 25 for an error in the bytes or of allocation, 100 to 104 for
-    /// an error in the arguments. 0 if there is no error.
+    /// 0 for no error, 1 to 25 for an error in the bytes or of allocation, 100 to 111 for an error
+    /// in the arguments or the module.
     pub number: u32,
-    /// The number of the name in the error's text, counted from 0; plus 16 times the number of a
-    /// second name.
+    /// The number of the name in the error's text, plus 16 times the number of a second name.
     pub name: u32,
     /// The byte, code or flags in the error's text.
     pub value: u32,
-    /// Always 0.
     pub reserved: u32,
 }
 
 impl WasmRefusal {
-    /// Creates an error from its numbers.
     fn new(offset: u64, number: u32, name: u32, value: u32) -> WasmRefusal
         ensures { result ≡ reported offset number name value }
     {
@@ -60,21 +49,19 @@ impl WasmRefusal {
         }
     }
 
-    /// Creates the value for no error, at this offset.
     pub fn none(offset: u64) -> WasmRefusal
         ensures { result ≡ no_refusal offset }
     {
         WasmRefusal::new(offset, 0, 0, 0)
     }
 
-    /// Creates an error in the arguments, at this offset.
+    /// Creates an error in the arguments.
     pub fn misuse(number: u32, offset: u64) -> WasmRefusal
         ensures { result ≡ misuse number offset }
     {
         WasmRefusal::new(offset, number, 0, 0)
     }
 
-    /// Creates an error with the byte or the kind that it is about.
     pub fn with_value(number: u32, offset: u64, value: u32) -> WasmRefusal
         ensures { result ≡ reported offset number 0 value }
     {
@@ -91,7 +78,6 @@ impl WasmRefusal {
         }
     }
 
-    /// Converts an error to the C struct.
     pub fn of(error: &Error) -> WasmRefusal
         ensures { result ≡ refusal_of error.now }
     {
@@ -138,7 +124,6 @@ fn reported_value(message: &Message) -> u32
     }
 }
 
-/// Returns the number of an instruction's name.
 fn instruction_number(name: InstructionName) -> u32
     ensures { result ≡ instruction_number name }
 {
@@ -151,7 +136,6 @@ fn instruction_number(name: InstructionName) -> u32
     }
 }
 
-/// Returns the instruction's name with this number.
 pub fn instruction_name(number: u32) -> Option<InstructionName>
     ensures { result ≡ instruction_numbered number }
 {
@@ -165,7 +149,6 @@ pub fn instruction_name(number: u32) -> Option<InstructionName>
     }
 }
 
-/// Returns the number of a frame's name.
 fn frame_number(name: FrameName) -> u32
     ensures { result ≡ frame_number name }
 {
@@ -175,7 +158,6 @@ fn frame_number(name: FrameName) -> u32
     }
 }
 
-/// Returns the frame's name with this number.
 pub fn frame_name(number: u32) -> Option<FrameName>
     ensures { result ≡ frame_numbered number }
 {
@@ -186,7 +168,6 @@ pub fn frame_name(number: u32) -> Option<FrameName>
     }
 }
 
-/// Returns the number of the name of a number format.
 fn number_name_number(name: NumberName) -> u32
     ensures { result ≡ number_name_number name }
 {
@@ -199,7 +180,6 @@ fn number_name_number(name: NumberName) -> u32
     }
 }
 
-/// Returns the name of the number format with this number.
 pub fn number_name(number: u32) -> Option<NumberName>
     ensures { result ≡ number_name_numbered number }
 {
@@ -213,7 +193,6 @@ pub fn number_name(number: u32) -> Option<NumberName>
     }
 }
 
-/// Returns the number of a list's name.
 fn size_number(name: SizeName) -> u32
     ensures { result ≡ size_number name }
 {
@@ -225,7 +204,6 @@ fn size_number(name: SizeName) -> u32
     }
 }
 
-/// Returns the list's name with this number.
 pub fn size_name(number: u32) -> Option<SizeName>
     ensures { result ≡ size_numbered number }
 {
@@ -238,7 +216,6 @@ pub fn size_name(number: u32) -> Option<SizeName>
     }
 }
 
-/// Returns the number of the name of what starts with a leading byte.
 fn leading_number(name: LeadingByteName) -> u32
     ensures { result ≡ leading_number name }
 {
@@ -248,7 +225,6 @@ fn leading_number(name: LeadingByteName) -> u32
     }
 }
 
-/// Returns the name of what starts with a leading byte, by its number.
 pub fn leading_name(number: u32) -> Option<LeadingByteName>
     ensures { result ≡ leading_numbered number }
 {
@@ -259,7 +235,6 @@ pub fn leading_name(number: u32) -> Option<LeadingByteName>
     }
 }
 
-/// Returns the number of the name of a kind of type.
 fn type_number(name: TypeName) -> u32
     ensures { result ≡ type_number name }
 {
@@ -270,7 +245,6 @@ fn type_number(name: TypeName) -> u32
     }
 }
 
-/// Returns the name of the kind of type with this number.
 pub fn type_name(number: u32) -> Option<TypeName>
     ensures { result ≡ type_numbered number }
 {

@@ -1,4 +1,4 @@
-//! Texts, such as those of errors, written to an array.
+//! Texts of errors, written to an array.
 ghost use Rattle.std.specs.Prelude.{◌≡◌, ◌+◌, ◌*◌, ◌^◌, ◌<◌, ◌≤◌, [], ◌∷◌, ◌++◌, ◌%◌, length, Some, List, ℕ, false, codes};
 ghost use Rattle.std.specs.Option.{option_map};
 ghost use Rattle.wasm_operators.specs.below.bytes.message.Message.TheVariants as message;
@@ -22,7 +22,7 @@ fn put_byte(byte: u8, at: usize, text: &mut [u8]) -> usize
     at + 1
 }
 
-/// Writes a piece at index `at`, as much of it as fits. Returns the index after the whole piece.
+/// Writes as much of a piece as fits at index `at`. Returns the index after the whole piece.
 fn put(piece: &str, at: usize, text: &mut [u8]) -> usize
     requires { at + length piece.now < 2 ^ 62 }
     ensures { PutsPiece piece.now at text.old result text.new }
@@ -35,7 +35,6 @@ fn put(piece: &str, at: usize, text: &mut [u8]) -> usize
     next
 }
 
-/// Returns the hexadecimal digit of a number below 16.
 fn digit(value: u32) -> u8
     requires { value < 16 }
     ensures { result ≡ digit_glyph false value }
@@ -61,7 +60,6 @@ fn put_hexadecimal(value: u32, at: usize, text: &mut [u8]) -> usize
     put_byte(digit(value % 16), next, text)
 }
 
-/// Writes a number in decimal.
 fn put_decimal(value: u32, at: usize, text: &mut [u8]) -> usize
     requires { at < 2 ^ 60 }
     ensures puts { PutsPiece (decimal value) at text.old result text.new }
@@ -74,7 +72,6 @@ fn put_decimal(value: u32, at: usize, text: &mut [u8]) -> usize
     put_byte(b'0' + (value % 10) as u8, next, text)
 }
 
-/// Writes the lowest binary digit of a number.
 fn put_bit(value: u32, at: usize, text: &mut [u8]) -> usize
     requires { at < 2 ^ 62 }
     ensures { PutsPiece ((48 + value % 2) ∷ []) at text.old result text.new }
@@ -82,7 +79,7 @@ fn put_bit(value: u32, at: usize, text: &mut [u8]) -> usize
     put_byte(b'0' + (value % 2) as u8, at, text)
 }
 
-/// Writes the lowest eight binary digits of a number.
+/// Writes the lowest eight binary digits.
 fn put_binary(value: u32, at: usize, text: &mut [u8]) -> usize
     requires { at < 2 ^ 60 }
     ensures { PutsPiece (eight_digits value) at text.old result text.new }
@@ -109,7 +106,6 @@ pub fn write_one(first: &str, text: &mut [u8]) -> usize
     bytes.len()
 }
 
-/// Writes a text of two pieces. Returns its whole length.
 fn write_two(first: &str, second: &str, text: &mut [u8]) -> usize
     requires first { length first.now < 2 ^ 16 }
     requires second { length second.now < 2 ^ 16 }
@@ -119,7 +115,6 @@ fn write_two(first: &str, second: &str, text: &mut [u8]) -> usize
     put(second, at, text)
 }
 
-/// Writes a text of three pieces. Returns its whole length.
 fn write_three(first: &str, second: &str, third: &str, text: &mut [u8]) -> usize
     requires first { length first.now < 2 ^ 16 }
     requires second { length second.now < 2 ^ 16 }
@@ -131,7 +126,7 @@ fn write_three(first: &str, second: &str, third: &str, text: &mut [u8]) -> usize
     put(third, after, text)
 }
 
-/// Writes a text that ends with a number in hexadecimal.
+/// Writes a text that ends with a hexadecimal number.
 fn write_code(first: &str, code: u32, text: &mut [u8]) -> usize
     requires { length first.now < 2 ^ 16 }
     ensures { ReturnsText (Some (first.now ++ hexadecimal code)) text.old result text.new }
@@ -140,7 +135,6 @@ fn write_code(first: &str, code: u32, text: &mut [u8]) -> usize
     put_hexadecimal(code, at, text)
 }
 
-/// Writes the text of the error for an instruction that needs a feature.
 fn write_feature(name: u32, text: &mut [u8]) -> usize
     ensures { ReturnsText (option_map message_text (option_map message.FeatureRequired (instruction_numbered name))) text.old result text.new }
 {
@@ -155,7 +149,6 @@ fn write_feature(name: u32, text: &mut [u8]) -> usize
     }
 }
 
-/// Writes the text of the error for a number that does not fit.
 fn write_integer(name: u32, text: &mut [u8]) -> usize
     ensures { ReturnsText (option_map message_text (integer_numbered name)) text.old result text.new }
 {
@@ -176,7 +169,6 @@ fn write_integer(name: u32, text: &mut [u8]) -> usize
     }
 }
 
-/// Writes the text of the error for a count above its limit.
 fn write_size(name: u32, text: &mut [u8]) -> usize
     ensures { ReturnsText (option_map message_text (option_map message.SizeOutOfBounds (size_numbered name))) text.old result text.new }
 {
@@ -186,7 +178,6 @@ fn write_size(name: u32, text: &mut [u8]) -> usize
     }
 }
 
-/// Returns the name of a frame in an error's text.
 fn frame_text(frame: FrameName) -> &'static str
     ensures { result.now ≡ frame_name_text frame }
 {
@@ -196,7 +187,6 @@ fn frame_text(frame: FrameName) -> &'static str
     }
 }
 
-/// Writes the text of the error for an instruction outside the frame that it needs.
 fn write_frame(instruction: &str, frame: &str, text: &mut [u8]) -> usize
     requires instruction { length instruction.now < 2 ^ 16 }
     requires frame { length frame.now < 2 ^ 16 }
@@ -209,7 +199,8 @@ fn write_frame(instruction: &str, frame: &str, text: &mut [u8]) -> usize
     put("` block", fourth, text)
 }
 
-/// Writes the same text from the numbers of the instruction and the frame.
+/// Writes the text of the error for an instruction outside the frame that it needs. `name` is the
+/// instruction's number plus 16 times the frame's.
 fn write_wrong_frame(name: u32, text: &mut [u8]) -> usize
     ensures { ReturnsText (option_map message_text (frames_numbered name)) text.old result text.new }
 {
@@ -222,7 +213,6 @@ fn write_wrong_frame(name: u32, text: &mut [u8]) -> usize
     }
 }
 
-/// Writes the text of the error for an unknown subopcode.
 fn write_subopcode(prefix: u32, code: u32, text: &mut [u8]) -> usize
     ensures { ReturnsText (Some (message_text (message.UnknownSubopcode prefix code))) text.old result text.new }
 {
@@ -232,7 +222,6 @@ fn write_subopcode(prefix: u32, code: u32, text: &mut [u8]) -> usize
     put_hexadecimal(code, third, text)
 }
 
-/// Writes the text of the error for an invalid ordering, with the byte in decimal.
 fn write_decimal_ordering(value: u32, text: &mut [u8]) -> usize
     ensures { ReturnsText (Some (message_text (message.InvalidOrdering value false))) text.old result text.new }
 {
@@ -240,7 +229,6 @@ fn write_decimal_ordering(value: u32, text: &mut [u8]) -> usize
     put_decimal(value, at, text)
 }
 
-/// Writes the text of the error for an invalid ordering.
 fn write_ordering(name: u32, value: u32, text: &mut [u8]) -> usize
     ensures { ReturnsText (option_map message_text (ordering_numbered name value)) text.old result text.new }
 {
@@ -251,7 +239,6 @@ fn write_ordering(name: u32, value: u32, text: &mut [u8]) -> usize
     }
 }
 
-/// Writes the text of the error for invalid cast flags.
 fn write_flags(value: u32, text: &mut [u8]) -> usize
     ensures { ReturnsText (Some (message_text (message.InvalidCastFlags value))) text.old result text.new }
 {
@@ -259,7 +246,6 @@ fn write_flags(value: u32, text: &mut [u8]) -> usize
     put_binary(value, at, text)
 }
 
-/// Writes the text of the error for an invalid leading byte.
 fn write_leading(name: &str, value: u32, text: &mut [u8]) -> usize
     requires { length name.now < 2 ^ 16 }
     ensures { ReturnsText (Some (codes "invalid leading byte (0x" ++ (hexadecimal value ++ (codes ") for " ++ name.now)))) text.old result text.new }
@@ -270,7 +256,8 @@ fn write_leading(name: &str, value: u32, text: &mut [u8]) -> usize
     put(name, third, text)
 }
 
-/// Writes the same text from the numbers of the name and the byte.
+/// Writes the text of the error for the invalid leading byte `value`; `name` is the number of a
+/// name.
 fn write_leading_byte(name: u32, value: u32, text: &mut [u8]) -> usize
     ensures { ReturnsText (option_map message_text (option_map (λ n. message.InvalidLeadingByte value n) (leading_numbered name))) text.old result text.new }
 {
@@ -280,7 +267,6 @@ fn write_leading_byte(name: u32, value: u32, text: &mut [u8]) -> usize
     }
 }
 
-/// Writes the text of the error for an invalid type.
 fn write_type(name: u32, text: &mut [u8]) -> usize
     ensures { ReturnsText (option_map message_text (option_map message.InvalidType (type_numbered name))) text.old result text.new }
 {
@@ -290,7 +276,7 @@ fn write_type(name: u32, text: &mut [u8]) -> usize
     }
 }
 
-/// Writes the text of an error whose text has no name or value.
+/// Writes a text without a name or value.
 fn write_bare(number: u32, text: &mut [u8]) -> usize
     ensures { ReturnsText (option_map message_text (bare_numbered number)) text.old result text.new }
 {
@@ -323,8 +309,8 @@ fn write_bare(number: u32, text: &mut [u8]) -> usize
     }
 }
 
-/// Writes the text of an error, as much of it as fits. Returns the length of the whole text, or 0
-/// if the numbers are those of no error.
+/// Writes the text of an error, as much of it as fits. Returns the whole length, or 0 if the
+/// numbers are those of no error.
 pub fn write_text(number: u32, name: u32, value: u32, text: &mut [u8]) -> usize
     ensures { ReturnsText (option_map message_text (message_numbered number name value)) text.old result text.new }
 {

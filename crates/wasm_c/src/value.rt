@@ -5,20 +5,19 @@ ghost use Rattle.wasm_c.specs.Values.{number_value, signed_value, of_value_type,
 use wasm_operators::{BlockType, HeapType, Operator, RefType, ValType};
 use wasm_view::{WasmHandler, WasmType, type_of, view_of};
 
-/// A value as a C struct of 16 bytes without padding. Fields without a meaning are 0.
+/// A value as a C struct of 16 bytes. Fields without a meaning are 0.
 #[repr(C)]
 #[derive(Clone, Copy, Debug, PartialEq, Eq)]
 pub struct WasmValue {
-    /// A number, which is sign-extended to 64 bits if its kind is signed; a length; a tag.
+    /// A number, sign-extended if it is signed; a length; a tag.
     pub number: u64,
     /// The kind of a type, or the form of a clause.
     pub kind: u32,
-    /// The type index of a type, or the label of a clause.
+    /// The index of a type, or the label of a clause.
     pub index: u32,
 }
 
 impl WasmValue {
-    /// Returns the C struct of a number.
     pub fn number(number: u64) -> WasmValue
         ensures { result ≡ number_value number }
     {
@@ -29,7 +28,6 @@ impl WasmValue {
         }
     }
 
-    /// Returns the C struct of a signed number.
     pub fn signed(number: i64) -> WasmValue
         ensures { result ≡ signed_value number }
     {
@@ -48,7 +46,6 @@ impl WasmValue {
         }
     }
 
-    /// Returns the C struct of a value type.
     pub fn of_value_type(ty: ValType) -> WasmValue
         ensures { result ≡ of_value_type ty }
     {
@@ -60,14 +57,13 @@ impl WasmValue {
         }
     }
 
-    /// Returns the C struct of a reference type.
     pub fn of_reference_type(ty: RefType) -> WasmValue
         ensures { result ≡ of_reference_type ty }
     {
         WasmValue::of_value_type(ValType::Ref(ty))
     }
 
-    /// Returns the C struct of a heap type, with the numbers that the operator `ref.null` has.
+    /// Returns the C struct of a heap type: `kind` and `first` of `ref.null`.
     pub fn of_heap_type(hty: HeapType) -> WasmValue
         ensures { result ≡ of_heap_type hty }
     {
@@ -79,7 +75,7 @@ impl WasmValue {
         }
     }
 
-    /// Returns the C struct of a block type, with the numbers that the operator `block` has.
+    /// Returns the C struct of a block type: `kind` and `first` of `block`.
     pub fn of_block_type(blockty: BlockType) -> WasmValue
         ensures { result ≡ of_block_type blockty }
     {
@@ -91,7 +87,6 @@ impl WasmValue {
         }
     }
 
-    /// Returns the C struct of a clause.
     pub fn of_handler(handler: WasmHandler) -> WasmValue
         ensures { result ≡ of_handler handler }
     {

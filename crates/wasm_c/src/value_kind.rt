@@ -2,30 +2,23 @@
 ghost use Rattle.std.specs.Prelude.{◌≡◌, slice_get};
 ghost use Rattle.wasm_c.specs.Values.{value_kinds};
 
-/// A kind of values.
 #[derive(Clone, Copy, Debug, PartialEq, Eq)]
 pub enum ValueKind {
-    /// One byte.
     U8,
-    /// A number of four bytes, the lowest first.
+    /// Four bytes, little-endian.
     U32,
-    /// A number of eight bytes, the lowest first.
+    /// Eight bytes, little-endian.
     U64,
-    /// An unsigned LEB128 number of 32 bits.
+    /// LEB128 of the type in the name, like the next four.
     VarU32,
-    /// An unsigned LEB128 number of 64 bits.
     VarU64,
-    /// A signed LEB128 number of 32 bits.
     VarI32,
-    /// A signed LEB128 number of 33 bits.
     VarS33,
-    /// A signed LEB128 number of 64 bits.
     VarI64,
-    /// The count of a list, which has a limit.
+    /// The count of a list, with a limit.
     Size,
-    /// Some bytes.
     Bytes,
-    /// A number of 32 bits, followed by that many bytes.
+    /// A number of bytes, and the bytes.
     Sized,
     /// The locals of a body.
     Locals,
@@ -35,7 +28,7 @@ pub enum ValueKind {
     ReferenceType,
     HeapType,
     BlockType,
-    /// One declaration of locals.
+    /// A declaration of locals.
     Local,
     /// A clause of a `try_table`.
     Catch,
@@ -44,7 +37,7 @@ pub enum ValueKind {
 }
 
 impl ValueKind {
-    /// Returns the kind with this number, if there is one. Kinds are counted from 0.
+    /// Returns the kind with this number, counted from 0.
     pub fn numbered(number: u32) -> Option<ValueKind>
         ensures { result ≡ slice_get value_kinds number }
     {

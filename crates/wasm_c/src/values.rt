@@ -22,7 +22,6 @@ use wasm_operators::{
 };
 use wasm_view::{catch_of, handle_of};
 
-/// Reads a byte.
 fn read_u8(reader: &mut BinaryReader<'_>) -> Result<WasmValue>
     ensures { ReadsAs IsByte number_value EndFault result reader.old reader.new }
 {
@@ -32,7 +31,6 @@ fn read_u8(reader: &mut BinaryReader<'_>) -> Result<WasmValue>
     }
 }
 
-/// Reads a number of four bytes.
 fn read_u32(reader: &mut BinaryReader<'_>) -> Result<WasmValue>
     ensures { ReadsAs (EncodesFixed w32) number_value (EndsWithin 4) result reader.old reader.new }
 {
@@ -42,7 +40,6 @@ fn read_u32(reader: &mut BinaryReader<'_>) -> Result<WasmValue>
     }
 }
 
-/// Reads a number of eight bytes.
 fn read_u64(reader: &mut BinaryReader<'_>) -> Result<WasmValue>
     ensures { ReadsAs (EncodesFixed w64) number_value (EndsWithin 8) result reader.old reader.new }
 {
@@ -52,7 +49,6 @@ fn read_u64(reader: &mut BinaryReader<'_>) -> Result<WasmValue>
     }
 }
 
-/// Reads an unsigned LEB128 number of 32 bits.
 fn read_var_u32(reader: &mut BinaryReader<'_>) -> Result<WasmValue>
     ensures { ReadsAs (EncodesUnsigned 32) number_value U32Fault result reader.old reader.new }
 {
@@ -62,7 +58,6 @@ fn read_var_u32(reader: &mut BinaryReader<'_>) -> Result<WasmValue>
     }
 }
 
-/// Reads an unsigned LEB128 number of 64 bits.
 fn read_var_u64(reader: &mut BinaryReader<'_>) -> Result<WasmValue>
     ensures { ReadsAs (EncodesUnsigned 64) number_value U64Fault result reader.old reader.new }
 {
@@ -72,7 +67,6 @@ fn read_var_u64(reader: &mut BinaryReader<'_>) -> Result<WasmValue>
     }
 }
 
-/// Reads a signed LEB128 number of 32 bits.
 fn read_var_i32(reader: &mut BinaryReader<'_>) -> Result<WasmValue>
     ensures { ReadsAs (EncodesSigned 32) signed_value I32Fault result reader.old reader.new }
 {
@@ -82,7 +76,6 @@ fn read_var_i32(reader: &mut BinaryReader<'_>) -> Result<WasmValue>
     }
 }
 
-/// Reads a signed LEB128 number of 33 bits.
 fn read_var_s33(reader: &mut BinaryReader<'_>) -> Result<WasmValue>
     ensures { ReadsAs (EncodesSigned 33) signed_value S33Fault result reader.old reader.new }
 {
@@ -92,7 +85,6 @@ fn read_var_s33(reader: &mut BinaryReader<'_>) -> Result<WasmValue>
     }
 }
 
-/// Reads a signed LEB128 number of 64 bits.
 fn read_var_i64(reader: &mut BinaryReader<'_>) -> Result<WasmValue>
     ensures { ReadsAs (EncodesSigned 64) signed_value I64Fault result reader.old reader.new }
 {
@@ -102,7 +94,6 @@ fn read_var_i64(reader: &mut BinaryReader<'_>) -> Result<WasmValue>
     }
 }
 
-/// Reads the count of a list, at most `limit`.
 fn read_size(reader: &mut BinaryReader<'_>, limit: u64) -> Result<WasmValue>
     ensures { ReadsAs (EncodesSize limit) number_value (CountFault size_name.BrTable limit) result reader.old reader.new }
 {
@@ -112,7 +103,6 @@ fn read_size(reader: &mut BinaryReader<'_>, limit: u64) -> Result<WasmValue>
     }
 }
 
-/// Reads this many bytes.
 fn read_bytes(reader: &mut BinaryReader<'_>, count: u64) -> Result<WasmValue>
     ensures { ReadsAs (IsBlock count) (λ block. number_value (length block.now)) (EndsWithin count) result reader.old reader.new }
 {
@@ -122,7 +112,6 @@ fn read_bytes(reader: &mut BinaryReader<'_>, count: u64) -> Result<WasmValue>
     }
 }
 
-/// Reads a number of 32 bits, and that many bytes.
 fn read_sized(reader: &mut BinaryReader<'_>) -> Result<WasmValue>
     ensures { ReadsAs (EncodesReader reader.old.features) (λ part. number_value (length part.buffer)) ReaderFault result reader.old reader.new }
 {
@@ -132,7 +121,6 @@ fn read_sized(reader: &mut BinaryReader<'_>) -> Result<WasmValue>
     }
 }
 
-/// Reads the locals of a body.
 fn read_locals(reader: &mut BinaryReader<'_>) -> Result<WasmValue>
     ensures { ReadsLocals result reader.old reader.new }
 {
@@ -145,7 +133,6 @@ fn read_locals(reader: &mut BinaryReader<'_>) -> Result<WasmValue>
     }
 }
 
-/// Reads a constant expression.
 fn read_constant(alloc: Global, reader: &mut BinaryReader<'_>) -> Result<WasmValue>
     ensures { ReadsConstant result reader.old reader.new }
 {
@@ -158,7 +145,6 @@ fn read_constant(alloc: Global, reader: &mut BinaryReader<'_>) -> Result<WasmVal
     }
 }
 
-/// Reads a value type.
 fn read_value_type(reader: &mut BinaryReader<'_>) -> Result<WasmValue>
     ensures { ReadsAs EncodesValType of_value_type ValTypeFault result reader.old reader.new }
 {
@@ -168,7 +154,6 @@ fn read_value_type(reader: &mut BinaryReader<'_>) -> Result<WasmValue>
     }
 }
 
-/// Reads a reference type.
 fn read_reference_type(reader: &mut BinaryReader<'_>) -> Result<WasmValue>
     ensures { ReadsAs EncodesRefType of_reference_type RefTypeFault result reader.old reader.new }
 {
@@ -178,7 +163,6 @@ fn read_reference_type(reader: &mut BinaryReader<'_>) -> Result<WasmValue>
     }
 }
 
-/// Reads a heap type.
 fn read_heap_type(reader: &mut BinaryReader<'_>) -> Result<WasmValue>
     ensures { ReadsAs EncodesHeapType of_heap_type HeapTypeFault result reader.old reader.new }
 {
@@ -188,7 +172,6 @@ fn read_heap_type(reader: &mut BinaryReader<'_>) -> Result<WasmValue>
     }
 }
 
-/// Reads a block type.
 fn read_block_type(reader: &mut BinaryReader<'_>) -> Result<WasmValue>
     ensures { ReadsAs EncodesBlockType of_block_type BlockTypeFault result reader.old reader.new }
 {
@@ -198,8 +181,7 @@ fn read_block_type(reader: &mut BinaryReader<'_>) -> Result<WasmValue>
     }
 }
 
-/// Reads a declaration of locals, after declarations of `total` locals. Fails with `TooManyLocals`
-/// after the number of locals if there are more than 4294967295 in total.
+/// Reads a declaration of locals, after declarations of `total` locals.
 fn read_local(reader: &mut BinaryReader<'_>, total: u64) -> Result<WasmValue>
     ensures { ReadsLocal total result reader.old reader.new }
 {
@@ -222,7 +204,6 @@ fn read_local(reader: &mut BinaryReader<'_>, total: u64) -> Result<WasmValue>
     }
 }
 
-/// Reads a clause of a `try_table`.
 fn read_catch(reader: &mut BinaryReader<'_>) -> Result<WasmValue>
     ensures { ReadsAs EncodesCatch (λ c. of_handler (catch_of c)) CatchFault result reader.old reader.new }
 {
@@ -232,7 +213,6 @@ fn read_catch(reader: &mut BinaryReader<'_>) -> Result<WasmValue>
     }
 }
 
-/// Reads a clause of a resume table.
 fn read_clause(reader: &mut BinaryReader<'_>) -> Result<WasmValue>
     ensures { ReadsAs EncodesHandle (λ h. of_handler (handle_of h)) HandleFault result reader.old reader.new }
 {

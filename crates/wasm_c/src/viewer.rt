@@ -12,8 +12,8 @@ use wasm_operators::{
 };
 use wasm_view::{WasmOperator, view_of};
 
-/// The innermost frame; the offset of the next operator; and, of the visited operator, the C struct
-/// and the effect on the frames.
+/// The innermost frame, the offset of the next operator, and what was found of the visited
+/// operator.
 #[derive(Debug, Drop)]
 pub struct Viewer {
     pub frame: FrameKind,
@@ -23,7 +23,6 @@ pub struct Viewer {
 }
 
 impl Viewer {
-    /// Creates a visitor for the first operator of an expression.
     pub fn new() -> Viewer
         ensures frame { result.frame ≡ FrameKind.Block }
         ensures offset { result.offset ≡ 0 }

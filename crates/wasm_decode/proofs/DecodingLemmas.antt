@@ -30,8 +30,6 @@ use Rattle.wasm_visit.proofs.of_opcodes.EntriesAgree.{entry_agrees}
 use Rattle.wasm_visit.proofs.of_decode.Ranges.{InRanges, codes_in}
 use Rattle.wasm_decode.specs.Reading.{DecodesOperator, DecodesOperatorAt, DecodesGcAt}
 
--- ---- by a copy of the reader
-
 -- a call changes only the reader's position
 position_alone : {V A : Type 0} (visits : V → Operator → A → V → Type 0) (k : FrameKind) (start : ℕ) (result : Result A Error) (old mid : Reader) (v w : V) →
     DecodesAt visits k start result old mid v w → mid ≡ at_position old mid.position
@@ -61,8 +59,6 @@ module _ {V A : Type 0} (visits : V → Operator → A → V → Type 0) (k : Fr
   pub copy_refused : (e : Error) (new : Reader) → DecodesAt visits k start (Err e) lent mid v w → new ≡ at_position old start →
       DecodesAt visits k start (Err e) old new v w
   copy_refused e new h went = by_copy (Err e) new start h (sym (ap (λ (r : Reader). r.position) h.1.0)) went
-
--- ---- the first byte
 
 -- the reader is after the byte that it read
 pub occurs : (old mid : Reader) (code start : ℕ) → Reads IsByte (Ok code) old mid → start ≡ old.position → (at_position mid start ≡ old) × IsAfterCode start None code mid
@@ -120,8 +116,6 @@ refuses_closed E F e old m at within = (
   },
   λ some. (m, at),
 )
-
--- ---- a prefix byte
 
 -- the reader is after the subopcode that it read
 pub is_after_code : (start p code : ℕ) (mid now : Reader) → IsAfterCode start None p mid → Reads (EncodesUnsigned 32) (Ok code) mid now →
@@ -200,8 +194,6 @@ pub after_prefix : {V A : Type 0} (visits : V → Operator → A → V → Type 
     Decodes visits (EncodesAllowed mid.features k) (OperatorFault mid.features k) result (at_position mid start) new v w
 after_prefix visits k start mid now new v w result stays h =
     subst (λ (z : Reader). Decodes visits (EncodesAllowed z.features k) (OperatorFault z.features k) result (at_position z start) new v w) stays h
-
--- ---- visitors without SIMD operators
 
 pub vector_prefix : (op : Operator) → IsVector op → prefix_of op ≡ Some 0xfd
 vector_prefix (operator.Simd op) h = refl
@@ -295,16 +287,12 @@ refuses_vector k start e mid new is b went m at = go b.opcode
           λ some. inl ((rest mid, parts), m, at),
         )
 
--- ---- the whole call
-
 -- from the position after the opcode to the operator's start
 pub from_start : {V A : Type 0} (visits : V → Operator → A → V → Type 0) (E : WasmFeatures → FrameKind → List ℕ → Operator → Type 0)
     (F : WasmFeatures → FrameKind → Message → Reader → ℕ → Type 0) (k : FrameKind) (start : ℕ) (old mid new : Reader) (v w : V) (result : Result A Error) → at_position mid start ≡ old →
     Decodes visits (E mid.features k) (F mid.features k) result (at_position mid start) new v w → Decodes visits (E old.features k) (F old.features k) result old new v w
 from_start visits E F k start old mid new v w result back h =
     subst (λ (z : Reader). Decodes visits (E z.features k) (F z.features k) result z new v w) back h
-
--- ---- reading
 
 -- decoding by a visitor that returns the operator is reading
 pub as_read : {V : Type 0} (E : List ℕ → Operator → Type 0) (F : Message → Reader → ℕ → Type 0) (old new : Reader) (v w : V) (result : Result Operator Error) →
@@ -342,8 +330,6 @@ module _ (k : FrameKind) (start : ℕ) (old lent mid : Reader) (same : lent ≡ 
       as_read (EncodesAllowed old.features k) (OperatorFault old.features k) (at_position old start) new tt tt (Err e)
       (copy_refused ReturnsOperator k start old lent mid tt tt same e new (visited (Err e) h) went)
 
--- ---- reading after the prefix byte 0xfb
-
 -- the operator of a visit, if its prefix byte is 0xfb
 abbrev IsGc : Operator → GcOperator → Type 0
 IsGc op outcome = (made : GcOperator) → op ≡ operator.Gc made → outcome ≡ made
@@ -372,8 +358,6 @@ pub read_from_start : (E : WasmFeatures → FrameKind → List ℕ → Operator 
     DecodesOperator (E mid.features k) (F mid.features k) result (at_position mid start) new → DecodesOperator (E old.features k) (F old.features k) result old new
 read_from_start E F k start old mid new result back h = subst (λ (z : Reader). DecodesOperator (E z.features k) (F z.features k) result z new) back h
 
--- ---- prefix bytes
-
 abbrev is_prefixes : Entry → Bool
 is_prefixes prefixes = true
 is_prefixes _ = false
@@ -381,8 +365,6 @@ is_prefixes _ = false
 -- the prefix bytes are 0xfb to 0xfe
 pub prefix_bytes : (code : ℕ) → entry_at None code ≡ prefixes → InRanges code ((0xfb, 0xfe) ∷ [])
 prefix_bytes code e = codes_in is_prefixes ((0xfb, 0xfe) ∷ []) opcode_entries code refl refl (ap is_prefixes e)
-
--- ---- with an open frame
 
 opened : (E : FrameKind → List ℕ → Operator → Type 0) (k : FrameKind) (e : Error) (old : Reader) → IsRefusedOperator (E k) e old → IsRefusedOperator (EncodesIn E (Some k)) e old
 opened E k e old h =

@@ -1,4 +1,3 @@
--- The fault of an operator determines message and offset of its error.
 use Rattle.std.proofs.Common.{ℕ, List, [], ◌∷◌, Option, Some, None, sym, ◌∙◌}
 use Rattle.wasm_visit.specs.below.bytes.features.WasmFeatures.{WasmFeatures}
 use Rattle.wasm_visit.specs.below.bytes.message.Message.{Message}

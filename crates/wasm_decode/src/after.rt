@@ -1,6 +1,5 @@
-//! Decodes the bytes after an opcode, except a branch table. SIMD operators without immediates are
-//! visited inline. All other operators with a prefix byte are decoded by a call that is not
-//! inlined.
+//! Decodes the bytes after an opcode, except a branch table. After a prefix byte, only SIMD
+//! operators without immediates are visited inline.
 ghost use Rattle.std.specs.Prelude.{◌≡◌, ◌≢◌, [], Some, None, IfOk, IfErr};
 ghost use Rattle.wasm_visit.specs.below.Source.{at_position};
 ghost use Rattle.wasm_visit.specs.grammar.declared.frame_kind.FrameKind.{FrameKind};
@@ -17,8 +16,8 @@ use wasm_visit::grammar::FrameKind;
 use wasm_visit::instr::SimdOperator;
 use wasm_visit::{VisitGroups, VisitSimdOperator, decode};
 
-/// Reads the subopcode after a prefix byte at the position `start`: a LEB128 number of 32 bits,
-/// which may be overlong. On an error the reader goes back to `start`.
+/// Reads the subopcode after a prefix byte at the position `start`: a u32 that may be overlong. On
+/// an error, goes back to `start`.
 #[inline(always)]
 pub fn subopcode(reader: &mut BinaryReader<'_>, start: usize, prefix: u8) -> Result<u32>
     requires after { IsAfterCode start None prefix reader.old }
@@ -36,7 +35,6 @@ pub fn subopcode(reader: &mut BinaryReader<'_>, start: usize, prefix: u8) -> Res
     }
 }
 
-/// Visits an operator that is neither a branch table nor a SIMD operator, after its opcode.
 #[inline(always)]
 pub fn group_after_opcode<V: VisitGroups>(
     alloc: Global,
@@ -60,7 +58,6 @@ pub fn group_after_opcode<V: VisitGroups>(
     }
 }
 
-/// Visits a SIMD operator, after the prefix byte 0xfd.
 #[inline(always)]
 pub fn simd_after_prefix<V: VisitSimdOperator>(
     v: &mut V,
@@ -76,7 +73,6 @@ pub fn simd_after_prefix<V: VisitSimdOperator>(
     }
 }
 
-/// Visits the SIMD operator with this subopcode, after the subopcode.
 #[inline(always)]
 pub fn simd_of<V: VisitSimdOperator>(
     v: &mut V,
@@ -93,7 +89,6 @@ pub fn simd_of<V: VisitSimdOperator>(
     visit_after_prefix(v, reader, start, Simd { code })
 }
 
-/// Returns the SIMD operator without immediates that has this subopcode.
 #[inline(always)]
 pub fn vector_without_immediates(code: u32) -> SimdOperator
     requires { entry_at (Some 0xfd) code ≡ free [] }
@@ -105,7 +100,6 @@ pub fn vector_without_immediates(code: u32) -> SimdOperator
     }
 }
 
-/// Makes the SIMD operator without immediates that has this subopcode, and visits it.
 #[inline(always)]
 fn visit_without_immediates<V: VisitSimdOperator>(v: &mut V, code: u32) -> V::Output
     requires { entry_at (Some 0xfd) code ≡ free [] }

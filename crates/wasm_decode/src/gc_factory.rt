@@ -1,4 +1,3 @@
-//! A visitor that returns a `GcOperator`.
 ghost use Rattle.std.specs.Prelude.{◌≡◌};
 ghost use Rattle.wasm_visit.specs.instr.declared.operator.Operator.{Operator};
 ghost use Rattle.wasm_visit.specs.instr.ops.gc.GcOperator.{GcOperator};
@@ -6,19 +5,16 @@ ghost use Rattle.wasm_visit.specs.instr.ops.gc.GcOperator.{GcOperator};
 use wasm_visit::instr::{GcOperator, Operator};
 use wasm_visit::{VisitGc, Visitor};
 
-/// A visitor that returns an operator with the prefix byte 0xfb as a `GcOperator`, not as an
-/// `Operator`. All other bytes of the `Operator` would be zero, and every call that returns it
-/// would copy them.
+/// A visitor that returns an operator with the prefix byte 0xfb as a `GcOperator`. Each call that
+/// returns an `Operator` would copy its other bytes, all zero.
 ///
-/// It is used for no other operator. For one its relation says nothing, and it returns an arbitrary
-/// value.
+/// For another operator its relation says nothing, and it returns an arbitrary value.
 #[derive(Drop)]
 pub struct GcFactory;
 
 impl Visitor for GcFactory {
     type Output = GcOperator;
 
-    // An operator with the prefix byte 0xfb is returned.
     ghost visits = { λ before op outcome after. (made : GcOperator) → op ≡ Operator.Gc made → outcome ≡ made };
 
     #[inline(always)]

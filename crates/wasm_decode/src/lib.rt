@@ -1,8 +1,8 @@
-//! The decoder of one operator, from its bytes to its visit. Operators are read in the same way.
+//! Decodes one operator from its bytes, and visits or returns it.
 //!
 //! The decoder reads the opcode, and calls the visitor's method for the group of the operator. So
-//! only a visitor that makes operators builds an `Operator`. The contracts are defined in `specs/`
-//! of `wasm_decode_opcodes`: `Decodes`, `EncodesAllowed` and `OperatorFault`.
+//! only a visitor that makes operators builds an `Operator`. `wasm_decode_opcodes` defines the
+//! contracts: `Decodes`, `EncodesAllowed` and `OperatorFault`.
 #![tactic(auto)]
 
 mod after;
@@ -22,7 +22,7 @@ pub use visit::{
 };
 pub use wasm_visit::{below, grammar, imm, instr};
 
-/// Visitors: their traits, and the functions that call their visits.
+/// Traits of visitors, and the functions that call their visits.
 pub mod visitors {
     pub use wasm_visit::{
         HoldOperator, HoldTable, IsEndOperatorVisitor, OperatorFactory, OperatorMaker, VisitAtomic,

@@ -1,9 +1,9 @@
 //! Decodes the bytes after a prefix byte by a call that is not inlined, so that the code for
-//! operators of one byte stays small.
+//! operators with a one-byte opcode stays small.
 //!
-//! The call borrows a copy of the reader and a place for an error. So the caller's reader and the
-//! result of the visit stay in registers. It is marked cold, so that the compiler places the code
-//! around the call after the loop that contains it.
+//! The call borrows a copy of the reader and a place for an error: the caller's reader and the
+//! result stay in registers. It is cold, so that the compiler places the code around it after the
+//! loop.
 ghost use Rattle.std.specs.Prelude.{◌≡◌, ℕ, Option, Ok, Err, IfSome, IfNone};
 ghost use Rattle.wasm_visit.specs.grammar.declared.frame_kind.FrameKind.{FrameKind};
 ghost use Rattle.wasm_visit.specs.opcodes.Decoding.{IsAfterCode, DecodesAt};
@@ -11,8 +11,7 @@ ghost use Rattle.wasm_visit.specs.opcodes.Decoding.{IsAfterCode, DecodesAt};
 use wasm_visit::Visitor;
 use wasm_visit::below::{BinaryReader, Error, Message, Result};
 
-/// A decoder that starts after a prefix byte, or after the subopcode that follows it, for the
-/// visitor `V`.
+/// A decoder that starts after a prefix byte or after its subopcode, for the visitor `V`.
 pub trait AfterPrefix<V: Visitor> {
     // The prefix byte if a subopcode was read too, else `None`.
     ghost prefix: { Self → Option ℕ };
@@ -20,7 +19,6 @@ pub trait AfterPrefix<V: Visitor> {
     // The code that was read last: the prefix byte or the subopcode.
     ghost code: { Self → ℕ };
 
-    /// Reads the rest of the operator and visits it.
     fn visit(self, v: &mut V, reader: &mut BinaryReader<'_>, start: usize) -> Result<V::Output>
         requires { IsAfterCode start (prefix self) (code self) reader.old }
         ensures { (frame : FrameKind) → DecodesAt V.visits frame start result reader.old reader.new v.old v.new };
@@ -32,7 +30,6 @@ pub fn place() -> Error {
     Error::new(Message::EndOfData, 0)
 }
 
-/// Decodes and visits the operator by a call that is not inlined.
 #[inline(always)]
 pub fn visit_after_prefix<V: Visitor, B: AfterPrefix<V>>(
     v: &mut V,

@@ -1,4 +1,4 @@
-//! Decoders that start after a prefix byte, by the methods of a visitor.
+//! Decoders that start after a prefix byte.
 ghost use Rattle.std.specs.Prelude.{Some, None};
 
 use crate::after::subopcode;
@@ -6,7 +6,6 @@ use crate::out_of_line::AfterPrefix;
 use wasm_visit::below::{BinaryReader, Result};
 use wasm_visit::{VisitGroups, VisitSimdOperator};
 
-/// The decoder after the prefix byte 0xfb.
 #[derive(Drop)]
 pub struct Gc;
 
@@ -24,7 +23,6 @@ impl<V: VisitGroups> AfterPrefix<V> for Gc {
     }
 }
 
-/// The decoder after the prefix byte 0xfc.
 #[derive(Drop)]
 pub struct Misc;
 
@@ -42,7 +40,6 @@ impl<V: VisitGroups> AfterPrefix<V> for Misc {
     }
 }
 
-/// The decoder after the prefix byte 0xfe.
 #[derive(Drop)]
 pub struct Atomic;
 

@@ -1,4 +1,4 @@
-//! Reads an operator, by the visitor `Factory` or, with the prefix byte 0xfb, by `GcFactory`.
+//! Reads an operator by the visitor `Factory` or, with the prefix byte 0xfb, by `GcFactory`.
 ghost use Rattle.std.specs.Prelude.{◌≡◌, ◌≢◌, None, Some, Ok, Err, IfSome, IfNone};
 ghost use Rattle.wasm_decode.specs.Reading.{DecodesOperatorIn, DecodesOperatorAt, DecodesGcAt};
 ghost use Rattle.wasm_visit.specs.grammar.declared.frame_kind.FrameKind.{FrameKind};
@@ -16,10 +16,8 @@ use wasm_visit::instr::{GcOperator, Operator};
 use wasm_visit::layer_factory::Factory;
 use wasm_visit::opcodes::immediates;
 
-/// Reads the operator at the start of the rest, which may be a SIMD operator. `frame` is the
-/// innermost frame. The result is that of a visit by `OperatorFactory`.
-///
-/// Fails like `visit_operator_simd`.
+/// Reads the operator at the start of the rest. `frame` is the innermost frame. Fails like
+/// `visit_operator_simd`.
 #[inline(always)]
 pub fn read_operator<'a>(
     alloc: Global,
@@ -72,8 +70,7 @@ fn read_table<'a>(reader: &mut BinaryReader<'a>, start: usize) -> Result<Operato
     }
 }
 
-/// Reads an operator after the prefix byte 0xfb. The call that is not inlined borrows a copy of the
-/// reader.
+/// Reads an operator after the prefix byte 0xfb, by a call that borrows a copy of the reader.
 #[inline(always)]
 fn read_gc(reader: &mut BinaryReader<'_>, start: usize) -> Result<Operator<'static>>
     requires { IsAfterCode start None 0xfb reader.old }
@@ -93,8 +90,8 @@ fn read_gc(reader: &mut BinaryReader<'_>, start: usize) -> Result<Operator<'stat
     }
 }
 
-/// Returns the operator after the prefix byte 0xfb, or writes the error to `refusal`. The
-/// `Operator` is made here, at an exit of the function that no error reaches.
+/// Returns the operator, or writes the error to `refusal`. The `Operator` is made at an exit that
+/// no error reaches.
 #[cold]
 #[inline(never)]
 fn gc_out_of_line(
@@ -118,7 +115,6 @@ fn gc_out_of_line(
     Some(Operator::Gc(op))
 }
 
-/// Reads an operator after the prefix byte 0xfb, as a `GcOperator`.
 #[inline(always)]
 fn gc_of(reader: &mut BinaryReader<'_>, start: usize) -> Result<GcOperator>
     requires { IsAfterCode start None 0xfb reader.old }
@@ -130,7 +126,6 @@ fn gc_of(reader: &mut BinaryReader<'_>, start: usize) -> Result<GcOperator>
     }
 }
 
-/// Reads a SIMD operator after the prefix byte 0xfd.
 #[inline(always)]
 fn read_simd(reader: &mut BinaryReader<'_>, start: usize) -> Result<Operator<'static>>
     requires { IsAfterCode start None 0xfd reader.old }
@@ -142,8 +137,8 @@ fn read_simd(reader: &mut BinaryReader<'_>, start: usize) -> Result<Operator<'st
     }
 }
 
-/// Reads the SIMD operator with this subopcode. Without immediates it is made here, not by the
-/// factory's method, which would return it through memory.
+/// Makes an operator without immediates itself: the factory's method would return it through
+/// memory.
 #[inline(always)]
 fn read_simd_of(reader: &mut BinaryReader<'_>, start: usize, code: u32) -> Result<Operator<'static>>
     requires { IsAfterCode start (Some 0xfd) code reader.old }
@@ -155,7 +150,6 @@ fn read_simd_of(reader: &mut BinaryReader<'_>, start: usize, code: u32) -> Resul
     simd_of(&mut Factory, reader, start, code)
 }
 
-/// Reads an operator that is neither a branch table nor a SIMD operator, after its opcode.
 #[inline(always)]
 fn read_group(
     alloc: Global,

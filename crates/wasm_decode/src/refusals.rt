@@ -1,4 +1,3 @@
-//! Errors at the start of an operator.
 ghost use Rattle.std.specs.Prelude.{◌≡◌, ◌≤◌, None};
 ghost use Rattle.wasm_visit.specs.below.Source.{offset_of, end_of};
 ghost use Rattle.wasm_visit.specs.grammar.declared.frame_kind.FrameKind.{FrameKind};
@@ -6,8 +5,6 @@ ghost use Rattle.wasm_visit.specs.opcodes.Decoding.{IsAfterCode, RefusesScalarAt
 
 use wasm_visit::below::{BinaryReader, Error, Message};
 
-/// Returns the error of an operator without an open frame: `OperatorsRemaining` at the offset of
-/// the position.
 #[inline(always)]
 pub fn no_frame(reader: &BinaryReader<'_>) -> Error
     ensures message { result.message ≡ Message.OperatorsRemaining }
@@ -18,8 +15,8 @@ pub fn no_frame(reader: &BinaryReader<'_>) -> Error
     Error::new(Message::OperatorsRemaining, reader.original_position())
 }
 
-/// Returns the error of a visitor without SIMD operators at the byte 0xfd, whatever follows. The
-/// reader goes back to `start`.
+/// Goes back to `start`, and returns the error of a visitor without SIMD operators at the byte
+/// 0xfd.
 #[inline(always)]
 pub fn unexpected_simd(reader: &mut BinaryReader<'_>, start: usize) -> Error
     requires { IsAfterCode start None 0xfd reader.old }

@@ -1,4 +1,3 @@
-//! Reads and visits an operator.
 ghost use Rattle.std.specs.Prelude.{◌≡◌, ◌<◌, ◌≤◌, [], ◌∷◌, false, None};
 ghost use Rattle.wasm_visit.specs.grammar.declared.frame_kind.FrameKind.{FrameKind};
 ghost use Rattle.wasm_visit.specs.instr.Immediate.{branch_table, is_branch_table};
@@ -13,13 +12,12 @@ use wasm_visit::imm::BrTable;
 use wasm_visit::opcodes::immediates;
 use wasm_visit::{VisitOperator, VisitSimdOperator};
 
-/// Reads and visits the operator at the start of the rest, which may be a SIMD operator. `frame` is
-/// the innermost frame.
+/// Reads and visits the operator at the start of the rest. `frame` is the innermost frame.
 ///
-/// Fails with `OperatorsRemaining` at the offset of the position if no frame is open. Other errors
-/// are those of operators in `docs/ERRORS-AND-FEATURES.md`: `EndOfData`, `FeatureRequired`,
-/// `WrongFrame`, `IllegalOpcode`, `UnknownSubopcode`, and the errors of immediates. `OutOfMemory`
-/// has the offset of the operator's start, and occurs only for an operator that owns a list.
+/// Fails with `OperatorsRemaining` at the position if no frame is open, otherwise with `EndOfData`,
+/// `FeatureRequired`, `WrongFrame`, `IllegalOpcode`, `UnknownSubopcode`, or the error of an
+/// immediate (`docs/ERRORS-AND-FEATURES.md`). `OutOfMemory` has the offset of the operator's start,
+/// and occurs only for an operator that owns a list.
 #[inline(always)]
 pub fn visit_operator_simd<'a, V>(
     alloc: Global,
@@ -42,9 +40,9 @@ where
 }
 
 /// Reads the rest of the operator with this opcode, which was read at the position `start`, and
-/// visits it. On an error the reader goes back to `start`.
+/// visits it. On an error, goes back to `start`.
 ///
-/// Fails like `visit_operator_simd`, but never for a missing frame or a missing opcode.
+/// Fails like `visit_operator_simd`, but never for a missing frame or opcode.
 #[inline(always)]
 pub fn visit_after_opcode_simd<'a, V>(
     alloc: Global,
@@ -66,11 +64,8 @@ where
     }
 }
 
-/// Reads and visits the operator at the start of the rest, for a visitor without SIMD operators.
-/// `frame` is the innermost frame.
-///
-/// Fails with `UnexpectedSimd` at the byte 0xfd, whatever follows, and otherwise like
-/// `visit_operator_simd`.
+/// Reads and visits like `visit_operator_simd`, for a visitor without SIMD operators. Fails with
+/// `UnexpectedSimd` at the byte 0xfd, whatever follows.
 #[inline(always)]
 pub fn visit_operator<'a, V: VisitOperator<'a>>(
     alloc: Global,
@@ -90,11 +85,8 @@ pub fn visit_operator<'a, V: VisitOperator<'a>>(
     }
 }
 
-/// Reads the rest of the operator with this opcode, which was read at the position `start`, and
-/// visits it, for a visitor without SIMD operators.
-///
-/// Fails with `UnexpectedSimd` at `start` if the opcode is 0xfd, and otherwise like
-/// `visit_after_opcode_simd`.
+/// Reads and visits like `visit_after_opcode_simd`, for a visitor without SIMD operators. Fails
+/// with `UnexpectedSimd` at `start` if the opcode is 0xfd.
 #[inline(always)]
 pub fn visit_after_opcode<'a, V: VisitOperator<'a>>(
     alloc: Global,
@@ -114,10 +106,8 @@ pub fn visit_after_opcode<'a, V: VisitOperator<'a>>(
     }
 }
 
-/// Reads the rest of a control or parametric instruction, whose opcode below 0x20 was read at the
-/// position `start`, and visits it.
-///
-/// Fails like `visit_after_opcode_simd`.
+/// Reads and visits like `visit_after_opcode_simd`, for an opcode below 0x20: a control or
+/// parametric instruction.
 #[inline(always)]
 pub fn visit_below_0x20<'a, V: VisitOperator<'a>>(
     alloc: Global,
@@ -138,7 +128,6 @@ pub fn visit_below_0x20<'a, V: VisitOperator<'a>>(
     }
 }
 
-/// Reads and visits a branch table, the only operator that borrows, after its opcode.
 #[inline(always)]
 fn table_after_opcode<'a, V: VisitOperator<'a>>(
     v: &mut V,
@@ -154,7 +143,7 @@ fn table_after_opcode<'a, V: VisitOperator<'a>>(
     }
 }
 
-/// Reads the targets of a branch table. The call that is not inlined borrows a copy of the reader.
+/// Reads the targets of a branch table by a call that borrows a copy of the reader.
 #[inline(always)]
 fn branch_table<'a>(reader: &mut BinaryReader<'a>, start: usize) -> Result<BrTable<'a>>
     requires { start ≤ reader.old.position }

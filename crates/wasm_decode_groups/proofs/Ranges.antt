@@ -70,7 +70,7 @@ is_operator unknown = false
 is_operator prefixes = false
 is_operator _ = true
 
--- no operator of one byte has an opcode outside of the ranges, except prefix bytes
+-- no operator with a one-byte opcode has an opcode outside of the ranges, except prefix bytes
 pub unknown_byte : (rs : List (ℕ × ℕ)) (es : List Entry) (c : ℕ) → covers is_operator rs 0 es ≡ true → (get_or es c unknown ≡ prefixes → ⊥) → (InRanges c rs → ⊥) →
     get_or es c unknown ≡ unknown
 unknown_byte rs es c h apart outside = go (get_or es c unknown) refl

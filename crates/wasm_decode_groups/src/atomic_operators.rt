@@ -1,4 +1,4 @@
-//! Decoding of the operators with prefix 0xfe. Written by tools/lists.py from tools/operators.tsv.
+//! Decoding of operators with prefix 0xfe. Written by tools/lists.py from tools/operators.tsv.
 ghost use Rattle.std.specs.Prelude.{◌≡◌, ◌<◌, [], ◌∷◌, Some, None};
 ghost use Rattle.wasm_visit_groups.specs.grammar.declared.frame_kind.FrameKind.{FrameKind};
 ghost use Rattle.wasm_visit_groups.specs.instr.Immediate.{unsigned_32, memory_argument, order, is_unsigned_32, is_order, is_memory_argument};
@@ -36,7 +36,7 @@ pub fn atomic<V: VisitAtomic>(
     }
 }
 
-/// Reads immediates by `memory` and visits the operator.
+/// Reads immediates and visits the operator.
 #[inline(always)]
 fn memory<V: VisitAtomic>(
     v: &mut V,
@@ -55,7 +55,7 @@ fn memory<V: VisitAtomic>(
     }
 }
 
-/// Returns the exponent of the operator's natural alignment.
+/// Returns the natural alignment as an exponent.
 #[inline(always)]
 fn align_of_memory(code: u32) -> u8
     requires { entry_at (Some 0xfe) code ≡ free (is_memory_argument MemArgKind.Plain (align_at (Some 0xfe) code) ∷ []) }
@@ -68,7 +68,7 @@ fn align_of_memory(code: u32) -> u8
     }
 }
 
-/// Calls the visit of the operator with this code.
+/// Visits the operator with this code.
 #[inline(always)]
 fn visit_memory<V: VisitAtomic>(v: &mut V, code: u32, it: MemArg) -> V::Output
     requires { entry_at (Some 0xfe) code ≡ free (is_memory_argument MemArgKind.Plain (align_at (Some 0xfe) code) ∷ []) }
@@ -98,7 +98,7 @@ fn atomic_fence<V: VisitAtomic>(
     }
 }
 
-/// Reads immediates by `memory` and visits the operator.
+/// Reads immediates and visits the operator.
 #[inline(always)]
 fn memory_op<V: VisitAtomic>(
     v: &mut V,
@@ -117,7 +117,7 @@ fn memory_op<V: VisitAtomic>(
     }
 }
 
-/// Returns the exponent of the operator's natural alignment.
+/// Returns the natural alignment as an exponent.
 #[inline(always)]
 fn align_of_memory_op(code: u32) -> u8
     requires { entry_at (Some 0xfe) code ≡ free (is_memory_argument MemArgKind.Op (align_at (Some 0xfe) code) ∷ []) }
@@ -141,7 +141,7 @@ fn align_of_memory_op(code: u32) -> u8
     }
 }
 
-/// Calls the visit of the operator with this code.
+/// Visits the operator with this code.
 #[inline(always)]
 fn visit_memory_op<V: VisitAtomic>(v: &mut V, code: u32, it: MemArg) -> V::Output
     requires { entry_at (Some 0xfe) code ≡ free (is_memory_argument MemArgKind.Op (align_at (Some 0xfe) code) ∷ []) }
@@ -166,7 +166,7 @@ fn visit_memory_op<V: VisitAtomic>(v: &mut V, code: u32, it: MemArg) -> V::Outpu
     }
 }
 
-/// Reads immediates by `memory` and visits the operator.
+/// Reads immediates and visits the operator.
 #[inline(always)]
 fn memory_rmw<V: VisitAtomic>(
     v: &mut V,
@@ -185,7 +185,7 @@ fn memory_rmw<V: VisitAtomic>(
     }
 }
 
-/// Returns the exponent of the operator's natural alignment.
+/// Returns the natural alignment as an exponent.
 #[inline(always)]
 fn align_of_memory_rmw(code: u32) -> u8
     requires { entry_at (Some 0xfe) code ≡ free (is_memory_argument MemArgKind.Rmw (align_at (Some 0xfe) code) ∷ []) }
@@ -244,7 +244,7 @@ fn align_of_memory_rmw(code: u32) -> u8
     }
 }
 
-/// Calls the visit of the operator with this code.
+/// Visits the operator with this code.
 #[inline(always)]
 fn visit_memory_rmw<V: VisitAtomic>(v: &mut V, code: u32, it: MemArg) -> V::Output
     requires { entry_at (Some 0xfe) code ≡ free (is_memory_argument MemArgKind.Rmw (align_at (Some 0xfe) code) ∷ []) }
@@ -304,7 +304,7 @@ fn visit_memory_rmw<V: VisitAtomic>(v: &mut V, code: u32, it: MemArg) -> V::Outp
     }
 }
 
-/// Reads immediates by `ordered` and visits the operator.
+/// Reads immediates and visits the operator.
 #[inline(always)]
 fn ordered<V: VisitAtomic>(
     v: &mut V,
@@ -322,7 +322,7 @@ fn ordered<V: VisitAtomic>(
     }
 }
 
-/// Calls the visit of the operator with this code.
+/// Visits the operator with this code.
 #[inline(always)]
 fn visit_ordered<V: VisitAtomic>(v: &mut V, code: u32, it: (Ordering, u32)) -> V::Output
     requires { entry_at (Some 0xfe) code ≡ free (is_order ∷ is_unsigned_32 ∷ []) }
@@ -356,7 +356,7 @@ fn visit_ordered<V: VisitAtomic>(v: &mut V, code: u32, it: (Ordering, u32)) -> V
     }
 }
 
-/// Reads immediates by `ordered_two` and visits the operator.
+/// Reads immediates and visits the operator.
 #[inline(always)]
 fn ordered_two<V: VisitAtomic>(
     v: &mut V,
@@ -374,7 +374,7 @@ fn ordered_two<V: VisitAtomic>(
     }
 }
 
-/// Calls the visit of the operator with this code.
+/// Visits the operator with this code.
 #[inline(always)]
 fn visit_ordered_two<V: VisitAtomic>(v: &mut V, code: u32, it: (Ordering, (u32, u32))) -> V::Output
     requires { entry_at (Some 0xfe) code ≡ free (is_order ∷ is_unsigned_32 ∷ is_unsigned_32 ∷ []) }
@@ -411,7 +411,7 @@ fn without_immediates<V: VisitAtomic>(
     Ok(visit_without_immediates(v, code))
 }
 
-/// Calls the visit of the operator with this code.
+/// Visits the operator with this code.
 #[inline(always)]
 fn visit_without_immediates<V: VisitAtomic>(v: &mut V, code: u32) -> V::Output
     requires { entry_at (Some 0xfe) code ≡ free ([]) }

@@ -1,4 +1,4 @@
-//! Decoding of the operators with prefix 0xfb. Written by tools/lists.py from tools/operators.tsv.
+//! Decoding of operators with prefix 0xfb. Written by tools/lists.py from tools/operators.tsv.
 ghost use Rattle.std.specs.Prelude.{◌≡◌, ◌<◌, [], ◌∷◌, Some, None};
 ghost use Rattle.wasm_visit_groups.specs.grammar.declared.frame_kind.FrameKind.{FrameKind};
 ghost use Rattle.wasm_visit_groups.specs.instr.Immediate.{unsigned_32, heap_type, cast, is_unsigned_32, is_heap_type, is_cast};
@@ -41,7 +41,7 @@ pub fn gc<V: VisitGc>(
     }
 }
 
-/// Reads immediates by `unsigned` and visits the operator.
+/// Reads immediates and visits the operator.
 #[inline(always)]
 fn unsigned<V: VisitGc>(
     v: &mut V,
@@ -59,7 +59,7 @@ fn unsigned<V: VisitGc>(
     }
 }
 
-/// Calls the visit of the operator with this code.
+/// Visits the operator with this code.
 #[inline(always)]
 fn visit_unsigned<V: VisitGc>(v: &mut V, code: u32, it: u32) -> V::Output
     requires { entry_at (Some 0xfb) code ≡ free (is_unsigned_32 ∷ []) }
@@ -81,7 +81,7 @@ fn visit_unsigned<V: VisitGc>(v: &mut V, code: u32, it: u32) -> V::Output
     }
 }
 
-/// Reads immediates by `two_unsigned` and visits the operator.
+/// Reads immediates and visits the operator.
 #[inline(always)]
 fn two_unsigned<V: VisitGc>(
     v: &mut V,
@@ -99,7 +99,7 @@ fn two_unsigned<V: VisitGc>(
     }
 }
 
-/// Calls the visit of the operator with this code.
+/// Visits the operator with this code.
 #[inline(always)]
 fn visit_two_unsigned<V: VisitGc>(v: &mut V, code: u32, it: (u32, u32)) -> V::Output
     requires { entry_at (Some 0xfb) code ≡ free (is_unsigned_32 ∷ is_unsigned_32 ∷ []) }
@@ -134,7 +134,7 @@ fn without_immediates<V: VisitGc>(
     Ok(visit_without_immediates(v, code))
 }
 
-/// Calls the visit of the operator with this code.
+/// Visits the operator with this code.
 #[inline(always)]
 fn visit_without_immediates<V: VisitGc>(v: &mut V, code: u32) -> V::Output
     requires { entry_at (Some 0xfb) code ≡ free ([]) }
@@ -150,7 +150,7 @@ fn visit_without_immediates<V: VisitGc>(v: &mut V, code: u32) -> V::Output
     }
 }
 
-/// Reads immediates by `heap_type` and visits the operator.
+/// Reads immediates and visits the operator.
 #[inline(always)]
 fn heap_type<V: VisitGc>(
     v: &mut V,
@@ -168,7 +168,7 @@ fn heap_type<V: VisitGc>(
     }
 }
 
-/// Calls the visit of the operator with this code.
+/// Visits the operator with this code.
 #[inline(always)]
 fn visit_heap_type<V: VisitGc>(v: &mut V, code: u32, it: HeapType) -> V::Output
     requires { entry_at (Some 0xfb) code ≡ free (is_heap_type ∷ []) }
@@ -184,7 +184,7 @@ fn visit_heap_type<V: VisitGc>(v: &mut V, code: u32, it: HeapType) -> V::Output
     }
 }
 
-/// Reads immediates by `cast` and visits the operator.
+/// Reads immediates and visits the operator.
 #[inline(always)]
 fn cast<V: VisitGc>(
     v: &mut V,
@@ -202,7 +202,7 @@ fn cast<V: VisitGc>(
     }
 }
 
-/// Calls the visit of the operator with this code.
+/// Visits the operator with this code.
 #[inline(always)]
 fn visit_cast<V: VisitGc>(v: &mut V, code: u32, it: Cast) -> V::Output
     requires { entry_at (Some 0xfb) code ≡ free (is_cast ∷ []) }

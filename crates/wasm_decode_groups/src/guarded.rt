@@ -1,5 +1,5 @@
-//! Decoding of the operators of one byte whose feature and frame are checked, or that may own a
-//! list.
+//! Decoding of operators with a one-byte opcode whose feature and frame are checked, or that may
+//! own a list.
 ghost use Rattle.std.specs.Prelude.{None};
 ghost use Rattle.wasm_visit_groups.specs.grammar.declared.frame_kind.FrameKind.{FrameKind};
 ghost use Rattle.wasm_decode_opcodes.specs.Decoding.{IsAfterCode, DecodesAt};

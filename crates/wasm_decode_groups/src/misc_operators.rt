@@ -1,4 +1,4 @@
-//! Decoding of the operators with prefix 0xfc. Written by tools/lists.py from tools/operators.tsv.
+//! Decoding of operators with prefix 0xfc. Written by tools/lists.py from tools/operators.tsv.
 ghost use Rattle.std.specs.Prelude.{◌≡◌, ◌<◌, [], ◌∷◌, Some, None};
 ghost use Rattle.wasm_visit_groups.specs.grammar.declared.frame_kind.FrameKind.{FrameKind};
 ghost use Rattle.wasm_visit_groups.specs.instr.Immediate.{unsigned_32, is_unsigned_32};
@@ -51,7 +51,7 @@ fn without_immediates<V: VisitMisc>(
     Ok(visit_without_immediates(v, code))
 }
 
-/// Calls the visit of the operator with this code.
+/// Visits the operator with this code.
 #[inline(always)]
 fn visit_without_immediates<V: VisitMisc>(v: &mut V, code: u32) -> V::Output
     requires { entry_at (Some 0xfc) code ≡ free ([]) }
@@ -73,7 +73,7 @@ fn visit_without_immediates<V: VisitMisc>(v: &mut V, code: u32) -> V::Output
     }
 }
 
-/// Reads immediates by `two_unsigned` and visits the operator.
+/// Reads immediates and visits the operator.
 #[inline(always)]
 fn two_unsigned<V: VisitMisc>(
     v: &mut V,
@@ -91,7 +91,7 @@ fn two_unsigned<V: VisitMisc>(
     }
 }
 
-/// Calls the visit of the operator with this code.
+/// Visits the operator with this code.
 #[inline(always)]
 fn visit_two_unsigned<V: VisitMisc>(v: &mut V, code: u32, it: (u32, u32)) -> V::Output
     requires { entry_at (Some 0xfc) code ≡ free (is_unsigned_32 ∷ is_unsigned_32 ∷ []) }
@@ -105,7 +105,7 @@ fn visit_two_unsigned<V: VisitMisc>(v: &mut V, code: u32, it: (u32, u32)) -> V::
     }
 }
 
-/// Reads immediates by `unsigned` and visits the operator.
+/// Reads immediates and visits the operator.
 #[inline(always)]
 fn unsigned<V: VisitMisc>(
     v: &mut V,
@@ -123,7 +123,7 @@ fn unsigned<V: VisitMisc>(
     }
 }
 
-/// Calls the visit of the operator with this code.
+/// Visits the operator with this code.
 #[inline(always)]
 fn visit_unsigned<V: VisitMisc>(v: &mut V, code: u32, it: u32) -> V::Output
     requires { entry_at (Some 0xfc) code ≡ free (is_unsigned_32 ∷ []) }

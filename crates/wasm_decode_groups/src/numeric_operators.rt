@@ -1,4 +1,4 @@
-//! Decoding of the numeric operators. Written by tools/lists.py from tools/operators.tsv.
+//! Decoding of numeric operators. Written by tools/lists.py from tools/operators.tsv.
 ghost use Rattle.std.specs.Prelude.{◌≡◌, ◌≤◌, [], None};
 ghost use Rattle.wasm_decode_opcodes.specs.Decoding.{VisitsRow};
 

@@ -1,4 +1,4 @@
-//! Decoding of the operators of one byte. Written by tools/lists.py from tools/operators.tsv.
+//! Decoding of operators with a one-byte opcode. Written by tools/lists.py from tools/operators.tsv.
 ghost use Rattle.std.specs.Prelude.{◌≡◌, ◌≤◌, ◌<◌, [], ◌∷◌, Some, None, IfSome, IfNone};
 ghost use Rattle.wasm_visit_groups.specs.grammar.declared.frame_kind.FrameKind.{FrameKind};
 ghost use Rattle.wasm_visit_groups.specs.instr.Immediate.{unsigned_32, signed_32, memory_argument, memory_index, block_type, is_unsigned_32, is_memory_index, is_block_type, is_memory_argument};
@@ -19,7 +19,8 @@ use wasm_visit_groups::below::{BinaryReader, Result};
 use wasm_visit_groups::grammar::FrameKind;
 use wasm_visit_groups::imm::{BlockType, MemArg, MemArgKind};
 
-/// Reads the immediates of an operator of one byte and visits it. Common operators are inlined.
+/// Reads the immediates of an operator with a one-byte opcode and visits it. Common operators are
+/// inlined.
 #[inline(always)]
 pub fn one_byte<V: VisitOneByte>(
     alloc: Global,
@@ -39,7 +40,8 @@ pub fn one_byte<V: VisitOneByte>(
     }
 }
 
-/// Reads the immediates of an operator of one byte and visits it, if its opcode is a common one.
+/// Reads the immediates of an operator with a one-byte opcode and visits it, if its opcode is a
+/// common one.
 ///
 /// Returns `None` for other opcodes. Then nothing changes.
 #[inline(always)]
@@ -74,7 +76,8 @@ pub fn common_one_byte<V: VisitOneByte>(
     }
 }
 
-/// Reads the immediates of an operator of one byte and visits it. Every operator has an arm here.
+/// Reads the immediates of an operator with a one-byte opcode and visits it. Every operator has an
+/// arm here.
 #[inline(always)]
 pub fn any_one_byte<V: VisitOneByte>(
     alloc: Global,
@@ -147,7 +150,7 @@ fn without_immediates<V: VisitOneByte>(
     Ok(visit_without_immediates(v, code))
 }
 
-/// Calls the visit of the operator with this code.
+/// Visits the operator with this code.
 #[inline(always)]
 fn visit_without_immediates<V: VisitOneByte>(v: &mut V, code: u8) -> V::Output
     requires kinds { entry_at None code ≡ free ([]) }
@@ -168,7 +171,7 @@ fn visit_without_immediates<V: VisitOneByte>(v: &mut V, code: u8) -> V::Output
     }
 }
 
-/// Reads immediates by `block_type` and visits the operator.
+/// Reads immediates and visits the operator.
 #[inline(always)]
 fn block_type<V: VisitOneByte>(
     v: &mut V,
@@ -186,7 +189,7 @@ fn block_type<V: VisitOneByte>(
     }
 }
 
-/// Calls the visit of the operator with this code.
+/// Visits the operator with this code.
 #[inline(always)]
 fn visit_block_type<V: VisitOneByte>(v: &mut V, code: u8, it: BlockType) -> V::Output
     requires { entry_at None code ≡ free (is_block_type ∷ []) }
@@ -199,7 +202,7 @@ fn visit_block_type<V: VisitOneByte>(v: &mut V, code: u8, it: BlockType) -> V::O
     }
 }
 
-/// Reads immediates by `unsigned` and visits the operator.
+/// Reads immediates and visits the operator.
 #[inline(always)]
 fn unsigned<V: VisitOneByte>(
     v: &mut V,
@@ -217,7 +220,7 @@ fn unsigned<V: VisitOneByte>(
     }
 }
 
-/// Calls the visit of the operator with this code.
+/// Visits the operator with this code.
 #[inline(always)]
 fn visit_unsigned<V: VisitOneByte>(v: &mut V, code: u8, it: u32) -> V::Output
     requires { entry_at None code ≡ free (is_unsigned_32 ∷ []) }
@@ -263,7 +266,7 @@ fn call_indirect<V: VisitOneByte>(
     }
 }
 
-/// Reads immediates by `memory` and visits the operator.
+/// Reads immediates and visits the operator.
 #[inline(always)]
 fn memory<V: VisitOneByte>(
     v: &mut V,
@@ -281,7 +284,7 @@ fn memory<V: VisitOneByte>(
     }
 }
 
-/// Returns the exponent of the operator's natural alignment.
+/// Returns the natural alignment as an exponent.
 #[inline(always)]
 fn align_of_memory(code: u8) -> u8
     requires { entry_at None code ≡ free (is_memory_argument MemArgKind.Plain (align_at None code) ∷ []) }
@@ -314,7 +317,7 @@ fn align_of_memory(code: u8) -> u8
     }
 }
 
-/// Calls the visit of the operator with this code.
+/// Visits the operator with this code.
 #[inline(always)]
 fn visit_memory<V: VisitOneByte>(v: &mut V, code: u8, it: MemArg) -> V::Output
     requires { entry_at None code ≡ free (is_memory_argument MemArgKind.Plain (align_at None code) ∷ []) }
@@ -348,7 +351,7 @@ fn visit_memory<V: VisitOneByte>(v: &mut V, code: u8, it: MemArg) -> V::Output
     }
 }
 
-/// Reads immediates by `memory_index` and visits the operator.
+/// Reads immediates and visits the operator.
 #[inline(always)]
 fn memory_index<V: VisitOneByte>(
     v: &mut V,
@@ -366,7 +369,7 @@ fn memory_index<V: VisitOneByte>(
     }
 }
 
-/// Calls the visit of the operator with this code.
+/// Visits the operator with this code.
 #[inline(always)]
 fn visit_memory_index<V: VisitOneByte>(v: &mut V, code: u8, it: u32) -> V::Output
     requires { entry_at None code ≡ free (is_memory_index ∷ []) }
@@ -458,7 +461,7 @@ fn ref_null<V: VisitOneByte>(
     }
 }
 
-/// Reads immediates by `two_unsigned` and visits the operator.
+/// Reads immediates and visits the operator.
 #[inline(always)]
 fn two_unsigned<V: VisitOneByte>(
     v: &mut V,
@@ -476,7 +479,7 @@ fn two_unsigned<V: VisitOneByte>(
     }
 }
 
-/// Calls the visit of the operator with this code.
+/// Visits the operator with this code.
 #[inline(always)]
 fn visit_two_unsigned<V: VisitOneByte>(v: &mut V, code: u8, it: (u32, u32)) -> V::Output
     requires { entry_at None code ≡ free (is_unsigned_32 ∷ is_unsigned_32 ∷ []) }

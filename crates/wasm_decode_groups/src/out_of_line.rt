@@ -1,4 +1,4 @@
-//! The less frequent operators of one byte, decoded by one call that is not inlined.
+//! The less frequent operators with a one-byte opcode, decoded by one call that is not inlined.
 //!
 //! The call borrows a copy of the reader and a place for an error. So the caller's reader and the
 //! result of a visit stay in registers.
@@ -12,7 +12,7 @@ use wasm_visit_groups::VisitOneByte;
 use wasm_visit_groups::below::{BinaryReader, Error, Message, Result};
 use wasm_visit_groups::grammar::FrameKind;
 
-/// Reads the immediates of an operator of one byte and visits it.
+/// Reads the immediates of an operator with a one-byte opcode and visits it.
 #[inline(always)]
 pub fn other_one_byte<V: VisitOneByte>(
     alloc: Global,

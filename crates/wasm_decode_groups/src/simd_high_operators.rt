@@ -1,4 +1,4 @@
-//! Decoding of the SIMD operators from 0x80 on. Written by tools/lists.py from tools/operators.tsv.
+//! Decoding of SIMD operators from 0x80 on. Written by tools/lists.py from tools/operators.tsv.
 ghost use Rattle.std.specs.Prelude.{◌≡◌, ◌≤◌, ◌<◌, [], ◌∷◌, Some, None};
 ghost use Rattle.wasm_visit_groups.specs.grammar.declared.frame_kind.FrameKind.{FrameKind};
 ghost use Rattle.wasm_visit_groups.specs.instr.Immediate.{vector};
@@ -45,7 +45,7 @@ pub fn without_immediates<V: VisitSimdHigh>(
     Ok(visit_without_immediates(v, code))
 }
 
-/// Calls the visit of the operator with this code.
+/// Visits the operator with this code.
 #[inline(always)]
 fn visit_without_immediates<V: VisitSimdHigh>(v: &mut V, code: u32) -> V::Output
     requires kinds { entry_at (Some 0xfd) code ≡ free ([]) }

@@ -1,4 +1,4 @@
-//! Decoding of the SIMD operators below 0x80. Written by tools/lists.py from tools/operators.tsv.
+//! Decoding of SIMD operators below 0x80. Written by tools/lists.py from tools/operators.tsv.
 ghost use Rattle.std.specs.Prelude.{◌≡◌, ◌<◌, [], ◌∷◌, Some, None};
 ghost use Rattle.wasm_visit_groups.specs.grammar.declared.frame_kind.FrameKind.{FrameKind};
 ghost use Rattle.wasm_visit_groups.specs.instr.Immediate.{vector, one_lane, memory_argument, is_one_lane, is_memory_argument};
@@ -37,7 +37,7 @@ pub fn simd_low<V: VisitSimdLow>(
     }
 }
 
-/// Reads immediates by `memory` and visits the operator.
+/// Reads immediates and visits the operator.
 #[inline(always)]
 fn memory<V: VisitSimdLow>(
     v: &mut V,
@@ -56,7 +56,7 @@ fn memory<V: VisitSimdLow>(
     }
 }
 
-/// Returns the exponent of the operator's natural alignment.
+/// Returns the natural alignment as an exponent.
 #[inline(always)]
 fn align_of_memory(code: u32) -> u8
     requires { entry_at (Some 0xfd) code ≡ free (is_memory_argument MemArgKind.Plain (align_at (Some 0xfd) code) ∷ []) }
@@ -80,7 +80,7 @@ fn align_of_memory(code: u32) -> u8
     }
 }
 
-/// Calls the visit of the operator with this code.
+/// Visits the operator with this code.
 #[inline(always)]
 fn visit_memory<V: VisitSimdLow>(v: &mut V, code: u32, it: MemArg) -> V::Output
     requires { entry_at (Some 0xfd) code ≡ free (is_memory_argument MemArgKind.Plain (align_at (Some 0xfd) code) ∷ []) }
@@ -105,7 +105,7 @@ fn visit_memory<V: VisitSimdLow>(v: &mut V, code: u32, it: MemArg) -> V::Output
     }
 }
 
-/// Reads immediates by `memory_lane` and visits the operator.
+/// Reads immediates and visits the operator.
 #[inline(always)]
 fn memory_lane<V: VisitSimdLow>(
     v: &mut V,
@@ -124,7 +124,7 @@ fn memory_lane<V: VisitSimdLow>(
     }
 }
 
-/// Returns the exponent of the operator's natural alignment.
+/// Returns the natural alignment as an exponent.
 #[inline(always)]
 fn align_of_memory_lane(code: u32) -> u8
     requires { entry_at (Some 0xfd) code
@@ -143,7 +143,7 @@ fn align_of_memory_lane(code: u32) -> u8
     }
 }
 
-/// Calls the visit of the operator with this code.
+/// Visits the operator with this code.
 #[inline(always)]
 fn visit_memory_lane<V: VisitSimdLow>(v: &mut V, code: u32, it: (MemArg, u8)) -> V::Output
     requires { entry_at (Some 0xfd) code
@@ -195,7 +195,7 @@ fn i8x16_shuffle<V: VisitSimdLow>(
     }
 }
 
-/// Reads immediates by `lane` and visits the operator.
+/// Reads immediates and visits the operator.
 #[inline(always)]
 fn lane<V: VisitSimdLow>(
     v: &mut V,
@@ -213,7 +213,7 @@ fn lane<V: VisitSimdLow>(
     }
 }
 
-/// Calls the visit of the operator with this code.
+/// Visits the operator with this code.
 #[inline(always)]
 fn visit_lane<V: VisitSimdLow>(v: &mut V, code: u32, it: u8) -> V::Output
     requires { entry_at (Some 0xfd) code ≡ free (is_one_lane ∷ []) }
@@ -253,7 +253,7 @@ pub fn without_immediates<V: VisitSimdLow>(
     Ok(visit_without_immediates(v, code))
 }
 
-/// Calls the visit of the operator with this code.
+/// Visits the operator with this code.
 #[inline(always)]
 fn visit_without_immediates<V: VisitSimdLow>(v: &mut V, code: u32) -> V::Output
     requires kinds { entry_at (Some 0xfd) code ≡ free ([]) }

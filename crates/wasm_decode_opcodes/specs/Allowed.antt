@@ -12,11 +12,11 @@ use Rattle.wasm_instr.specs.Roles.{role_of}
 abbrev pub EncodesAllowed : WasmFeatures → FrameKind → List ℕ → Operator → Type 0
 EncodesAllowed f k text op = EncodesOperator f op text × Allows k (role_of op)
 
--- The same for an operator that is not a SIMD operator.
+-- As `EncodesAllowed`, and the operator is no SIMD operator.
 abbrev pub EncodesScalar : WasmFeatures → FrameKind → List ℕ → Operator → Type 0
 EncodesScalar f k text op = EncodesAllowed f k text op × ¬ IsVector op
 
--- The same if this frame is the innermost one. If none is open, no text encodes an operator.
+-- `Encodes` in this innermost frame. If none is open, no bytes encode an operator.
 abbrev pub EncodesIn : (FrameKind → List ℕ → Operator → Type 0) → Option FrameKind → List ℕ → Operator → Type 0
 EncodesIn Encodes None text op = ⊥
 EncodesIn Encodes (Some k) text op = Encodes k text op

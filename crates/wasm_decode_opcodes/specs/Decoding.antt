@@ -15,7 +15,7 @@ use Rattle.wasm_decode_opcodes.specs.Kinds.{EncodesKinds}
 use Rattle.wasm_decode_opcodes.specs.OperatorFaults.{KindsFault, OperatorFault, ScalarOperatorFault, FaultIn}
 use Rattle.wasm_decode_opcodes.specs.Refused.{IsRefusedOperator}
 
--- The call fails: the reader is unchanged, no such operator follows, and the error is one of this fault.
+-- The call fails: the reader is unchanged, no operator of `Encodes` follows, and the error is one of `Fault`.
 abbrev pub RefusesOperator : (List ℕ → Operator → Type 0) → (Message → Reader → ℕ → Type 0) → Error → Reader → Reader → Type 0
 RefusesOperator Encodes Fault e old new = (new ≡ old) × IsRefusedOperator Encodes e old × HasFault Fault e old
 
@@ -24,40 +24,40 @@ abbrev pub Decodes : {V A : Type 0} → (V → Operator → A → V → Type 0) 
 Decodes visits Encodes Fault (Ok a) old new v w = (text : List ℕ) × (op : Operator) × Encodes text op × Takes old new text × visits v op a w
 Decodes visits Encodes Fault (Err e) old new v w = (w ≡ v) × RefusesOperator Encodes Fault e old new
 
--- The same for a call after the opcode of an operator that began at the position `start`, in a frame of this kind. On Err the reader goes back to `start`.
+-- As `Decodes`, for a call after the opcode of an operator that began at `start`, in a frame of this kind. On `Err` the reader goes back to `start`.
 abbrev pub DecodesAt : {V A : Type 0} → (V → Operator → A → V → Type 0) → FrameKind → ℕ → Result A Error → Reader → Reader → V → V → Type 0
 DecodesAt visits frame start result old new v w =
     Decodes visits (EncodesAllowed old.features frame) (OperatorFault old.features frame) result (at_position old start) new v w
 
--- The same for a visitor without SIMD operators.
+-- As `DecodesAt`, for a visitor without SIMD operators.
 abbrev pub DecodesScalarAt : {V A : Type 0} → (V → Operator → A → V → Type 0) → FrameKind → ℕ → Result A Error → Reader → Reader → V → V → Type 0
 DecodesScalarAt visits frame start result old new v w =
     Decodes visits (EncodesScalar old.features frame) (ScalarOperatorFault old.features frame) result (at_position old start) new v w
 
--- The same for the operator at the start of the rest, if this frame is the innermost one, or none is open.
+-- As `Decodes`, for the operator at the start of the rest, in this innermost frame. If none is open, the error is `OperatorsRemaining`.
 abbrev pub DecodesIn : {V A : Type 0} → (V → Operator → A → V → Type 0) → Option FrameKind → Result A Error → Reader → Reader → V → V → Type 0
 DecodesIn visits frame result old new v w =
     Decodes visits (EncodesIn (EncodesAllowed old.features) frame) (FaultIn (OperatorFault old.features) frame) result old new v w
 
--- The same for a visitor without SIMD operators.
+-- As `DecodesIn`, for a visitor without SIMD operators.
 abbrev pub DecodesScalarIn : {V A : Type 0} → (V → Operator → A → V → Type 0) → Option FrameKind → Result A Error → Reader → Reader → V → V → Type 0
 DecodesScalarIn visits frame result old new v w =
     Decodes visits (EncodesIn (EncodesScalar old.features) frame) (FaultIn (ScalarOperatorFault old.features) frame) result old new v w
 
--- The call fails for an operator that began at the position `start`, and the reader goes back there.
+-- The call fails, and the reader goes back to `start`, where the operator began.
 abbrev pub RefusesAt : FrameKind → ℕ → Error → Reader → Reader → Type 0
 RefusesAt frame start e old new = RefusesOperator (EncodesAllowed old.features frame) (OperatorFault old.features frame) e (at_position old start) new
 
--- The same for a visitor without SIMD operators.
+-- As `RefusesAt`, for a visitor without SIMD operators.
 abbrev pub RefusesScalarAt : FrameKind → ℕ → Error → Reader → Reader → Type 0
 RefusesScalarAt frame start e old new = RefusesOperator (EncodesScalar old.features frame) (ScalarOperatorFault old.features frame) e (at_position old start) new
 
--- The reader is directly after this opcode, or after this prefix byte and subopcode, which were read from the position `start` on.
+-- The reader is after this opcode, or this prefix byte and subopcode, which began at `start`.
 pub record IsAfterCode (start : ℕ) (prefix : Option ℕ) (code : ℕ) (r : Reader) : Type 0 where
   pub begun : start ≤ r.position
   pub opcode : Reads (λ text c. EncodesOpcode prefix c text) (Ok code) (at_position r start) r
 
--- The result is that of a visit of an operator with this opcode, or this prefix byte and subopcode, and these immediates.
+-- The result of a visit of an operator with this code, prefix byte (if any) and immediates.
 abbrev pub VisitsRow : {V A : Type 0} → (V → Operator → A → V → Type 0) → Option ℕ → ℕ → List Immediate → V → A → V → Type 0
 VisitsRow visits prefix code is v a w = (op : Operator) × (prefix_of op ≡ prefix) × (opcode_of op ≡ code) × (immediates_of op ≡ is) × visits v op a w
 

@@ -1,13 +1,13 @@
 -- Written by tools/lists.py from tools/operators.tsv.
 -- The kinds of the immediates after each opcode and each subopcode.
--- WebAssembly Core Specification 3.0: Binary Format, Instructions; Appendix, Index of Instructions.
+-- Specification: Binary Format, Instructions; Appendix, Index of Instructions.
 use Rattle.std.specs.Prelude.{ℕ, ◌==◌, if◌then◌else◌, List, [], ◌∷◌, slice_index_or, Option, Some, None}
 use Rattle.wasm_instr.specs.imm.declared.memory_argument.MemArgKind.TheVariants as kind
 use Rattle.wasm_instr.specs.Immediate.{is_unsigned_32, is_signed_32, is_signed_64, is_float_32, is_float_64, is_one_lane, is_sixteen_lanes, is_vector, is_memory_index, is_table_index, is_order, is_fence_order, is_heap_type, is_cast, is_block_type, is_branch_table, is_select_types, is_try_clauses, is_resume_clauses, is_memory_argument}
 use Rattle.wasm_decode_opcodes.specs.declared.guard.Guard.TheVariants as guard
 use Rattle.wasm_decode_opcodes.specs.Entry.{Entry, unknown, prefixes, free, guarded, align_in}
 
--- The entries of the opcodes, by code.
+-- The entry of each opcode, at the index of its number.
 abbrev pub opcode_entries : List Entry
 opcode_entries =
     (free []) ∷
@@ -267,7 +267,7 @@ opcode_entries =
     prefixes ∷
     []
 
--- The entries of the subopcodes after the prefix byte 0xfb, by code.
+-- The entry of each subopcode after the prefix byte 0xfb, at the index of its number.
 abbrev pub gc_entries : List Entry
 gc_entries =
     (free (is_unsigned_32 ∷ [])) ∷
@@ -311,7 +311,7 @@ gc_entries =
     (free (is_cast ∷ [])) ∷
     []
 
--- The entries of the subopcodes after the prefix byte 0xfc, by code.
+-- The entry of each subopcode after the prefix byte 0xfc, at the index of its number.
 abbrev pub misc_entries : List Entry
 misc_entries =
     (free []) ∷
@@ -339,7 +339,7 @@ misc_entries =
     (free []) ∷
     []
 
--- The entries of the subopcodes after the prefix byte 0xfd, by code.
+-- The entry of each subopcode after the prefix byte 0xfd, at the index of its number.
 abbrev pub simd_entries : List Entry
 simd_entries =
     (free (is_memory_argument kind.Plain 4 ∷ [])) ∷
@@ -620,7 +620,7 @@ simd_entries =
     (free []) ∷
     []
 
--- The entries of the subopcodes after the prefix byte 0xfe, by code.
+-- The entry of each subopcode after the prefix byte 0xfe, at the index of its number.
 abbrev pub atomic_entries : List Entry
 atomic_entries =
     (free (is_memory_argument kind.Plain 2 ∷ [])) ∷
@@ -749,7 +749,7 @@ entries_after prefix =
     if prefix == 0xfe then atomic_entries else (
     []))))
 
--- The entry of an opcode, or of a subopcode after a prefix byte: the kinds of the immediates, if an operator has it.
+-- The entry of an opcode, or of a subopcode after a prefix byte.
 abbrev pub entry_at : Option ℕ → ℕ → Entry
 entry_at None code = slice_index_or opcode_entries code unknown
 entry_at (Some prefix) code = slice_index_or (entries_after prefix) code unknown

@@ -1,5 +1,5 @@
 -- The entry of an opcode, or of a prefix byte and a subopcode: what follows it.
--- WebAssembly Core Specification 3.0: Binary Format, Instructions; Appendix, Index of Instructions.
+-- Specification: Binary Format, Instructions; Appendix, Index of Instructions.
 use Rattle.std.specs.Prelude.{◌≡◌, ℕ, List, ◌∷◌, Option, Some, None, map}
 use Rattle.wasm_instr.specs.below.bytes.message.InstructionName.{InstructionName}
 use Rattle.wasm_instr.specs.below.bytes.message.InstructionName.TheVariants as instruction_name
@@ -13,7 +13,8 @@ use Rattle.wasm_instr.specs.declared.operator.Operator.TheVariants as operator
 use Rattle.wasm_instr.specs.Row.{immediates_of}
 use Rattle.wasm_instr.specs.Immediate.{Kind, kind_of, is_memory_argument}
 
--- What follows a code. Unknown: no operator has the code. Prefixes: a subopcode follows. Free: immediates of these kinds, and every frame allows the operator under all features. Guarded: immediates of these kinds, after the checks of this guard.
+-- What follows a code. `unknown`: no operator has it. `prefixes`: a subopcode. `free`: immediates of these kinds, in every frame and under all features.
+-- `guarded`: immediates of these kinds, after this guard's checks.
 pub data Entry : Type 0 where
   unknown : Entry
   prefixes : Entry

@@ -1,5 +1,5 @@
 -- The error of an operator: first the checks in their order, then the immediates from left to right.
--- WebAssembly Core Specification 3.0, Binary Format, Instructions; proposal legacy exception handling.
+-- Specification: Binary Format, Instructions; proposal legacy exception handling.
 use Rattle.std.specs.Prelude.{◌≡◌, ℕ, ◌⊎◌, List, [], ◌∷◌, Option, Some, None}
 use Rattle.wasm_instr.specs.below.bytes.features.WasmFeatures.{WasmFeatures}
 use Rattle.wasm_instr.specs.below.bytes.message.Message.{Message}
@@ -58,7 +58,8 @@ abbrev pub unknown_message : Option ℕ → ℕ → Message
 unknown_message None code = message.IllegalOpcode code
 unknown_message (Some prefix) code = message.UnknownSubopcode prefix code
 
--- The error after an opcode or a subopcode without a guard.
+-- The error of an operator without a guard that began at `start`, after its opcode `code`, or its
+-- subopcode `code` after the byte `prefix`.
 abbrev pub FreeFault : WasmFeatures → ℕ → Option ℕ → ℕ → Entry → Message → Reader → ℕ → Type 0
 FreeFault f start prefix code unknown m r offset = (m ≡ unknown_message prefix code) × (offset ≡ start)
 FreeFault f start prefix code (free ks) m r offset = KindsFault f start ks m r offset
@@ -72,7 +73,7 @@ SubopcodeFault f start prefix code = FreeFault f start (Some prefix) code (entry
 abbrev pub LacksFeature : WasmFeatures → Guard → Type 0
 LacksFeature f g = NeedsLegacy g × ¬ HasFeature legacy_exceptions f
 
--- The error of a guarded operator: first the feature, reported at the operator's start; then the frame, reported after the opcode; then the immediates.
+-- The error of a guarded operator: of the feature, at the operator's start; then of the frame, after the opcode; then of the immediates.
 abbrev pub GuardFault : WasmFeatures → FrameKind → ℕ → Guard → (Message → Reader → ℕ → Type 0) → Message → Reader → ℕ → Type 0
 GuardFault f k start g Later = CheckFault (LacksFeature f g) (message.FeatureRequired (guarded_instruction g)) start (λ m r. CheckFault (¬ Allows k (guarded_role g)) (message.WrongFrame (guarded_instruction g) (needed_frame g)) (offset_of r) Later m r)
 
@@ -90,7 +91,7 @@ OpcodeFault f k start code = EntryFault f k start code (entry_at None code)
 abbrev pub OperatorFault : WasmFeatures → FrameKind → Message → Reader → ℕ → Type 0
 OperatorFault f k m r offset = ThenFault IsByte EndFault (OpcodeFault f k (offset_of r)) m r offset
 
--- The error of an operator for a visitor without SIMD operators: UnexpectedSimd at the prefix byte 0xfd, whatever follows.
+-- As `OperatorFault`, except that the byte 0xfd gives `UnexpectedSimd`, whatever follows.
 abbrev pub ScalarOperatorFault : WasmFeatures → FrameKind → Message → Reader → ℕ → Type 0
 ScalarOperatorFault f k m r offset = CheckFault (BeginsWith 0xfd (rest r)) message.UnexpectedSimd (offset_of r) (OperatorFault f k) m r offset
 

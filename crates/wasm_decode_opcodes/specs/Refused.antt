@@ -12,11 +12,11 @@ use Rattle.wasm_instr.specs.Kinds.{HoldsList}
 use Rattle.wasm_decode_opcodes.specs.Entry.{free}
 use Rattle.wasm_decode_opcodes.specs.Entries.{entry_at}
 
--- An operator with this opcode may own a list: typed select, try_table, resume, resume_throw or resume_throw_ref.
+-- The opcodes of typed select, try_table, resume, resume_throw and resume_throw_ref, which may own a list.
 abbrev pub LeadsList : ℕ → Type 0
 LeadsList byte = (byte ≡ 0x1c) ⊎ ((byte ≡ 0x1f) ⊎ ((byte ≡ 0xe3) ⊎ ((byte ≡ 0xe4) ⊎ (byte ≡ 0xe5))))
 
--- The immediates of these kinds up to the count of a list. The count is within its limit.
+-- Immediates of these kinds up to a list's count, which is within its limit.
 abbrev pub EncodesToCount : List Kind → List ℕ → ℕ → Type 0
 EncodesToCount (is_select_types ∷ ks) = EncodesTypeCount
 EncodesToCount (is_try_clauses ∷ ks) = EncodesTryTableCount
@@ -28,13 +28,15 @@ EncodesToCount _ = λ text count. ⊥
 abbrev pub EncodesListStart : List ℕ → ℕ → Type 0
 EncodesListStart text count = (byte : ℕ) × (ks : List Kind) × (after : List ℕ) × (entry_at None byte ≡ free ks) × (text ≡ byte ∷ after) × EncodesToCount ks after count
 
--- The next byte is such an opcode, a count within the limit of its list follows, and no prefix of the rest encodes an operator that owns no list.
+-- The next byte is the opcode of an operator that may own a list. A count within the list's limit follows. No prefix of the rest encodes an operator that owns
+-- no list.
 pub record MayAllocate (Encodes : List ℕ → Operator → Type 0) (old : Reader) : Type 0 where
   pub leads : (byte : ℕ) × LeadsList byte × BeginsWith byte (rest old)
   pub sized : SomePrefix EncodesListStart (rest old)
   pub owns : NoPrefix (λ text op. Encodes text op × ¬ HoldsList op) (rest old)
 
--- No prefix of the rest encodes such an operator, and unless the message is EndOfData, no continuation of the bytes has such a prefix. OutOfMemory is reported at the offset where the call began, and only for operators that own a list.
+-- No prefix of the rest encodes an operator of `Encodes`, even with more bytes unless the message is `EndOfData`. `OutOfMemory` has the offset where the call
+-- began, and occurs only if `MayAllocate` holds.
 pub record IsRefusedOperator (Encodes : List ℕ → Operator → Type 0) (e : Error) (old : Reader) : Type 0 where
   pub refuses : Refuses Encodes (rest old) e.message
   pub ahead : IsAhead old e.offset

@@ -1,4 +1,3 @@
--- Declarations of locals that are read one after another, and their lines.
 use Rattle.std.proofs.Common.{◌≡◌, ◌≢◌, ℕ, ◌+◌, ◌^◌, ◌<◌, ◌≤◌, List, [], ◌∷◌, ◌++◌, length, Option, Ok, Err, refl, sym, subst, ap, ◌∙◌, append_assoc, append-nil, length-append, arith}
 use Rattle.std.proofs.lemmas.List.{append_cancel_left}
 use Rattle.std.specs.Io.KnownBytes.{Appends}
@@ -69,7 +68,7 @@ lines_more start bytes end first (p ∷ ps) d at =
 
 -- ---- along the loop
 
--- The loop's invariant: `many` declarations are read and written, and `first` is the index of the next local.
+-- The loop's invariant: `many` declarations are written, and the next local has the index `first`.
 pub record IsOnTheWay (start : ℕ) (bytes : List ℕ) (parameters many first : ℕ) (old now : Locals) (before after : Option (List ℕ)) : Type 0 where
   pub placed : PlacedLocals
   pub so_many : length placed ≡ many
@@ -158,7 +157,7 @@ ends_here message.EndOfData other = refl
 ends_here message.OutOfMemory other = absurd (other refl)
 ends_here _ other = tt
 
--- The next declaration, after `many`, is encoded at the start of what is left.
+-- The next declaration is encoded at the start of what is left.
 record NextOccurs (many total : ℕ) (left : List ℕ) : Type 0 where
   declaration : Declaration
   text : List ℕ
@@ -185,7 +184,6 @@ next_occurs offset (p ∷ ps) (d ∷ ds) a b x y code (is, t, m, parts, encodes,
     let few : p.0.0 + locals_in (declarations_of ps) + h.declaration.0 ≤ d.0 + locals_in ds = let f = h.few in omega (arith, f, number) in
     record { declaration = h.declaration; text = h.text; more = h.more; encodes = h.encodes; occurs = h.occurs; few = few }
 
--- So the next read does not fail.
 pub none_refused : (P : Type 0) (start : ℕ) (bytes : List ℕ) (parameters many first : ℕ) (old mid new : Locals) (before after : Option (List ℕ)) (e : Error)
     (ds : List Declaration) (text more : List ℕ) → PrefixCode EncodesDeclaration → many < old.count →
     IsOnTheWay start bytes parameters many first old mid before after → ReadsDeclaration (Err e) mid new →

@@ -1,4 +1,3 @@
--- The faults that say nothing about the bytes.
 use Rattle.std.proofs.Common.{◌≡◌, ◌≢◌, sym, subst}
 use Rattle.wasm_operators.specs.below.bytes.error.Error.{Error}
 use Rattle.wasm_operators.specs.below.bytes.message.Message.{Message}
@@ -7,7 +6,7 @@ use Rattle.wasm_disassembly.specs.declared.fault.DisassemblyFault.{DisassemblyFa
 use Rattle.wasm_disassembly.specs.declared.fault.DisassemblyFault.TheVariants as fault
 use Rattle.wasm_disassembly.specs.Faults.{IsHalt, fault_at}
 
--- A fact about both faults that say nothing about the bytes.
+-- A fact about `Memory` and `Writing`.
 pub at_halt : (P : DisassemblyFault → Type 0) (f : DisassemblyFault) → IsHalt f → P fault.Memory → P fault.Writing → P f
 at_halt P (fault.Refused e) halts memory writing = absurd halts
 at_halt P fault.Memory halts memory writing = memory
@@ -17,7 +16,6 @@ abbrev IsOther : Message → Type 0
 IsOther message.OutOfMemory = ⊥
 IsOther _ = Unit {0}
 
--- An error with the message `OutOfMemory` is a halt, and any other an error of the bytes.
 pub at_fault : (P : DisassemblyFault → Type 0) (m : Message) (e : Error) → P fault.Memory → (m ≢ message.OutOfMemory → P (fault.Refused e)) → P (fault_at m e)
 at_fault P message.OutOfMemory e memory refused = memory
 at_fault P _ e memory refused = refused (λ is. absurd (subst IsOther is tt))

@@ -1,4 +1,3 @@
--- How the text of a function is composed, and when only allocation and the writer can fail.
 use Rattle.std.proofs.Common.{◌≡◌, ◌≢◌, ℕ, ◌+◌, inl, inr, List, [], ◌∷◌, ◌++◌, length, Option, Result, Ok, Err, refl, sym, subst, ap, ◌∙◌, append_assoc, append-nil, length-append, arith}
 use Rattle.std.proofs.lemmas.List.{append_cancel_left, length-map}
 use Rattle.std.specs.Io.KnownBytes.{Appends}
@@ -24,7 +23,6 @@ laid_each : (offset : ℕ) (placed : PlacedLocals) (text : List ℕ) → LaidOut
 laid_each offset [] text none = none
 laid_each offset (p ∷ ps) text (is, t, m, parts, encodes, laid) = (t, m, parts, encodes, laid_each (offset + length t) ps m laid)
 
--- If all announced declarations are read, the reader is after the locals.
 pub locals_past : (body : Reader) (unread read : Locals) (locals : PlacedLocals) → ReadsLocals body unread read locals → length locals ≡ unread.count →
     IsPastLocals (declarations_of locals) body read.reader
 locals_past body unread read locals h all =
@@ -42,7 +40,7 @@ locals_past body unread read locals h all =
       takes_both body unread.reader read.reader o.0 t.text o.2 t.takes,
     )
 
--- The header and the lines of all locals are written.
+-- The header and the lines of the locals are written.
 pub record IsListedTo (h : Heading) (body reader : Reader) (before listed : Option (List ℕ)) : Type 0 where
   pub unread : Locals
   pub read : Locals
@@ -66,17 +64,14 @@ listed_to h x body reader unread read before headed listed opens occurs begins (
       is = appends_both before headed listed (header h (source_of body)) (local_lines h (source_of body) placed (offset_of read.reader)) begins writes.written;
     }
 
--- A fact about the offset and the bytes of a body.
 pub at_body : (P : ℕ → List ℕ → Type 0) (start : ℕ) (bytes : List ℕ) (body : Reader) → start ≡ offset_of body → bytes ≡ rest body → P start bytes →
     P (offset_of body) (rest body)
 at_body P start bytes body s b h = subst (λ n. P n (rest body)) s (subst (λ t. P start t) b h)
 
--- Only the header is written.
 pub stopped_at_count : (h : Heading) (e : Error) (body : Reader) (before headed : Option (List ℕ)) → OpensLocals (Err e) body →
     Appends before headed (header h (source_of body)) → Disassembles {X = Unit {0}} h (Err (fault.Refused e)) body before headed
 stopped_at_count h e body before headed opens begins = (header h (source_of body), begins, inl (opens, refl))
 
--- The header and some declarations are written.
 stopped_at_locals : (h : Heading) (e : Error) (body : Reader) (unread read : Locals) (before headed listed : Option (List ℕ)) →
     OpensLocals (Ok unread) body → Appends before headed (header h (source_of body)) →
     ListsDeclarations {X = Unit {0}} (offset_of body) (rest body) h.parameters (Err (fault.Refused e)) unread read headed listed →
@@ -96,7 +91,6 @@ stopped_at_locals h e body unread read before headed listed opens begins (placed
       })),
     )
 
--- The two cases together, for any fault in the locals.
 pub stopped_in_locals : (h : Heading) (f : DisassemblyFault) (body : Reader) (unread read : Locals) (before headed listed : Option (List ℕ)) →
     OpensLocals (Ok unread) body → Appends before headed (header h (source_of body)) →
     ListsDeclarations {X = Unit {0}} (offset_of body) (rest body) h.parameters (Err f) unread read headed listed →
@@ -106,7 +100,7 @@ stopped_in_locals h (fault.Refused e) body unread read before headed listed open
 stopped_in_locals h fault.Memory body unread read before headed listed opens begins lists = tt
 stopped_in_locals h fault.Writing body unread read before headed listed opens begins lists = tt
 
--- The statement of the law `past_locals`: a body is its locals, followed by an expression.
+-- The law `past_locals`.
 abbrev pub IsBodyAfterLocals : Type 0
 IsBodyAfterLocals = (body r : Reader) (declarations : List Declaration) (placed : Placed) → IsPastLocals declarations body r → EncodesExpression (source_of r) placed →
     EncodesBody (source_of body) declarations placed
@@ -117,7 +111,6 @@ same_end a b text t =
     let place : offset_of b ≡ offset_of a + length text = ap offset_of t.moved ∙ omega arith in
     omega (arith, long, place)
 
--- The operators are read to the end of the expression, or up to an error.
 pub operators_ended : (h : Heading) (r : Result (Unit {0}) DisassemblyFault) (body reader : Reader) (before listed after : Option (List ℕ)) → IsBodyAfterLocals →
     IsListedTo h body reader before listed → ListsOperators h.names (offset_of body) (rest body) r reader listed after → Disassembles h r body before after
 operators_ended h (Ok x) body reader before listed after law to (placed, encodes, is) =
@@ -171,7 +164,6 @@ operators_ended h (Err fault.Writing) body reader before listed after law to lis
 
 -- ---- if the bytes encode a body
 
--- The number of the declarations is not an error.
 pub count_occurs : (P : Type 0) (e : Error) (body : Reader) (declarations : List Declaration) (placed : Placed) → OpensLocals (Err e) body →
     EncodesBody (source_of body) declarations placed → P
 count_occurs P e body declarations placed (refused, fault) h =
@@ -180,7 +172,6 @@ count_occurs P e body declarations placed (refused, fault) h =
     let there : rest body ≡ l.0 ++ (l.1 ++ h.expression) = h.parts ∙ ap (λ z. z ++ h.expression) l.3 ∙ append_assoc l.0 l.1 h.expression in
     absurd (refused.refuses [] (ends_here e.message other) l.0 (l.1 ++ h.expression) l.2 l.4 (append-nil (rest body) ∙ there))
 
--- As many declarations as this number are encoded after it.
 pub record AreAnnounced (unread : Locals) (declarations : List Declaration) : Type 0 where
   pub text : List ℕ
   pub more : List ℕ

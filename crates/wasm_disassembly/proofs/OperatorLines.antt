@@ -1,4 +1,3 @@
--- Operators that are read one after another, and whose lines are written before the next read.
 use Rattle.std.proofs.Common.{◌≡◌, ◌≢◌, ℕ, ◌+◌, ◌-◌, ◌<◌, ◌≤◌, Bool, true, false, cond, List, [], ◌∷◌, ◌++◌, length, Option, Ok, Err, refl, sym, subst, ap, ◌∙◌, append_assoc, append-nil, length-append, arith}
 use Rattle.std.specs.Prelude.{slice_index}
 use Rattle.std.specs.Io.KnownBytes.{Appends}
@@ -20,7 +19,7 @@ use Rattle.wasm_disassembly.proofs.Written.{appends_none, appends_both}
 
 -- ---- along the loop
 
--- These operators are read and their lines written; the lines of whatever follows come after them.
+-- These operators are read and written; the lines of those that follow come after them.
 pub record AreListed (names : List (List ℕ)) (start : ℕ) (bytes : List ℕ) (opened now : State) (depth : ℕ) (before later : Option (List ℕ)) : Type 0 where
   pub placed : Placed
   pub ran : TakesOperators opened now placed
@@ -74,7 +73,6 @@ listed_more names start depth deeper at bytes shown opened mid new before betwee
       few = let f = l.few in omega (arith, f, on, most, goes);
     }
 
--- Each read leaves fewer bytes.
 pub fewer_left : (op : Operator) (old new : State) → TakesBytes → TakesOperator EncodesAllowed op old new → length (rest new.reader) < length (rest old.reader)
 fewer_left op old new progresses t =
     let on = progresses op old new t in
@@ -82,7 +80,6 @@ fewer_left op old new progresses t =
     let sum : length (rest old.reader) ≡ length t.text + length (rest new.reader) = ap length t.takes.parts ∙ length-append t.text (rest new.reader) in
     omega (arith, on, place, sum)
 
--- All operators that are read have their lines.
 all_listed : (names : List (List ℕ)) (start : ℕ) (bytes : List ℕ) (opened now : State) (depth end : ℕ) (before after : Option (List ℕ))
     (l : AreListed names start bytes opened now depth before after) → end ≡ offset_of now.reader →
     Appends before after (lines_of (called_text names) start bytes end l.placed)
@@ -93,7 +90,6 @@ all_listed names start bytes opened now depth end before after l occurs =
 
 -- ---- at the end
 
--- All bytes are read, and all frames are closed.
 pub listed_whole : (x : Unit {0}) (names : List (List ℕ)) (start depth : ℕ) (bytes : List ℕ) (reader : Reader) (opened now : State) (before after : Option (List ℕ))
     (l : AreListed names start bytes opened now depth before after) → opened.reader ≡ reader → ReadsTree [] opened now l.placed →
     ListsOperators names start bytes (Ok x) reader before after
@@ -106,7 +102,6 @@ listed_whole x names start depth bytes reader opened now before after l same tre
       all_listed names start bytes opened now depth (offset_of reader + length (rest reader)) before after l end,
     )
 
--- A read failed, or frames are open at the end of the data.
 pub listed_part : (names : List (List ℕ)) (start depth : ℕ) (bytes : List ℕ) (reader : Reader) (e : Error) (opened now stopped : State) (before after : Option (List ℕ))
     (l : AreListed names start bytes opened now depth before after) → opened.reader ≡ reader → IsFresh opened → stopped.reader ≡ now.reader →
     ReadsBeginning IsAny EncodesAllowed OperatorFault Anywhere [] e opened stopped l.placed → e.message ≢ message.OutOfMemory →

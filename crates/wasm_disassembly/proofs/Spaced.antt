@@ -1,4 +1,3 @@
--- The text of a type begins with a space.
 use Rattle.std.proofs.Common.{◌≡◌, ℕ, List, ◌∷◌, ◌++◌, Bool, true, false, refl}
 use Rattle.std.specs.Prelude.{codes}
 use Rattle.wasm_operators.specs.below.declared.types.AbstractHeapType.TheVariants as ty

@@ -1,5 +1,5 @@
--- The text of a function: its header, the lines of its locals, and the lines of its operators.
--- WebAssembly Core Specification 3.0: Binary Format, Modules, Code Section.
+-- The form is that of `wasm-objdump -d` of wabt. Specification: Binary Format, Modules, Code
+-- Section.
 use Rattle.std.specs.Prelude.{◌≡◌, ◌≢◌, ◌<◌, ◌⊎◌, ℕ, ◌+◌, List, [], ◌++◌, length, slice_index_or, Option, Result, Ok, Err}
 use Rattle.std.specs.Io.KnownBytes.{Appends}
 use Rattle.wasm_operators.specs.below.bytes.error.Error.{Error}
@@ -20,8 +20,8 @@ use Rattle.wasm_disassembly.specs.declared.fault.DisassemblyFault.{DisassemblyFa
 use Rattle.wasm_disassembly.specs.declared.fault.DisassemblyFault.TheVariants as fault
 use Rattle.wasm_disassembly.specs.LocalLines.{PlacedLocals, declarations_of, TakesDeclarations, declaration_lines}
 
--- What is known of a function besides its body: its index, the names of all functions by their indices, and the number of its parameters. A name may be
--- empty; the parameters are the first locals.
+-- A function's index, the names of all functions by index (some may be empty), and its number of
+-- parameters, which are the first locals.
 pub record Heading : Type 0 where
   pub index : ℕ
   pub names : List (List ℕ)
@@ -33,20 +33,20 @@ name_of names index = slice_index_or names index []
 abbrev pub header : Heading → Source → List ℕ
 header h body = header_of body.offset h.index (name_of h.names h.index)
 
--- The name of the function that `call` calls. As in wabt 1.0.32, no other operator has the name of a function.
+-- The name of the function that `call` calls. Other operators show none, as in wabt 1.0.32.
 abbrev pub callee_of : List (List ℕ) → Operator → List ℕ
 callee_of names (operator.Call index) = name_of names index
 callee_of names op = []
 
--- The text of an operator, and the name of the function that it calls in angle brackets.
+-- The text of an operator, and the name of the function that it calls.
 abbrev pub called_text : List (List ℕ) → Operator → List ℕ
 called_text names op = text_of op ++ shown_name (callee_of names op)
 
--- The lines of the locals of a body, the last of which ends at the offset `after`.
+-- The lines of a body's locals. The last ends at the offset `after`.
 abbrev pub local_lines : Heading → Source → PlacedLocals → ℕ → List ℕ
 local_lines h body locals after = declaration_lines body.offset body.bytes after h.parameters locals
 
--- The lines of the operators of a body, the last of which ends at the offset `end`.
+-- The lines of a body's operators. The last ends at the offset `end`.
 abbrev pub operator_lines : Heading → Source → Placed → ℕ → List ℕ
 operator_lines h body placed end = lines_of (called_text h.names) body.offset body.bytes end placed
 
@@ -67,11 +67,11 @@ pub record IsWhole (h : Heading) (body : Reader) (text : List ℕ) : Type 0 wher
   pub is : text ≡ header h (source_of body) ++ (local_lines h (source_of body) locals (offset_of read.reader) ++
       operator_lines h (source_of body) placed (offset_of body + length (rest body)))
 
--- The number of the declarations is an error: only the header is written.
+-- The number of declarations is in error: only the header is written.
 abbrev pub StopsAtCount : Heading → Error → Reader → List ℕ → Type 0
 StopsAtCount h e body text = OpensLocals (Err e) body × (text ≡ header h (source_of body))
 
--- The declaration after these is an error: it is not encoded there, or with it there are too many locals.
+-- The next declaration is in error, or there are too many locals with it.
 pub record StopsAtLocals (h : Heading) (e : Error) (body : Reader) (text : List ℕ) : Type 0 where
   pub unread : Locals
   pub read : Locals
@@ -81,7 +81,8 @@ pub record StopsAtLocals (h : Heading) (e : Error) (body : Reader) (text : List 
   pub refused : ReadsDeclaration (Err e) read read
   pub is : text ≡ header h (source_of body) ++ local_lines h (source_of body) locals (offset_of read.reader)
 
--- No expression follows the locals: these operators are the longest prefix of one, and what follows them is an error other than `OutOfMemory`.
+-- The operators are the longest prefix of an expression, and an error other than `OutOfMemory`
+-- follows.
 pub record StopsAtOperators (h : Heading) (e : Error) (body : Reader) (text : List ℕ) : Type 0 where
   pub unread : Locals
   pub read : Locals
@@ -94,19 +95,20 @@ pub record StopsAtOperators (h : Heading) (e : Error) (body : Reader) (text : Li
   pub is : text ≡ header h (source_of body) ++ (local_lines h (source_of body) locals (offset_of read.reader) ++
       operator_lines h (source_of body) placed (offset_of stops.stopped.reader))
 
--- The text of a function, by how reading its body ended.
+-- The text of a function whose body was read with this result.
 abbrev pub IsText : {X : Type 0} → Heading → Result X Error → Reader → List ℕ → Type 0
 IsText h (Ok x) body text = IsWhole h body text
 IsText h (Err e) body text = StopsAtCount h e body text ⊎ (StopsAtLocals h e body text ⊎ StopsAtOperators h e body text)
 
--- The text of a function is written, to its end or up to an error. If allocation or the writer failed, this says nothing.
+-- The text of a function is written, to its end or up to an error, unless allocation or the writer
+-- failed.
 abbrev pub Disassembles : {X : Type 0} → Heading → Result X DisassemblyFault → Reader → Option (List ℕ) → Option (List ℕ) → Type 0
 Disassembles {X} h (Ok x) body before after = (text : List ℕ) × Appends before after text × IsText {X = X} h (Ok x) body text
 Disassembles {X} h (Err (fault.Refused e)) body before after = (text : List ℕ) × Appends before after text × IsText {X = X} h (Err e) body text
 Disassembles h (Err _) body before after = Unit {0}
 
--- The operators of an expression are read and their lines written, with the names of functions; `bytes` start at the offset `start`, and contain those of
--- the body.
+-- The lines of the operators are written, with the names of functions, to the end or up to an
+-- error. The body's `bytes` start at the offset `start`.
 abbrev pub ListsOperators : {X : Type 0} → List (List ℕ) → ℕ → List ℕ → Result X DisassemblyFault → Reader → Option (List ℕ) → Option (List ℕ) → Type 0
 ListsOperators names start bytes (Ok x) reader before after =
     (placed : Placed) × EncodesExpression (source_of reader) placed ×

@@ -1,17 +1,16 @@
--- The reasons why the text of a function may stop.
 use Rattle.wasm_operators.specs.below.bytes.error.Error.{Error}
 use Rattle.wasm_operators.specs.below.bytes.message.Message.{Message}
 use Rattle.wasm_operators.specs.below.bytes.message.Message.TheVariants as message
 use Rattle.wasm_disassembly.specs.declared.fault.DisassemblyFault.{DisassemblyFault}
 use Rattle.wasm_disassembly.specs.declared.fault.DisassemblyFault.TheVariants as fault
 
--- Allocation or the writer failed, which says nothing about the bytes.
+-- Allocation or the writer failed.
 abbrev pub IsHalt : DisassemblyFault → Type 0
 IsHalt (fault.Refused e) = ⊥
 IsHalt fault.Memory = Unit {0}
 IsHalt fault.Writing = Unit {0}
 
--- The fault for an error with this message: allocation failure, or an error of the bytes.
+-- `Memory` for `OutOfMemory`, otherwise `Refused`.
 abbrev pub fault_at : Message → Error → DisassemblyFault
 fault_at message.OutOfMemory e = fault.Memory
 fault_at _ e = fault.Refused e

@@ -1,5 +1,5 @@
--- The declarations of a body's locals that are read, and their lines. The form is that of `wasm-objdump -d` of wabt.
--- WebAssembly Core Specification 3.0: Binary Format, Modules, Code Section.
+-- The form is that of `wasm-objdump -d` of wabt. Specification: Binary Format, Modules, Code
+-- Section.
 use Rattle.std.specs.Prelude.{◌≡◌, ◌<◌, ℕ, ◌+◌, List, [], ◌∷◌, ◌++◌, length, drop, map, Option, Result, Ok, Err}
 use Rattle.std.specs.Io.KnownBytes.{Appends}
 use Rattle.wasm_operators.specs.below.declared.types.ValType.{ValType}
@@ -18,12 +18,12 @@ PlacedLocals = List (Declaration × ℕ)
 abbrev pub declarations_of : PlacedLocals → List Declaration
 declarations_of placed = map (λ p. p.0) placed
 
--- The number of locals that these declarations declare.
+-- The number of locals in these declarations.
 abbrev pub locals_in : List Declaration → ℕ
 locals_in [] = 0
 locals_in (d ∷ ds) = d.0 + locals_in ds
 
--- The bytes are an encoding of each declaration, one after another, and each offset is that of the encoding's first byte.
+-- The bytes encode these declarations, one after another, each at its offset.
 abbrev pub LaidOutLocals : ℕ → PlacedLocals → List ℕ → Type 0
 LaidOutLocals offset [] bytes = bytes ≡ []
 LaidOutLocals offset (p ∷ ps) bytes = (p.1 ≡ offset) × (text more : List ℕ) × (bytes ≡ text ++ more) × EncodesDeclaration text p.0 ×
@@ -41,23 +41,25 @@ pub record TakesDeclarations (old new : Locals) (placed : PlacedLocals) : Type 0
 abbrev pub type_name : ValType → List ℕ
 type_name ty = drop 1 (value_type_text ty)
 
--- The text of a declaration; `first` is the index of its first local.
+-- The text of a declaration whose first local has the index `first`.
 abbrev pub declaration_text : ℕ → Declaration → List ℕ
 declaration_text first d = shown_indices first d.0 ++ type_name d.1
 
--- The lines of declarations with their offsets. Each is shown with the bytes from its offset to that of the next; the last one ends at `end`. The bytes start
--- at the offset `start`, and `first` is the index of the first local.
+-- The lines of declarations. Each has the bytes up to the next, or up to `end`. The bytes start at
+-- `start`, and `first` is the index of the first local.
 abbrev pub declaration_lines : ℕ → List ℕ → ℕ → ℕ → PlacedLocals → List ℕ
 declaration_lines start bytes end first [] = []
 declaration_lines start bytes end first (p ∷ ps) =
     line_of 0 p.1 (between start bytes p.1 (next_offset end ps)) (declaration_text first p.0) ++ declaration_lines start bytes end (first + p.0.0) ps
 
--- These declarations are read, and their lines written.
+-- These declarations are read, and their lines written. The bytes start at `start`, and `first` is
+-- the index of the first local.
 pub record WritesDeclarations (start : ℕ) (bytes : List ℕ) (first : ℕ) (old new : Locals) (before after : Option (List ℕ)) (placed : PlacedLocals) : Type 0 where
   pub takes : TakesDeclarations old new placed
   pub written : Appends before after (declaration_lines start bytes (offset_of new.reader) first placed)
 
--- All announced declarations are read, or those before an error, and their lines are written. If allocation or the writer failed, this says nothing.
+-- All declarations are read, or those before an error, and their lines are written, unless
+-- allocation or the writer failed.
 abbrev pub ListsDeclarations : {X : Type 0} → ℕ → List ℕ → ℕ → Result X DisassemblyFault → Locals → Locals → Option (List ℕ) → Option (List ℕ) → Type 0
 ListsDeclarations start bytes first (Ok x) old new before after =
     (placed : PlacedLocals) × (length placed ≡ old.count) × WritesDeclarations start bytes first old new before after placed

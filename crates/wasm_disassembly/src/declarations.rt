@@ -1,4 +1,3 @@
-//! The lines of the declarations of a body's locals.
 ghost use Rattle.std.specs.Prelude.{◌≡◌, ◌++◌, ◌+◌, ◌^◌, ◌<◌, ◌≤◌, ℕ, List, OnOk, IfErr, string_bytes, length};
 ghost use Rattle.std.specs.Io.KnownBytes.{Appends};
 ghost use Rattle.wasm_operators.specs.below.Source.{rest};
@@ -28,8 +27,7 @@ fn write_type_name(alloc: Global, out: &mut String, ty: ValType) -> Written
     }
 }
 
-/// Writes the lines of the declaration at `offset` into `out`. `first` is the index of its first
-/// local.
+/// Appends the lines of the declaration at `offset`, whose first local has the index `first`.
 fn push_declaration(
     alloc: Global,
     out: &mut String,
@@ -72,12 +70,10 @@ fn write_declaration<W: Write>(
     write_text(writer, line.as_str())
 }
 
-/// Reads all declarations, and writes the lines of each before it reads the next. `bytes` are the
-/// bytes of the body, and `start` is the offset of the first of them. The function's `parameters`
-/// are its first locals.
+/// Writes the lines of each declaration before it reads the next. `bytes` is the body, which starts
+/// at the offset `start`.
 ///
-/// Fails with `Refused` at an error of `LocalsReader::read`, after the lines of the declarations
-/// before it.
+/// Fails with `Refused` at an error of `LocalsReader::read`.
 pub fn write_declarations<W: Write>(
     alloc: Global,
     writer: &mut W,
@@ -89,7 +85,7 @@ pub fn write_declarations<W: Write>(
 ) -> Result<(), DisassemblyFault>
     ensures lists { ListsDeclarations start bytes.now parameters result locals.old locals.new
         (W.contents writer.old) (W.contents writer.new) }
-    // If the data has all declarations, and not too many locals, only allocation and the writer can
+    // If the data has all declarations and not too many locals, only allocation and the writer can
     // fail.
     ensures whole { (declarations : List Declaration) → (text more : List ℕ)
         → EncodesMany EncodesDeclaration locals.old.count text declarations → rest locals.old.reader ≡ text ++ more

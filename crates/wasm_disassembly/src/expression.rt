@@ -1,4 +1,3 @@
-//! The lines of a body's operators.
 ghost use Rattle.std.specs.Prelude.{◌≡◌, ◌+◌, ◌^◌, ◌<◌, IfErr, IfOk, OnOk, length, map, slice_index, string_bytes};
 ghost use Rattle.std.specs.Io.KnownBytes.{Appends};
 ghost use Rattle.wasm_operators.specs.below.Source.{source_of};
@@ -15,7 +14,7 @@ use std::io::Write;
 use wasm_lines::{bytes_between, write_line};
 use wasm_operators::{BinaryReader, Operator, OperatorsReader, run_laws};
 
-/// Returns the name of the function with this index, which is empty if it has none.
+/// Returns the name of the function with this index, or an empty one.
 pub fn name_of<'a>(names: &'a [String], index: u32) -> &'a str
     ensures { result.now ≡ name_of (map string_bytes names.now) index }
 {
@@ -25,7 +24,7 @@ pub fn name_of<'a>(names: &'a [String], index: u32) -> &'a str
     }
 }
 
-/// Returns the name of the function that an operator calls, which is empty if there is none.
+/// Returns the name of the function that an operator calls, or an empty one.
 fn callee_of<'a>(names: &'a [String], op: &Operator<'_>) -> &'a str
     ensures { result.now ≡ callee_of (map string_bytes names.now) op.now }
 {
@@ -35,8 +34,7 @@ fn callee_of<'a>(names: &'a [String], op: &Operator<'_>) -> &'a str
     }
 }
 
-/// Writes the lines of the operator at `offset` through the buffer `line`, and returns how many
-/// constructs are open after it. `depth` constructs are open before it. Drops the operator.
+/// Writes the lines of the operator at `offset`. Takes and returns how many constructs are open.
 fn write_operator<W: Write>(
     writer: &mut W,
     line: &mut String,
@@ -63,9 +61,8 @@ fn write_operator<W: Write>(
     }
 }
 
-/// Reads the operators of the expression at the reader's position, and writes the lines of each
-/// before it reads the next. `bytes` are the bytes of the body, and `start` is the offset of the
-/// first of them. `names` are the names of all functions.
+/// Writes the lines of each operator before it reads the next. `bytes` is the body, which starts at
+/// the offset `start`. `names` are the names of all functions.
 pub fn write_operators<W: Write>(
     alloc: Global,
     writer: &mut W,

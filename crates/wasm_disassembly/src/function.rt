@@ -1,4 +1,3 @@
-//! The text of a function.
 ghost use Rattle.std.specs.Prelude.{◌≡◌, ◌≤◌, List, IfErr, OnOk, map, string_bytes};
 ghost use Rattle.std.specs.Io.KnownBytes.{Appends};
 ghost use Rattle.wasm_operators.specs.below.Source.{source_of};
@@ -37,14 +36,11 @@ fn write_heading<W: Write>(
     write_text(writer, line.as_str())
 }
 
-/// Writes the text of a function: its header, a line for each declaration of its locals, and a line
-/// for each of its operators. `names` are the names of all functions by their indices; a name may be
-/// empty. The `parameters` are the first locals. Each line is written before the data after it is
-/// read.
+/// Writes the text of a function: its header, its locals and its operators. Each line is written
+/// before the data after it is read. `names` are the names of all functions by index; a name may be
+/// empty. The `parameters` are the first locals.
 ///
-/// Fails with `Refused` if the bytes are not a body. The lines that are then written end before the
-/// error: after the header, after some declarations, or after the longest prefix of an expression.
-/// If allocation or the writer fails, the text may be shorter.
+/// Fails with `Refused` if the bytes are not a body, after the lines before the error.
 pub fn disassemble<W: Write>(
     alloc: Global,
     writer: &mut W,

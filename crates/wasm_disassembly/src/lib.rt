@@ -1,9 +1,7 @@
-//! The disassembly of a function: its header, the declarations of its locals, and its operators.
+//! The disassembly of a function: its header, its locals and its operators.
 //!
-//! The main theorem is the contract of [`disassemble`].
-//!
-//! If allocation fails, [`disassemble`] fails with `DisassemblyFault::Memory`. The writer may then
-//! have received a part of the text.
+//! The main theorem is the contract of [`disassemble`]. If allocation or the writer fails, a part
+//! of the text may be written.
 #![tactic(auto)]
 
 mod declarations;

@@ -1,4 +1,3 @@
-//! Lines that are written as soon as they are complete.
 ghost use Rattle.std.specs.Prelude.{IfErr, OnOk};
 ghost use Rattle.std.specs.Io.KnownBytes.{Appends};
 ghost use Rattle.wasm_disassembly.specs.Faults.{IsHalt};
@@ -6,7 +5,7 @@ ghost use Rattle.wasm_disassembly.specs.Faults.{IsHalt};
 use crate::fault::DisassemblyFault;
 use std::io::Write;
 
-/// Writes all bytes of a text. Fails with `Writing` if the writer fails.
+/// Writes a text. Fails with `Writing` if the writer fails.
 pub fn write_text<W: Write>(writer: &mut W, text: &str) -> Result<(), DisassemblyFault>
     ensures ok { OnOk result (Appends (W.contents writer.old) (W.contents writer.new) text.now) }
     ensures halts { IfErr result (λ fault. IsHalt fault) }

@@ -1,4 +1,3 @@
--- What a module says about its defined functions is unique.
 use Rattle.std.proofs.Common.{◌≡◌, ℕ, List, length, Option, Some, None, sym, subst, ap, ◌∙◌}
 use Rattle.std.specs.Int.{w32}
 use Rattle.wasm_module.specs.below.Number.{EncodesUnsigned, EncodesFixed}

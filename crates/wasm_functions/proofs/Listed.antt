@@ -1,4 +1,3 @@
--- Items of a section, one after another, and one more.
 use Rattle.std.proofs.Common.{◌≡◌, ℕ, ◌+◌, List, [], ◌∷◌, ◌++◌, length, Ok, refl, sym, subst, arith, cond}
 use Rattle.std.specs.Prelude.{◌==◌}
 use Rattle.wasm_module.specs.below.Source.{Reader, Reads}

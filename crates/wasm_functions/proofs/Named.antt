@@ -1,4 +1,3 @@
--- Names of functions, and one more; the last custom section `name`.
 use Rattle.std.proofs.Common.{◌≡◌, ℕ, ◌+◌, ◌≤◌, Bool, true, false, List, [], ◌∷◌, ◌++◌, length, set, zero, suc, Option, Some, None, Ok, refl, sym, subst, ap, ◌∙◌, append_assoc, append-nil, arith, cond}
 use Rattle.std.specs.Prelude.{◌==◌, nat_eq, codes, flat_map, replicate}
 use borrow.Author.Tests.{eq-eqb}
@@ -21,7 +20,6 @@ use Rattle.wasm_functions.specs.Names.{name_bytes, bytes_of, function_name, with
 use Rattle.wasm_functions.specs.declared.function_name.FunctionName.{FunctionName}
 use Rattle.wasm_functions.specs.declared.function_name.FunctionName.TheVariants as name
 
--- Setting an item after the end changes nothing.
 pub set_past_end : {X : Type 0} (xs : List X) (i : ℕ) (x : X) → length xs ≤ i → set xs i x ≡ xs
 set_past_end [] i x h = refl
 set_past_end (y ∷ ys) zero x h = absurd (omega (arith, h))
@@ -37,12 +35,10 @@ pub names_more : (names : List (List ℕ)) (ns : List NameParts) (n : NameParts)
 names_more names [] n = refl
 names_more names (m ∷ ms) n = names_more (set names m.index m.name) ms n
 
--- One more imported function, or an import of another kind.
 pub imports_more : (is : List ImportParts) (i : ImportParts) → flat_map function_name (is ++ i ∷ []) ≡ flat_map function_name is ++ function_name i
 imports_more is i =
     flat_map-append function_name is (i ∷ []) ∙ ap (λ z. flat_map function_name is ++ z) (append-nil (function_name i))
 
--- The name of an imported function is appended.
 pub import_pushed : (names : List FunctionName) (i : ImportParts) (from item : Bor (List ℕ)) → i.kind ≡ 0 → from.now ≡ i.module_name → item.now ≡ i.name →
     bytes_of (names ++ name.Imported from item ∷ []) ≡ bytes_of names ++ function_name i
 import_pushed names i from item is same_from same_item =
@@ -52,7 +48,6 @@ import_pushed names i from item is same_from same_item =
     (ap (λ m. (m ++ (codes "." ++ item.now)) ∷ []) same_from ∙ ap (λ n. (i.module_name ++ (codes "." ++ n)) ∷ []) same_item ∙
     sym (ap (λ b. cond b (whole ∷ []) []) (eq-eqb i.kind 0 is)))
 
--- One more function without a name.
 pub unnamed_more : (before now : List FunctionName) (f : FunctionName) (n : ℕ) → name_bytes f ≡ [] → bytes_of now ≡ bytes_of before ++ replicate n [] →
     bytes_of (now ++ f ∷ []) ≡ bytes_of before ++ replicate (n + 1) []
 unnamed_more before now f n none is =
@@ -85,12 +80,10 @@ pub not_both : {X : Type 0} (P : List ℕ → X → Type 0) (e : Error) (r b : R
 not_both P e r b x refused (text, is, takes) =
     refused.refuses [] (may_end e.message refused.fault) text (rest b) x is (append-nil (rest r) ∙ takes.parts)
 
--- A function is named.
 pub one_named : (index : ℕ) (names : List FunctionName) (given : Bor (List ℕ)) →
     bytes_of (set names index (name.Given given)) ≡ set (bytes_of names) index given.now
 one_named index names given = map-set name_bytes names index (name.Given given)
 
--- No bytes are both.
 abbrev IsNot : Bool → Type 0
 IsNot true = ⊥
 IsNot false = Unit {0}

@@ -1,4 +1,4 @@
--- If the functions of a module are not known, it has at most one fault; otherwise none except `Memory`.
+-- A module has at most one fault; none, except `Memory`, if its functions are known.
 use Rattle.std.proofs.Common.{◌≡◌, ◌<◌, ℕ, List, [], ◌++◌, length, replicate, Option, Some, None, Ok, refl, sym, subst, ap, ◌∙◌, inl, inr, arith}
 use Rattle.std.specs.Int.{w32}
 use Rattle.std.specs.List.{All}
@@ -30,7 +30,6 @@ use Rattle.wasm_functions.proofs.Unique.{one_found}
 -- ---- imports
 
 module _ (numbers : PrefixCode (EncodesUnsigned 32)) (code : PrefixCode EncodesImport) where
-  -- An import of no known kind is no import of a known kind.
   unknown_there : (r after : Reader) (i : ImportParts) (byte : ℕ) → Reads EncodesImport (Ok i) r after → i.kind ≡ byte → 4 < byte →
       (x : ImportParts) → (next : Reader) → Reads EncodesImport (Ok x) r next → IsKnownImport x → ⊥
   unknown_there r after i byte reads is above x next reads' known =
@@ -45,7 +44,6 @@ module _ (numbers : PrefixCode (EncodesUnsigned 32)) (code : PrefixCode EncodesI
       (unknown_there b after i byte reads is above) in
       not_both EncodesImport e b after i (subst (λ z. IsRefusal EncodesImport e z) same p.0) reads
 
-  -- Known imports are not in error.
   no_imports_fault : (f : ModuleFault) (contents : Reader) (is : List ImportParts) → ImportsFault f contents → IsList EncodesImport contents is →
       All IsKnownImport is → ⊥
   no_imports_fault (fault.Refused e) contents is p list known = no_list_fault EncodesImport code IsKnownImport numbers ImportFault e contents is p list known
@@ -129,7 +127,6 @@ reader_or r None = r
 reader_or r (Some found) = found
 
 module _ (numbers : PrefixCode (EncodesUnsigned 32)) (fixed : PrefixCode (EncodesFixed w32)) where
-  -- A section that can be read is not in error.
   not_at : {Y : Type 0} (Fault : ModuleFault → Reader → Type 0) (P : Option Reader → Y → Type 0) (f : ModuleFault) (whole : Reader) (id : ℕ) →
       ((contents : Reader) → (y : Y) → Fault f contents → P (Some contents) y → ⊥) → SectionFaultAt f whole id Fault →
       (section : Option Reader) → (y : Y) → IsSection whole id section → P section y → ⊥
@@ -177,7 +174,6 @@ module _ (numbers : PrefixCode (EncodesUnsigned 32)) (fixed : PrefixCode (Encode
       not_at numbers fixed ExportsFault (λ s names. NamesExported s before names) f whole 7
       (λ contents names fault exported. no_exports_fault numbers exports f contents before names fault exported) p section after there named
 
-  -- A module whose functions are known has no fault.
   no_fault : (f : ModuleFault) (whole : Reader) (t : ModuleFunctions) → IsNotMemory f → ModuleFunctionsFault f whole → DescribesFunctions whole t → ⊥
   no_fault f whole t other (inl p) is = no_types f whole other p (is.signatures, t.parameters, is.section_of_types, is.parameters)
   no_fault f whole t other (inr (inl (types, p))) is = no_imports f whole p (is.imports, t.imported, is.section_of_imports, is.imported)

@@ -1,4 +1,3 @@
--- The faults of a module that errors of its bytes lead to.
 use Rattle.wasm_module.specs.below.bytes.error.Error.{Error}
 use Rattle.wasm_module.specs.below.bytes.message.Message.{Message}
 use Rattle.wasm_module.specs.below.bytes.message.Message.TheVariants as message

@@ -1,5 +1,4 @@
--- The functions of a module, from its sections.
--- WebAssembly Core Specification 3.0, Binary Format, Modules: Indices, Import Section, Function Section.
+-- Specification: Binary Format, Modules: Indices, Import Section, Function Section.
 use Rattle.std.specs.Prelude.{◌≡◌, ◌==◌, ◌+◌, ◌^◌, ◌-◌, ◌<◌, ◌≤◌, ℕ, List, [], ◌∷◌, ◌++◌, Option, Some, None, min, length, replicate, slice_get, slice_index_or, if◌then◌else◌}
 use Rattle.std.specs.List.{All}
 use Rattle.wasm_module.specs.below.Number.{EncodesUnsigned}
@@ -15,8 +14,8 @@ abbrev pub functions_in : List ImportParts → ℕ
 functions_in [] = 0
 functions_in (i ∷ is) = (if i.kind == 0 then 1 else 0) + functions_in is
 
--- The functions of a module: the number of imported functions, the number of parameters of each type, the types of the functions
--- that the module defines, and the names of all functions.
+-- The number of imported functions, the number of parameters of each type, the types of the defined
+-- functions, and the names of all functions.
 pub record ModuleFunctions : Type 0 where
   pub imported : ℕ
   pub parameters : List ℕ
@@ -27,18 +26,18 @@ pub record ModuleFunctions : Type 0 where
 abbrev pub IsKnownImport : ImportParts → Type 0
 IsKnownImport i = i.kind < 5
 
--- The number of imported functions, if this is the import section.
+-- The number of imported functions in an import section, if there is one.
 abbrev pub CountsImports : Option Reader → ℕ → Type 0
 CountsImports None n = n ≡ 0
 CountsImports (Some contents) n = (imports : List ImportParts) × IsList EncodesImport contents imports × All IsKnownImport imports × (n ≡ functions_in imports)
 
--- The types of the defined functions, if this is the function section.
+-- The types of the functions in a function section, if there is one.
 abbrev pub ListsTypes : Option Reader → List ℕ → Type 0
 ListsTypes None types = types ≡ []
 ListsTypes (Some contents) types = IsList (EncodesUnsigned 32) contents types
 
--- The names of all functions of a module, by their indices: the imported functions come first, and then this many defined functions. The name of an export
--- replaces the name of an import, and a name of the custom section `name` replaces both.
+-- The names of all functions, by index: the imported ones, then `count` defined ones. Names of
+-- exports replace those of imports; names of the custom section `name` replace both.
 pub record NamesFunctions (whole : Reader) (count : ℕ) (names : List (List ℕ)) : Type 0 where
   pub imports : Option Reader
   pub section_of_imports : IsSection whole 2 imports
@@ -65,7 +64,7 @@ pub record DescribesFunctions (whole : Reader) (t : ModuleFunctions) : Type 0 wh
   pub parameters : CountsParameters signatures t.parameters
   pub names : NamesFunctions whole (length t.types) t.names
 
--- The index of the defined function with an ordinal: the imported functions come first.
+-- The index of a defined function: the imported functions come first.
 abbrev pub index_of : ModuleFunctions → ℕ → ℕ
 index_of t ordinal = min (t.imported + ordinal) (2 ^ 32 - 1)
 
@@ -73,15 +72,15 @@ index_of t ordinal = min (t.imported + ordinal) (2 ^ 32 - 1)
 abbrev pub IsOwn : ModuleFunctions → ℕ → Type 0
 IsOwn t index = (t.imported ≤ index) × (index < t.imported + length t.types)
 
--- The number of parameters of a type, or 0 if the type is not known.
+-- A type's number of parameters, or 0 if the type is not known.
 abbrev pub parameters_of_type : List ℕ → Option ℕ → ℕ
 parameters_of_type parameters None = 0
 parameters_of_type parameters (Some ty) = slice_index_or parameters ty 0
 
--- The number of parameters of the defined function with an ordinal: that of its type.
+-- The number of parameters of a defined function.
 abbrev pub parameters_at : ModuleFunctions → ℕ → ℕ
 parameters_at t ordinal = parameters_of_type t.parameters (slice_get t.types ordinal)
 
--- The name of a module, which is empty if it has none.
+-- The module's name, from its last custom section `name`; empty without one.
 abbrev pub NamesModule : Reader → List ℕ → Type 0
 NamesModule whole name = (found : Option Reader) × HasNames whole found × GivesModule found name

@@ -1,5 +1,5 @@
--- The names of a module's functions, and the name of the module.
--- WebAssembly Core Specification 3.0: Binary Format, Modules, Export Section and Custom Section; Appendix, Custom Sections, Name Section.
+-- Specification: Binary Format, Modules, Export Section and Custom Section; Appendix, Custom
+-- Sections, Name Section.
 use Rattle.std.specs.Prelude.{◌≡◌, ◌==◌, ◌≢◌, ◌⊎◌, ◌<◌, ℕ, List, [], ◌∷◌, ◌++◌, length, map, flat_map, set, Option, Some, None, Ok, codes, if◌then◌else◌}
 use Rattle.wasm_module.specs.below.bytes.error.Error.{Error}
 use Rattle.wasm_module.specs.below.Number.{EncodesUnsigned}
@@ -13,7 +13,7 @@ use Rattle.wasm_functions.specs.Sections.{SectionsOccur, IsModule, first_with}
 use Rattle.wasm_functions.specs.declared.function_name.FunctionName.{FunctionName}
 use Rattle.wasm_functions.specs.declared.function_name.FunctionName.TheVariants as name
 
--- The bytes of a name. The name of an import is the name of its module, a dot, and its own name.
+-- The bytes of a name. An import is named by its module, a dot and its name.
 abbrev pub name_bytes : FunctionName → List ℕ
 name_bytes (name.Given given) = given.now
 name_bytes (name.Imported from item) = from.now ++ (codes "." ++ item.now)
@@ -22,17 +22,17 @@ name_bytes (name.Imported from item) = from.now ++ (codes "." ++ item.now)
 abbrev pub bytes_of : List FunctionName → List (List ℕ)
 bytes_of names = map name_bytes names
 
--- The names after these exports, by the indices of functions. Each export of a function names it; the last export wins.
+-- The names after these exports, by index. The last export of a function names it.
 abbrev pub with_exports : List (List ℕ) → List ExportParts → List (List ℕ)
 with_exports names [] = names
 with_exports names (e ∷ es) = with_exports (if e.kind == 0 then set names e.index e.name else names) es
 
--- The names before and after an export section, if this is it.
+-- The names before and after an export section, if there is one.
 abbrev pub NamesExported : Option Reader → List (List ℕ) → List (List ℕ) → Type 0
 NamesExported None before after = after ≡ before
 NamesExported (Some contents) before after = (exports : List ExportParts) × IsList EncodesExport contents exports × (after ≡ with_exports before exports)
 
--- The names after these indices with names.
+-- The names after these associations have set some of them.
 abbrev pub with_names : List (List ℕ) → List NameParts → List (List ℕ)
 with_names names [] = names
 with_names names (n ∷ ns) = with_names (set names n.index n.name) ns
@@ -48,22 +48,22 @@ pub record StopsList {X : Type 0} (Encodes : List ℕ → X → Type 0) (content
   pub error : Error
   pub refused : IsRefusal Encodes error end
 
--- The items of a list up to an error: all items, or those before the item in error. If the number of items is in error, there are none.
+-- The items of a list before the first error. There are none if their number is in error.
 abbrev pub ReadsItems : {X : Type 0} → (List ℕ → X → Type 0) → Reader → List X → Type 0
 ReadsItems Encodes contents items =
     IsList Encodes contents items ⊎ (StopsList Encodes contents items ⊎ ((error : Error) × IsRefusal (EncodesUnsigned 32) error contents × (items ≡ [])))
 
--- The name of an imported function; nothing for an import of another kind.
+-- The name of an import, if it is a function.
 abbrev pub function_name : ImportParts → List (List ℕ)
 function_name i = if i.kind == 0 then (i.module_name ++ (codes "." ++ i.name)) ∷ [] else []
 
--- The names of the imported functions in an import section, if this is it, up to an error.
+-- The names of the functions in an import section, if there is one, up to an error.
 abbrev pub NamesImported : Option Reader → List (List ℕ) → Type 0
 NamesImported None names = names ≡ []
 NamesImported (Some contents) names = (imports : List ImportParts) × ReadsItems EncodesImport contents imports × (names ≡ flat_map function_name imports)
 
--- The names of functions in the contents of a custom section `name`, up to an error. The first subsection with the number 1 has these names.
--- If the contents end before it, or a subsection before it is in error, there are none.
+-- The names in the first subsection 1 of a custom section `name`, up to an error. There are none if
+-- no such subsection comes before an error.
 pub record GivesNames (contents : Reader) (names : List NameParts) : Type 0 where
   pub before : List SectionParts
   pub mid : Reader
@@ -73,12 +73,12 @@ pub record GivesNames (contents : Reader) (names : List NameParts) : Type 0 wher
       ((s : SectionParts) × (next : Reader) × Reads (EncodesSection mid.features) (Ok s) mid next × (s.id ≡ 1) × ReadsItems EncodesNameAssociation s.contents names) ⊎
       ((names ≡ []) × ((rest mid ≡ []) ⊎ ((error : Error) × IsRefusal (EncodesSection mid.features) error mid)))
 
--- The names before and after a custom section `name`, if this is it.
+-- The names before and after a custom section `name`, if there is one.
 abbrev pub NamesGiven : Option Reader → List (List ℕ) → List (List ℕ) → Type 0
 NamesGiven None before after = after ≡ before
 NamesGiven (Some contents) before after = (names : List NameParts) × GivesNames contents names × (after ≡ with_names before names)
 
--- The section is a custom section with the name `name`, followed by these contents.
+-- The section is a custom section `name` with these contents.
 abbrev pub IsNames : SectionParts → Reader → Type 0
 IsNames s contents = (s.id ≡ 0) × Reads EncodesName (Ok (codes "name")) s.contents contents
 
@@ -92,17 +92,18 @@ abbrev pub LastNames : List SectionParts → Option Reader → Type 0
 LastNames sections None = NoneIsNames sections
 LastNames sections (Some contents) = (before after : List SectionParts) × (s : SectionParts) × (sections ≡ before ++ s ∷ after) × IsNames s contents × NoneIsNames after
 
--- The contents of the last custom section `name` of a module, if there is one.
+-- The contents of a module's last custom section `name`, if there is one.
 abbrev pub HasNames : Reader → Option Reader → Type 0
 HasNames whole found = (sections : List SectionParts) × IsModule whole sections × LastNames sections found
 
--- The name that the first subsection of a custom section `name` assigns to the module: it has the number 0 and contains a name. Otherwise the name is empty.
+-- The name of the module, if this subsection has the number 0 and starts with a name; otherwise no
+-- bytes.
 abbrev pub NamesFirst : SectionParts → List ℕ → Type 0
 NamesFirst s name =
     ((s.id ≢ 0) × (name ≡ [])) ⊎
     ((s.id ≡ 0) × (((after : Reader) × Reads EncodesName (Ok name) s.contents after) ⊎ ((error : Error) × IsRefusal EncodesName error s.contents × (name ≡ []))))
 
--- The name that a custom section `name` assigns to the module, if there is one; otherwise the name is empty.
+-- The name of the module in the first subsection of a custom section `name`; otherwise no bytes.
 abbrev pub GivesModule : Option Reader → List ℕ → Type 0
 GivesModule None name = name ≡ []
 GivesModule (Some contents) name =

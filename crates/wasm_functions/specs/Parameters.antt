@@ -23,7 +23,7 @@ AreKnownTypes types = All IsKnownType types
 abbrev pub Announces : ℕ → Reader → Reader → Type 0
 Announces n r first = (BeginsWith 0x4e (rest r) × Reads EncodesRecTypeLength (Ok n) r first) ⊎ ((¬ BeginsWith 0x4e (rest r)) × (n ≡ 1) × (first ≡ r))
 
--- A recursive type: as many sub types as it declares.
+-- A recursive type with these sub types.
 abbrev pub RecTypeOccurs : Reader → List CompositeType → Reader → Type 0
 RecTypeOccurs r types end = (first : Reader) × Announces (length types) r first × ItemsOccur EncodesSubType first types end
 

@@ -34,8 +34,7 @@ RefusedWith Holds _ = ⊥
 abbrev pub BeginsAs : PreambleKind → Reader → Type 0
 BeginsAs said whole = (preamble : Preamble) × (after : Reader) × Reads EncodesPreamble (Ok preamble) whole after × (preamble_kind preamble ≡ said)
 
--- Up to the second reader, the bytes encode the preamble of a module and sections. More bytes
--- follow.
+-- The bytes before the second reader are the preamble of a module and sections. More bytes follow.
 pub record HasSectionsTo (whole next : Reader) : Type 0 where
   pub after : Reader
   pub begins : BeginsModule whole after
@@ -43,8 +42,7 @@ pub record HasSectionsTo (whole next : Reader) : Type 0 where
   pub occur : SectionsOccur after sections next
   pub more : rest next ≢ []
 
--- The preamble identifies something else or is in error, or the next section after some sections is
--- in error.
+-- The preamble identifies something else or is in error, or the next section is in error.
 abbrev pub SectionsFault : ModuleFault → Reader → Type 0
 SectionsFault (fault.NotModule said) whole = BeginsAs said whole × (said ≢ kind.Module)
 SectionsFault (fault.Refused e) whole =
@@ -52,7 +50,7 @@ SectionsFault (fault.Refused e) whole =
     ((next : Reader) × HasSectionsTo whole next × IsRefusedAs (EncodesSection next.features) SectionFault e next)
 SectionsFault _ whole = ⊥
 
--- A list declares more items than are encoded up to the second reader, all of them known.
+-- The bytes before the second reader are items, all known, but not all that the list declares.
 pub record HasItemsTo {X : Type 0} (Encodes : List ℕ → X → Type 0) (IsKnown : X → Type 0) (contents next : Reader) : Type 0 where
   pub first : Reader
   pub announced : ℕ
@@ -62,7 +60,7 @@ pub record HasItemsTo {X : Type 0} (Encodes : List ℕ → X → Type 0) (IsKnow
   pub fewer : length items < announced
   pub known : All IsKnown items
 
--- The number of the items of a list is in error, or the next item after some of them.
+-- The number of items is in error, or the next item.
 abbrev pub ListFault : {X : Type 0} → (List ℕ → X → Type 0) → (Message → Reader → ℕ → Type 0) → (X → Type 0) → Error → Reader → Type 0
 ListFault Encodes Fault IsKnown e contents =
     IsRefusedAs (EncodesUnsigned 32) U32Fault e contents ⊎ ((next : Reader) × HasItemsTo Encodes IsKnown contents next × IsRefusedAs Encodes Fault e next)
@@ -70,7 +68,7 @@ ListFault Encodes Fault IsKnown e contents =
 abbrev pub IsAny : {X : Type 0} → X → Type 0
 IsAny x = Unit {0}
 
--- The list is in error, or an import is of none of the five kinds: its byte and offset.
+-- The list is in error, or an import is of no known kind: its byte and offset.
 abbrev pub ImportsFault : ModuleFault → Reader → Type 0
 ImportsFault (fault.Refused e) contents = ListFault EncodesImport ImportFault IsKnownImport e contents
 ImportsFault (fault.ImportKind byte offset) contents =
@@ -86,14 +84,15 @@ FunctionsFault _ contents = ⊥
 abbrev pub ExportsFault : ModuleFault → Reader → Type 0
 ExportsFault f contents = RefusedWith (λ e. ListFault EncodesExport ExportFault IsAny e contents) f
 
--- Fewer than this many sub types, all known, are encoded up to the second reader.
+-- Between the two readers are fewer than `n` sub types, all known.
 pub record HasSubTypesTo (n : ℕ) (r next : Reader) : Type 0 where
   pub types : List CompositeType
   pub occur : ItemsOccur EncodesSubType r types next
   pub fewer : length types < n
   pub known : AreKnownTypes types
 
--- The next sub type after some is in error, or of none of the three sorts: its byte and offset.
+-- The next of `n` sub types is in error, or of no known sort (its byte and offset); or allocation
+-- failed.
 abbrev pub SubTypesFault : ModuleFault → ℕ → Reader → Type 0
 SubTypesFault (fault.Refused e) n r = (next : Reader) × HasSubTypesTo n r next × IsRefusedAs EncodesSubType SubTypeFault e next
 SubTypesFault (fault.TypeKind byte offset) n r =
@@ -108,8 +107,8 @@ AnnouncedFault f r = RefusedWith (λ e. BeginsWith 0x4e (rest r) × IsRefusedAs 
 abbrev pub RecTypeFault : ModuleFault → Reader → Type 0
 RecTypeFault fault r = AnnouncedFault fault r ⊎ ((n : ℕ) × (first : Reader) × Announces n r first × SubTypesFault fault n first)
 
--- A section declares more recursive types than are encoded up to the second reader, all of them
--- known.
+-- The bytes before the second reader are recursive types, all known, but not all that the section
+-- declares.
 pub record HasTypesTo (contents next : Reader) : Type 0 where
   pub first : Reader
   pub announced : ℕ
@@ -122,16 +121,16 @@ pub record HasTypesTo (contents next : Reader) : Type 0 where
 abbrev pub TypesLengthFault : ModuleFault → Reader → Type 0
 TypesLengthFault f contents = RefusedWith (λ e. IsRefusedAs (EncodesUnsigned 32) U32Fault e contents) f
 
--- The number of recursive types is in error, or the next after some of them.
+-- The number of recursive types is in error, or the next recursive type.
 abbrev pub TypesFault : ModuleFault → Reader → Type 0
 TypesFault fault contents = TypesLengthFault fault contents ⊎ ((next : Reader) × HasTypesTo contents next × RecTypeFault fault next)
 
--- The property holds for the contents of the first section with this number.
+-- The first section with this number has contents with this property.
 abbrev pub OfSection : Reader → ℕ → (Reader → Type 0) → Type 0
 OfSection whole id P = (contents : Reader) × IsSection whole id (Some contents) × P contents
 
--- The first type section can be read. `HasImports` and `HasFunctions` are the same for other
--- sections.
+-- The first type section, if there is one, can be read. `HasImports` and `HasFunctions`: the first
+-- import section, the first function section.
 abbrev pub HasTypes : Reader → Type 0
 HasTypes whole = (section : Option Reader) × (counts : List ℕ) × IsSection whole 1 section × CountsParameters section counts
 
@@ -148,8 +147,8 @@ SectionFaultAt fault whole id Fault = SectionsFault fault whole ⊎ OfSection wh
 abbrev pub NamesFault : ModuleFault → Reader → Type 0
 NamesFault f whole = (f ≡ fault.Memory) ⊎ SectionFaultAt f whole 7 ExportsFault
 
--- The bytes are no module, or a section is in error (the first of types, imports, functions and
--- exports), or allocation failed.
+-- The bytes are no module, or the first of these sections in error has the fault: types, imports,
+-- functions, exports; or allocation failed.
 abbrev pub ModuleFunctionsFault : ModuleFault → Reader → Type 0
 ModuleFunctionsFault fault whole =
     SectionFaultAt fault whole 1 TypesFault ⊎

@@ -5,19 +5,19 @@ use Rattle.wasm_module.specs.Module.{EncodesPreamble, preamble_kind, SectionPart
 use Rattle.wasm_module.specs.declared.preamble.Preamble.{Preamble}
 use Rattle.wasm_module.specs.declared.preamble.PreambleKind.TheVariants as kind
 
--- Between the two readers, the bytes encode these sections, in order, whose contents have the
--- offsets of the module.
+-- Between the two readers, the bytes encode these sections. The readers of their contents count
+-- offsets as the module does.
 abbrev pub SectionsOccur : Reader → List SectionParts → Reader → Type 0
 SectionsOccur r [] end = end ≡ r
 SectionsOccur r (s ∷ ss) end = (mid : Reader) × Reads (EncodesSection r.features) (Ok s) r mid × (end_of s.contents ≡ offset_of mid) × SectionsOccur mid ss end
 
--- The bytes begin with the preamble of a module, and the second reader is after it.
+-- The second reader is after the preamble of a module.
 pub record BeginsModule (whole after : Reader) : Type 0 where
   pub preamble : Preamble
   pub begins : Reads EncodesPreamble (Ok preamble) whole after
   pub is : preamble_kind preamble ≡ kind.Module
 
--- The bytes are the preamble of a module, and these sections, up to the end.
+-- The bytes are the preamble of a module and these sections.
 pub record IsModule (whole : Reader) (sections : List SectionParts) : Type 0 where
   pub after : Reader
   pub begins : BeginsModule whole after

@@ -12,9 +12,9 @@ pub enum ModuleFault {
     NotModule(PreambleKind),
     /// The preamble, a section or an item of one is in error.
     Refused(Error),
-    /// An import is of none of the five kinds: the byte, and the offset of the import.
+    /// An import is of no known kind: its byte, and the offset of the import.
     ImportKind(u8, u64),
-    /// A type is of none of the three sorts: its byte, and its offset.
+    /// A type is no function, structure or array type: the byte of its kind, and its offset.
     TypeKind(u8, u64),
     Memory,
 }

@@ -1,4 +1,3 @@
-//! The parts of a module that describe its functions, each from its section.
 ghost use Rattle.std.specs.Prelude.{◌≡◌, ◌⊎◌, ◌++◌, ℕ, [], List, Option, Some, replicate, IfOk, IfErr, OnOk};
 ghost use Rattle.wasm_module.specs.below.Source.{Reader, reader_of};
 ghost use Rattle.wasm_module.specs.Module.{SectionParts};
@@ -19,21 +18,16 @@ use std::alloc::Global;
 use wasm_module::below::WasmFeatures;
 use wasm_module::below::byte_laws::{fixed_numbers, unsigned_numbers};
 
-/// The number of the type section.
 const TYPES: u8 = 1;
 
-/// The number of the import section.
 const IMPORTS: u8 = 2;
 
-/// The number of the function section.
 const FUNCTIONS: u8 = 3;
 
-/// The number of the export section.
 const EXPORTS: u8 = 7;
 
-/// Returns the number of parameters of each type.
-///
-/// Fails as `find_section` does, then as `parameter_counts` does for the section.
+/// Returns the number of parameters of each type. Fails as `find_section` and `parameter_counts`
+/// do.
 pub fn find_parameters(
     alloc: Global,
     features: WasmFeatures,
@@ -54,9 +48,7 @@ pub fn find_parameters(
     }
 }
 
-/// Returns the number of imported functions.
-///
-/// Fails as `find_section` does, then as `imported_functions` does for the section.
+/// Returns the number of imported functions. Fails as `find_section` and `imported_functions` do.
 pub fn find_imported(features: WasmFeatures, bytes: &[u8]) -> Result<u32, ModuleFault>
     ensures ok { IfOk result (λ n. (section : Option Reader) × IsSection (reader_of features 0 bytes.now) 2 section
         × CountsImports section n) }
@@ -73,9 +65,7 @@ pub fn find_imported(features: WasmFeatures, bytes: &[u8]) -> Result<u32, Module
     }
 }
 
-/// Returns the types of the functions.
-///
-/// Fails as `find_section` does, then as `function_types` does for the section.
+/// Returns the types of the functions. Fails as `find_section` and `function_types` do.
 pub fn find_types(
     alloc: Global,
     features: WasmFeatures,
@@ -96,9 +86,8 @@ pub fn find_types(
     }
 }
 
-/// Returns the names of the imported functions, up to an error in the import section.
-///
-/// Fails as `find_section` does. Fails with `Memory` if allocation fails.
+/// Returns the names of the imported functions, up to an error in the import section. Fails as
+/// `find_section` does, or with `Memory`.
 fn find_import_names<'a>(
     alloc: Global,
     features: WasmFeatures,
@@ -119,8 +108,6 @@ fn find_import_names<'a>(
 
 #[tactic(auto, using(crate::proofs::Named::unnamed_more))]
 /// Appends an empty name for each of `count` functions.
-///
-/// Fails with `Memory` only.
 fn push_unnamed<'a>(names: &mut Vec<FunctionName<'a>>, count: usize) -> Result<(), ModuleFault>
     ensures ok { OnOk result (bytes_of names.new.items ≡ bytes_of names.old.items ++ replicate count []) }
     ensures memory { IfErr result (λ fault. fault ≡ ModuleFault.Memory) }
@@ -133,9 +120,8 @@ fn push_unnamed<'a>(names: &mut Vec<FunctionName<'a>>, count: usize) -> Result<(
     Ok(())
 }
 
-/// Sets the names of the functions that are exported.
-///
-/// Fails as `find_section` does, then as `name_exports` does for the section.
+/// Sets the names of the functions that are exported. Fails as `find_section` and `name_exports`
+/// do.
 fn set_exports<'a>(
     features: WasmFeatures,
     bytes: &'a [u8],
@@ -156,9 +142,7 @@ fn set_exports<'a>(
     }
 }
 
-/// Sets the names of the functions that the last custom section `name` names.
-///
-/// Fails as `find_names` does.
+/// Sets the names that the last custom section `name` has. Fails as `find_names` does.
 fn set_names<'a>(
     features: WasmFeatures,
     bytes: &'a [u8],
@@ -179,12 +163,9 @@ fn set_names<'a>(
     }
 }
 
-/// Returns the names of all functions, by their indices: the imported functions, and then `count`
-/// functions that the module defines. The names of imports are replaced by the names of exports,
-/// and these by the names of the custom section `name`.
+/// Returns the names of all functions, by index: the imported functions, then `count` defined ones.
 ///
-/// Fails with `Memory` if allocation fails; otherwise as finding or reading the export section
-/// does.
+/// Fails as `find_section` and `name_exports` do, or with `Memory`.
 pub fn find_function_names<'a>(
     alloc: Global,
     features: WasmFeatures,

@@ -27,7 +27,7 @@ pub fn refusals()
     module_laws::refusals();
 }
 
-/// States that the number of imported functions and the types of the defined functions are unique.
+/// States that a module has one number of imported functions and one list of their types.
 pub fn own_functions()
     ensures { (whole : Reader) → (t u : ModuleFunctions) → DescribesFunctions whole t → DescribesFunctions whole u → (t.imported ≡ u.imported) × (t.types ≡ u.types) }
 {
@@ -36,8 +36,8 @@ pub fn own_functions()
     module_laws::imports();
 }
 
-/// States that bytes have at most one fault in place of known functions, unless allocation fails,
-/// and none if the functions are known.
+/// States that bytes have at most one fault besides `Memory`, and a module with known functions has
+/// none.
 pub fn faults()
     ensures one { (whole : Reader) → (a b : ModuleFault) → ModuleFunctionsFault a whole → ModuleFunctionsFault b whole
         → a ≢ ModuleFault.Memory → b ≢ ModuleFault.Memory → a ≡ b }

@@ -1,4 +1,3 @@
-//! The functions of a module.
 ghost use Rattle.std.specs.Prelude.{◌≡◌, ◌↔◌, [], List, length, IsTrue, IfOk, IfErr};
 ghost use Rattle.wasm_module.specs.below.Source.{reader_of};
 ghost use Rattle.wasm_module.specs.Module.{SectionParts};
@@ -17,8 +16,8 @@ use std::marker::Model;
 use wasm_module::below::WasmFeatures;
 use wasm_module::below::byte_laws::{fixed_numbers, unsigned_numbers};
 
-/// The functions of a module: the functions that it defines, each by its ordinal after the imported
-/// functions, and the names of all functions.
+/// The functions that a module defines, by their ordinals, and the names of all functions, by
+/// index.
 #[derive(Debug, Drop)]
 pub struct Functions<'a> {
     imported: u32,
@@ -37,17 +36,13 @@ impl<'a> Model for Functions<'a> {
 }
 
 impl<'a> Functions<'a> {
-    /// Reads what the sections of a module say about its functions. The name of an export replaces
-    /// the name of an import, and the name in the custom section `name` replaces both. Of two
-    /// exports, the last names the function. After an error in the custom section, no more
-    /// functions are named.
+    /// Reads what the sections of a module say about its functions. Names of exports replace names
+    /// of imports; names in the custom section `name` replace both. The last of two exports counts,
+    /// and names after an error do not.
     ///
-    /// Fails with `NotModule` if the bytes do not start with the preamble of a module. Fails with
-    /// `Refused` if the preamble or a section is in error.
-    ///
-    /// Otherwise fails with the fault of the first of four sections that has one: types
-    /// (`TypeKind`, `Refused`), imports (`ImportKind`, `Refused`), functions and exports
-    /// (`Refused`). Fails with `Memory` if allocation fails.
+    /// Fails with the first fault of: the preamble and the sizes of sections (`NotModule`,
+    /// `Refused`), types (`TypeKind`, `Refused`), imports (`ImportKind`, `Refused`), functions and
+    /// exports (`Refused`).
     pub fn new(
         alloc: Global,
         features: WasmFeatures,
@@ -98,7 +93,8 @@ impl<'a> Functions<'a> {
         self.types.len()
     }
 
-    /// Returns the index of the function with this ordinal, at most 4294967295.
+    /// Returns the index of a defined function: `ordinal`, counted from 0 among these, plus the
+    /// number of imported functions, or 4294967295 if that is greater.
     pub fn index(&self, ordinal: u32) -> u32
         ensures { result ≡ index_of self.now ordinal }
     {
@@ -112,8 +108,8 @@ impl<'a> Functions<'a> {
         index >= self.imported && ((index - self.imported) as usize) < self.types.len()
     }
 
-    /// Returns the function's number of parameters, or 0 if its type is not known or not a function
-    /// type.
+    /// Returns the number of parameters of the defined function with this ordinal, or 0 if its type
+    /// is no known function type.
     pub fn parameters(&self, ordinal: u32) -> u32
         ensures { result ≡ parameters_at self.now ordinal }
     {
@@ -123,7 +119,7 @@ impl<'a> Functions<'a> {
         }
     }
 
-    /// Returns the names of all functions, by their indices.
+    /// Returns the names of all functions, by index.
     pub fn names(&self) -> &[FunctionName<'a>]
         ensures { bytes_of result.now ≡ self.now.names }
     {
@@ -131,8 +127,7 @@ impl<'a> Functions<'a> {
     }
 }
 
-/// Returns the name of a module. It is empty if the module has none, or if the bytes are no module.
-/// Whether it is UTF-8 is not checked.
+/// Returns the name of a module, or no bytes. The name need not be UTF-8.
 pub fn module_name<'a>(features: WasmFeatures, bytes: &'a [u8]) -> &'a [u8]
     ensures names { (sections : List SectionParts) → IsModule (reader_of features 0 bytes.now) sections
         → NamesModule (reader_of features 0 bytes.now) result.now }

@@ -1,4 +1,3 @@
-//! The number of imported functions, and their names.
 ghost use Rattle.std.specs.Prelude.{◌≡◌, ◌++◌, ℕ, Some, IfOk, IfErr, OnOk};
 ghost use Rattle.wasm_functions.specs.Names.{bytes_of, function_name, NamesImported};
 ghost use Rattle.wasm_functions.specs.Refusals.{ImportsFault};
@@ -14,13 +13,13 @@ use wasm_module::{Import, module_laws};
 /// The byte of the kind of functions.
 const FUNCTION: u8 = 0;
 
-/// The byte of the last kind, that of tags.
+/// The byte of the last kind, tags.
 const TAG: u8 = 4;
 
 /// Returns the number of functions among the imports of a section.
 ///
-/// Fails with `ImportKind` at an import of none of the five kinds; otherwise as the number of the
-/// imports or an import does.
+/// Fails with `ImportKind` at an import of no known kind; otherwise with the error of their number
+/// or of an import.
 pub fn imported_functions(contents: BinaryReader<'_>) -> Result<u32, ModuleFault>
     ensures ok { IfOk result (λ n. CountsImports (Some contents.entry) n) }
     ensures refused { IfErr result (λ fault. (n : ℕ) → CountsImports (Some contents.entry) n → ⊥) }
@@ -68,8 +67,6 @@ fn push_import<'a>(
 }
 
 /// Returns the names of the functions among the imports of a section, up to an error.
-///
-/// Fails with `Memory` only.
 pub fn import_names<'a>(
     alloc: Global,
     contents: BinaryReader<'a>,

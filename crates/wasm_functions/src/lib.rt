@@ -1,5 +1,4 @@
-//! The functions of a module, except their bodies: how many are imported, the number of parameters
-//! of each, and its name.
+//! The functions of a module, except their bodies.
 //!
 //! Every call that allocates may fail with `Memory`; it then returns no result.
 #![tactic(auto)]

@@ -1,4 +1,3 @@
-//! The names of functions: those of exports, and those of the custom section `name`.
 ghost use Rattle.std.specs.Prelude.{◌≡◌, ◌∷◌, [], List, set, Some, IfOk, IfErr};
 ghost use Rattle.wasm_module.specs.Exports.{ExportParts, EncodesExport};
 ghost use Rattle.wasm_module.specs.Names.{NameParts, EncodesNameAssociation};
@@ -15,10 +14,8 @@ use wasm_module::{Export, Name, NameAssociation, module_laws, read_section};
 /// The byte of the kind of functions.
 const FUNCTION: u8 = 0;
 
-/// The number of the subsection that names the module.
 const MODULE_NAME: u8 = 0;
 
-/// The number of the subsection that names functions.
 const FUNCTION_NAMES: u8 = 1;
 
 /// Sets the name of the function with this index, if the module has it.
@@ -31,7 +28,7 @@ fn set_name<'a>(names: &mut Vec<FunctionName<'a>>, index: u32, name: &'a [u8])
     }
 }
 
-/// Sets the name of the exported function, if the export is a function.
+/// Sets the name of an exported function.
 fn set_exported<'a>(names: &mut Vec<FunctionName<'a>>, export: &Export<'a>)
     ensures { bytes_of names.new.items ≡ with_exports (bytes_of names.old.items) (export.now ∷ []) }
 {
@@ -40,9 +37,8 @@ fn set_exported<'a>(names: &mut Vec<FunctionName<'a>>, export: &Export<'a>)
     }
 }
 
-/// Sets the names of the functions that an export section exports. Of two names the last is kept.
-///
-/// Fails as the number of the exports or an export does.
+/// Sets the names of the functions that a section exports. Fails with the error of the number of
+/// exports or of an export.
 pub fn name_exports<'a>(
     contents: BinaryReader<'a>,
     names: &mut Vec<FunctionName<'a>>,
@@ -86,7 +82,7 @@ fn name_associations<'a>(contents: BinaryReader<'a>, names: &mut Vec<FunctionNam
     }
 }
 
-/// Sets the names of the functions in the custom section `name`, up to an error.
+/// Sets the names in the custom section `name`, up to an error.
 pub fn name_functions<'a>(contents: BinaryReader<'a>, names: &mut Vec<FunctionName<'a>>)
     ensures { (given : List NameParts) × GivesNames contents.entry given
         × (bytes_of names.new.items ≡ with_names (bytes_of names.old.items) given) }
@@ -104,7 +100,7 @@ pub fn name_functions<'a>(contents: BinaryReader<'a>, names: &mut Vec<FunctionNa
     }
 }
 
-/// Returns the name of the module, if the custom section `name` starts with it; otherwise no bytes.
+/// Returns the name of the module if the custom section `name` starts with it, or no bytes.
 pub fn name_of_module<'a>(contents: BinaryReader<'a>) -> &'a [u8]
     ensures { GivesModule (Some contents.entry) result.now }
 {

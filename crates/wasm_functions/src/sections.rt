@@ -11,11 +11,10 @@ use wasm_module::below::{BinaryReader, WasmFeatures};
 use wasm_module::module_laws::names;
 use wasm_module::{CustomSection, PreambleKind, Section, read_preamble, read_section};
 
-/// Reads the preamble of a module and returns a reader of its sections, with the offsets of the
-/// module.
+/// Reads the preamble of a module and returns a reader of its sections.
 ///
-/// Fails with `NotModule` if the preamble is that of something else, and with `Refused` if the data
-/// ends within it.
+/// Fails with `NotModule` at the preamble of something else, and with `Refused` if the data ends
+/// within it.
 pub fn open_sections<'a>(
     features: WasmFeatures,
     bytes: &'a [u8],
@@ -55,11 +54,9 @@ fn or_first<'a>(
     }
 }
 
-/// Returns the contents of a module's first section with this number. Skips all sections by their
-/// sizes.
+/// Returns the contents of a module's first section with this number, if there is one.
 ///
-/// Fails with `NotModule` if the bytes do not start with the preamble of a module; otherwise as the
-/// preamble or the first section in error does.
+/// Fails as `open_sections` does, or with `Refused` at the first section in error.
 pub fn find_section<'a>(
     features: WasmFeatures,
     bytes: &'a [u8],
@@ -114,7 +111,8 @@ fn or_last<'a>(found: Option<BinaryReader<'a>>, section: &Section<'a>) -> Option
     }
 }
 
-/// Returns the contents of a module's last custom section `name`. Fails as `find_section` does.
+/// Returns the contents of a module's last custom section `name`, if there is one. Fails as
+/// `find_section` does.
 pub fn find_names<'a>(
     features: WasmFeatures,
     bytes: &'a [u8],

@@ -23,8 +23,9 @@ fn parameter_count(ty: CompositeType) -> u32
     }
 }
 
-/// Reads this many types and appends the number of parameters of each. Fails with `TypeKind` at a
-/// type of none of the three sorts; otherwise as a type does.
+/// Reads `len` types and appends to `counts` the number of parameters of each, 0 unless it is a
+/// function type. Fails with `TypeKind` at a type that is no function, structure or array type,
+/// with the error of reading a type, or with `Memory`.
 fn read_rec_type(
     reader: &mut BinaryReader<'_>,
     len: u32,
@@ -53,10 +54,10 @@ fn read_rec_type(
     Ok(())
 }
 
-/// Returns the number of parameters of each type of a section: 0 if it is not a function type.
+/// Returns the number of parameters of each type of a section: 0 if it is no function type.
 ///
-/// Fails with `TypeKind` at a type of none of the three sorts; otherwise as a number of types or a
-/// type does, or with `Memory`.
+/// Fails with `TypeKind` at a type that is no function, structure or array type, with the error of
+/// a count or a type, or with `Memory`.
 pub fn parameter_counts(alloc: Global, contents: BinaryReader<'_>) -> Result<Vec<u32>, ModuleFault>
     ensures ok { IfOk result (λ counts. CountsParameters (Some contents.entry) counts.items) }
     ensures refused { IfErr result (λ fault. (counts : List ℕ) → CountsParameters (Some contents.entry) counts → fault ≡ ModuleFault.Memory) }
@@ -83,9 +84,8 @@ pub fn parameter_counts(alloc: Global, contents: BinaryReader<'_>) -> Result<Vec
     Ok(counts)
 }
 
-/// Returns the type index of each function of a section.
-///
-/// Fails as their number or an index does, or with `Memory`.
+/// Returns the type index of each function of a section. Fails with the error of their number or of
+/// an index, or with `Memory`.
 pub fn function_types(alloc: Global, contents: BinaryReader<'_>) -> Result<Vec<u32>, ModuleFault>
     ensures ok { IfOk result (λ types. IsList (EncodesUnsigned 32) contents.entry types.items) }
     ensures refused { IfErr result (λ fault. (types : List ℕ) → IsList (EncodesUnsigned 32) contents.entry types → fault ≡ ModuleFault.Memory) }

@@ -37,7 +37,7 @@ no_instruction (if_two a is js) p x ends_body e = subst EndsBody e ends_body
 no_instruction (try_handle a is h) p x ends_body e = subst EndsBody e ends_body
 no_instruction (try_delegate a is depth) p x ends_body e = subst EndsBody e ends_body
 
--- if two walks with roles after them are equal, so are the trees, and the roles after them
+-- if two walks with roles after them are equal, so are the trees and these roles
 mutual
   same_instruction : {A : Type 0} (i j : Instruction A) (p q : List (Role A)) →
       walk_instruction i ++ p ≡ walk_instruction j ++ q → (i ≡ j) × (p ≡ q)

@@ -11,6 +11,6 @@ IsWalk {A} roles = (tree : Expression A) × (roles ≡ walk tree)
 abbrev pub IsOnlyTree : {A : Type 0} → List (Role A) → Expression A → Type 0
 IsOnlyTree {A} roles tree = (roles ≡ walk tree) × ((other : Expression A) → roles ≡ walk other → other ≡ tree)
 
--- The roles are a prefix of the walk of an expression.
+-- The roles begin the walk of an expression.
 abbrev pub BeginsWalk : {A : Type 0} → List (Role A) → Type 0
 BeginsWalk {A} roles = (more : List (Role A)) × (tree : Expression A) × (roles ++ more ≡ walk tree)

@@ -1,6 +1,5 @@
--- Which roles the innermost frame allows, and the frames after a role, the outermost first.
--- Specification: Validation, Control Instructions; Appendix, Validation Algorithm. Proposal legacy
--- exception handling.
+-- Frames are listed from the outermost. Specification: Validation, Control Instructions; Appendix,
+-- Validation Algorithm. Proposal legacy exception handling.
 use Rattle.std.specs.Prelude.{List, [], ◌∷◌, Option, Some, None, IsSome}
 use Rattle.std.specs.Option.{option_map, option_and_then}
 use Rattle.wasm_grammar.specs.declared.frame_kind.FrameKind.{FrameKind}
@@ -12,7 +11,7 @@ kind_of_nest block = frame.Block
 kind_of_nest loop = frame.Loop
 kind_of_nest try_table = frame.TryTable
 
--- What replaces the innermost frame after a role; None if it does not allow the role.
+-- What replaces the innermost frame after a role; `None` if not allowed.
 abbrev pub replacement : {A : Type 0} → FrameKind → Role A → Option (List FrameKind)
 replacement kind (plain a) = Some (kind ∷ [])
 replacement kind (opens n a) = Some (kind ∷ kind_of_nest n ∷ [])
@@ -31,17 +30,16 @@ replacement _ _ = None
 abbrev pub Allows : {A : Type 0} → FrameKind → Role A → Type 0
 Allows kind role = IsSome (replacement kind role)
 
--- The frames after a role, for one frame and those inside it.
 abbrev pub frames_after_in : {A : Type 0} → FrameKind → List FrameKind → Role A → Option (List FrameKind)
 frames_after_in kind [] role = replacement kind role
 frames_after_in kind (next ∷ inside) role = option_map (λ frames. kind ∷ frames) (frames_after_in next inside role)
 
--- The frames after a role; None if no frame is open or the innermost does not allow it.
+-- The frames after a role; `None` if no innermost frame allows it.
 abbrev pub frames_after : {A : Type 0} → List FrameKind → Role A → Option (List FrameKind)
 frames_after [] role = None
 frames_after (kind ∷ inside) role = frames_after_in kind inside role
 
--- The frames after several roles; None if one is not allowed.
+-- The frames after several roles; `None` if one is not allowed.
 abbrev pub frames_along : {A : Type 0} → List FrameKind → List (Role A) → Option (List FrameKind)
 frames_along frames [] = Some frames
 frames_along frames (role ∷ roles) = option_and_then (λ next. frames_along next roles) (frames_after frames role)
@@ -50,7 +48,7 @@ abbrev pub innermost_in : FrameKind → List FrameKind → FrameKind
 innermost_in kind [] = kind
 innermost_in kind (next ∷ inside) = innermost_in next inside
 
--- The innermost frame, or None if no frame is open.
+-- The innermost frame; `None` if none is open.
 abbrev pub innermost : List FrameKind → Option FrameKind
 innermost [] = None
 innermost (kind ∷ inside) = Some (innermost_in kind inside)

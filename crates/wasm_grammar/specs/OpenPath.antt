@@ -1,6 +1,5 @@
--- How far a list of roles has come in a tree: the complete instructions, and the path down to the
--- open body. Specification: Structure, Control Instructions and Expressions; Appendix, Validation
--- Algorithm. Proposal legacy exception handling.
+-- How far roles have come in a tree. Specification: Structure, Control Instructions and
+-- Expressions; Appendix, Validation Algorithm. Proposal legacy exception handling.
 use Rattle.std.specs.Prelude.{◌≡◌, ℕ, List, [], ◌∷◌, ◌++◌}
 use Rattle.wasm_grammar.specs.declared.frame_kind.FrameKind.{FrameKind}
 use Rattle.wasm_grammar.specs.declared.frame_kind.FrameKind.TheVariants as frame
@@ -42,16 +41,15 @@ walk_head (of_try a) = opens_try a ∷ []
 walk_head (of_catch a body parts tag) = opens_try a ∷ (walk_instructions body ++ (walk_parts parts ++ turns_catch tag ∷ []))
 walk_head (of_catch_all a body parts) = opens_try a ∷ (walk_instructions body ++ (walk_parts parts ++ turns_catch_all ∷ []))
 
--- Roles in a body: complete instructions, and then, for each of these frames, a head of its kind
--- and what its body holds so far.
+-- Roles in a body: complete instructions, then for each frame a head of its kind and what its body
+-- holds.
 abbrev pub OpenPathIn : {A : Type 0} → List (Role A) → List FrameKind → Type 0
 OpenPathIn {A} roles [] = (whole : Instructions A) × (roles ≡ walk_instructions whole)
 OpenPathIn {A} roles (kind ∷ frames) =
     (whole : Instructions A) × (head : Head A) × (inner : List (Role A)) × (kind_of_head head ≡ kind)
     × (roles ≡ walk_instructions whole ++ (walk_head head ++ inner)) × OpenPathIn inner frames
 
--- The roles lead into an expression in which these frames are open, the outermost first; into a
--- complete one if none is open.
+-- The roles begin an expression with these open frames; without frames, they are one.
 abbrev pub OpenPath : {A : Type 0} → List (Role A) → List FrameKind → Type 0
 OpenPath roles [] = IsWalk roles
 OpenPath roles (kind ∷ frames) = (kind ≡ frame.Block) × OpenPathIn roles frames

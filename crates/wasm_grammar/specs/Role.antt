@@ -6,8 +6,8 @@ use Rattle.std.specs.Prelude.{ℕ}
 pub data Nest : Type 0 where
   block loop try_table : Nest
 
--- The role of an operator, with what it carries as an A. A `catch` has the index of a tag, and a
--- `delegate` a depth.
+-- An operator's part in a tree. Plain and opening ones carry an `A`, `turns_catch` a tag's index,
+-- `delegates` a depth.
 pub data Role (A : Type 0) : Type 0 where
   plain : A → Role A
   opens : Nest → A → Role A

@@ -4,8 +4,8 @@ use Rattle.std.specs.Prelude.{ℕ, List, [], ◌∷◌, ◌++◌}
 use Rattle.wasm_grammar.specs.Role.{Nest, Role, plain, opens, opens_if, opens_try, turns_else, turns_catch, turns_catch_all, delegates, ends}
 
 mutual
-  -- An instruction: a plain operator; a block, loop or try_table; an if with one or two bodies; a
-  -- try with handlers or a depth. A is what its operator carries.
+  -- A plain operator; a block, loop or try_table; an if; a try with handlers or a depth. A is what
+  -- its operator carries.
   pub data Instruction (A : Type 0) : Type 0 where
     single : A → Instruction A
     nest : Nest → A → Instructions A → Instruction A
@@ -24,7 +24,7 @@ mutual
     for_all : Instructions A → Handlers A
     for_tag : ℕ → Instructions A → Handlers A → Handlers A
 
--- Instructions. In the binary format an `end` follows them.
+-- Instructions, without the `end` of the binary format.
 abbrev pub Expression : Type 0 → Type 0
 Expression A = Instructions A
 
@@ -47,6 +47,6 @@ abbrev mutual
   walk_handlers (for_all body) = turns_catch_all ∷ (walk_instructions body ++ ends ∷ [])
   walk_handlers (for_tag tag body more) = turns_catch tag ∷ (walk_instructions body ++ walk_handlers more)
 
--- The roles of an expression, including its `end`.
+-- An expression's roles, with its `end`.
 abbrev pub walk : {A : Type 0} → Expression A → List (Role A)
 walk tree = walk_instructions tree ++ ends ∷ []

@@ -1,7 +1,7 @@
-/// The construct that an open frame belongs to.
+/// The construct of an open control frame. WebAssembly Core Specification 3.0: Appendix, Validation
+/// Algorithm.
 ///
-/// A frame is the control frame of the WebAssembly Core Specification 3.0 (Appendix, Validation
-/// Algorithm). The last three kinds belong to legacy exception handling.
+/// The last three kinds belong to legacy exception handling.
 #[derive(Clone, Copy, Debug, PartialEq, Eq)]
 pub enum FrameKind {
     /// A `block`, or the expression itself.

@@ -1,6 +1,5 @@
-//! The structure of WebAssembly expressions, for any values that operators carry: trees of
-//! instructions, and the frames that are open after each operator. The laws relate the two;
-//! `specs/` defines them.
+//! The structure of WebAssembly expressions: trees of instructions, and the frames that are open
+//! after each operator. The laws relate the two; `specs/` defines them.
 #![tactic(auto)]
 
 mod frame_kind;

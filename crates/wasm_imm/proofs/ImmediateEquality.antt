@@ -1,4 +1,3 @@
--- Equality of immediates is exact.
 use Rattle.std.proofs.Common.{◌≡◌, ℕ, Bool, true, false, List, Option, Some, None, refl, sym, ap, ◌∙◌}
 use Rattle.std.specs.Bool.{Decides}
 use Rattle.std.specs.Cmp.Lexicographic.{pointwise}
@@ -30,7 +29,6 @@ announced_exact = enum_exact announced_type.enum _ (one _ order_exact ▸ one _ 
 target_exact : IsExact target_eq.ghosts.eq
 target_exact = enum_exact target_type.enum _ (one _ Decides-eqb ▸ one _ Decides-eqb ▸ tt)
 
--- Optional values.
 option_exact : {A : Type 0} (E : A → A → Bool) (O : Option A → Option A → Bool) → IsExact E → O None None ≡ true → ((b : A) → O None (Some b) ≡ false) →
     ((a : A) → O (Some a) None ≡ false) → ((a b : A) → O (Some a) (Some b) ≡ E a b) → IsExact O
 option_exact E O h both right left one None None = (λ e. refl, λ e. both)

@@ -1,4 +1,3 @@
--- The encodings of indices, orderings and fences are prefix codes.
 use Rattle.std.proofs.Common.{inl, inr, [], ◌∷◌, refl, sym, ap, ◌∙◌}
 use Rattle.wasm_imm_control.specs.below.bytes.features.WasmFeatures.{WasmFeatures}
 use Rattle.wasm_imm_control.specs.below.Sequence.{PrefixCode}

@@ -1,4 +1,4 @@
--- The value of the first immediate of a list if it has the given kind, and otherwise some value.
+-- The value of a list's first immediate if it has this kind, otherwise some value.
 use Rattle.std.proofs.Common.{ℕ, ℤ, pos, false, List, [], ◌∷◌, None}
 use Rattle.wasm_imm_control.specs.below.Reference.{Reference}
 use Rattle.wasm_imm_control.specs.below.declared.types.HeapType.{HeapType}

@@ -25,8 +25,7 @@ NamesBoth f flags = Announces f multibyte_array_access flags 32 × (flags / 64 %
 abbrev pub OrdersPlain : WasmFeatures → MemArgKind → ℕ → Type 0
 OrdersPlain f k flags = (k ≡ kind.Plain) × Announces f acquire_release_atomics flags 16
 
--- The announced index, as the code looks for it: of a memory, else of an array type; otherwise, the
--- target is memory 0.
+-- The target: the announced memory index, else the announced array index, else memory 0.
 abbrev pub IsTarget : WasmFeatures → ℕ → List ℕ → MemArgTarget → Type 0
 IsTarget f flags text (target.Array i) = ¬ Announces f multi_memory flags 64 × Announces f multibyte_array_access flags 32 × EncodesUnsigned 32 text i
 IsTarget f flags text (target.Memory i) = (Announces f multi_memory flags 64 × EncodesUnsigned 32 text i) ⊎ (¬ Announces f multi_memory flags 64 × ¬ Announces f multibyte_array_access flags 32 × (text ≡ []) × (i ≡ 0))

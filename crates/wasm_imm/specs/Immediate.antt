@@ -24,7 +24,7 @@ use Rattle.wasm_imm.specs.Orderings.{EncodesOrderingByte, EncodesFence}
 use Rattle.wasm_imm.specs.Vectors.{EncodesSixteen, EncodesVector}
 use Rattle.wasm_imm.specs.MemoryArgument.{EncodesMemArg}
 
--- An immediate with its value. A memory argument also has the kind of its operator and the natural
+-- An immediate with its value, and for a memory argument with the operator's kind and natural
 -- alignment.
 pub data Immediate : Type 0 where
   unsigned_32 : ℕ → Immediate

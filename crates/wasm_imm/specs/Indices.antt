@@ -8,28 +8,26 @@ use Rattle.wasm_imm_control.specs.below.bytes.message.Message.{Message}
 use Rattle.wasm_imm_control.specs.below.bytes.message.Message.TheVariants as message
 use Rattle.wasm_imm_control.specs.below.PartFaults.{ZeroFault}
 
--- A number of 32 bits with this feature, and the byte 0 without it.
+-- An index: a u32 if `feature` is in `f`, otherwise the byte 0.
 abbrev pub EncodesIndex : WasmFeatures → WasmFeatures → List ℕ → ℕ → Type 0
 EncodesIndex feature f text n = (HasFeature feature f × EncodesUnsigned 32 text n) ⊎ (¬ HasFeature feature f × (text ≡ 0x00 ∷ []) × (n ≡ 0))
 
--- The memory index of `memory.size` and `memory.grow`: a u32 with multi_memory, the byte 0 without
--- it. Proposal multi-memory.
+-- The memory index of `memory.size` and `memory.grow`: a u32 with multi_memory, the byte 0 without.
+-- Proposal multi-memory.
 abbrev pub EncodesMemoryIndex : WasmFeatures → List ℕ → ℕ → Type 0
 EncodesMemoryIndex = EncodesIndex multi_memory
 
--- The table index of `call_indirect`: a u32 with call_indirect_overlong, the byte 0 without it.
+-- The table index of `call_indirect`: a u32 with call_indirect_overlong, the byte 0 without.
 abbrev pub EncodesTableIndex : WasmFeatures → List ℕ → ℕ → Type 0
 EncodesTableIndex = EncodesIndex call_indirect_overlong
 
--- The error of an index: of its number with this feature; otherwise the data ends, or the byte is
+-- The error of an index: of the u32 if `feature` is in `f`; otherwise the data ends, or the byte is
 -- not 0.
 abbrev pub IndexFault : WasmFeatures → WasmFeatures → Message → Reader → ℕ → Type 0
 IndexFault feature f m r offset = (HasFeature feature f × U32Fault m r offset) ⊎ (¬ HasFeature feature f × ZeroFault message.ZeroByteExpected (offset_of r) m r offset)
 
--- The error of the memory index of `memory.size` and `memory.grow`.
 abbrev pub MemoryIndexFault : WasmFeatures → Message → Reader → ℕ → Type 0
 MemoryIndexFault = IndexFault multi_memory
 
--- The error of the table index of `call_indirect`.
 abbrev pub TableIndexFault : WasmFeatures → Message → Reader → ℕ → Type 0
 TableIndexFault = IndexFault call_indirect_overlong

@@ -30,8 +30,7 @@ abbrev pub IsOrderingByte : MemArgKind → ℕ → MemArgOrdering → Type 0
 IsOrderingByte k byte (ordering.Op o) = (k ≡ kind.Op) × (byte ≡ ordering_byte o)
 IsOrderingByte k byte (ordering.Rmw o) = (k ≡ kind.Rmw) × (byte ≡ rmw_byte o)
 
--- What a target adds to the flags number, and the encoding of its index. A memory without an index
--- is memory 0.
+-- What a target adds to the flags number, and its index, which memory 0 may lack.
 abbrev pub EncodesTarget : WasmFeatures → ℕ → List ℕ → MemArgTarget → Type 0
 EncodesTarget f part text (target.Array i) = HasFeature multibyte_array_access f × (part ≡ 32) × EncodesUnsigned 32 text i
 EncodesTarget f part text (target.Memory i) = (HasFeature multi_memory f × (part ≡ 64) × EncodesUnsigned 32 text i) ⊎ ((part ≡ 0) × (text ≡ []) × (i ≡ 0))
@@ -41,12 +40,11 @@ abbrev pub EncodesOrdering : WasmFeatures → MemArgKind → ℕ → List ℕ �
 EncodesOrdering f k part text None = (part ≡ 0) × (text ≡ [])
 EncodesOrdering f k part text (Some o) = HasFeature acquire_release_atomics f × (part ≡ 16) × (byte : ℕ) × (text ≡ byte ∷ []) × IsOrderingByte k byte o
 
--- A number of 64 bits with memory64, and of 32 bits without it.
+-- A u64 with memory64, a u32 without it.
 abbrev pub EncodesOffset : WasmFeatures → List ℕ → ℕ → Type 0
 EncodesOffset f text n = (HasFeature memory64 f × EncodesUnsigned 64 text n) ⊎ (¬ HasFeature memory64 f × EncodesUnsigned 32 text n)
 
--- What follows the flags number, which is the sum of the alignment, at most 15, and of what
--- ordering and target add.
+-- What follows the flags number, which is the sum of alignment, ordering and target.
 pub record EncodesAfterFlags (f : WasmFeatures) (k : MemArgKind) (max : ℕ) (flags : ℕ) (text : List ℕ) (m : MemArg) : Type 0 where
   pub of_ordering : ℕ
   pub of_target : ℕ
@@ -61,8 +59,7 @@ pub record EncodesAfterFlags (f : WasmFeatures) (k : MemArgKind) (max : ℕ) (fl
   pub ordering : EncodesOrdering f k of_ordering byte m.ordering
   pub offset : EncodesOffset f after m.offset
 
--- A memory argument of an operator of this kind, with the natural alignment `max`, an exponent of
--- two.
+-- A memory argument of an operator of this kind with the natural alignment 2^`max`.
 --   memarg ::= n:u32 m:u64 ⇒ (0, {align n, offset m}), if n < 2^6  |  n:u32 x:memidx m:u64 ⇒ (x, {align n - 2^6, offset m}), if 2^6 ≤ n < 2^7
 abbrev pub EncodesMemArg : WasmFeatures → MemArgKind → ℕ → List ℕ → MemArg → Type 0
 EncodesMemArg f k max = Then (EncodesUnsigned 32) (EncodesAfterFlags f k max)

@@ -1,5 +1,4 @@
--- Errors of memory arguments, in the order of the checks. Specification: Binary Format, Memory
--- Instructions.
+-- Errors in the order of the checks. Specification: Binary Format, Memory Instructions.
 use Rattle.std.specs.Prelude.{◌≡◌, ℕ, ◌⊎◌, true}
 use Rattle.wasm_imm_control.specs.below.bytes.features.WasmFeatures.{WasmFeatures}
 use Rattle.wasm_imm_control.specs.below.bytes.message.Message.{Message}
@@ -14,8 +13,7 @@ use Rattle.wasm_imm.specs.MemoryArgument.{IsOrderingByte}
 use Rattle.wasm_imm.specs.FlagsNumber.{Announces, NamesBoth, OrdersPlain, IsReserved, IsTarget, IsOrdering}
 use Rattle.wasm_imm_control.specs.below.PartFaults.{CheckedByteFault}
 
--- The error of a check: `refusal` at `place` if `IsWrong` holds, otherwise an error of what is read
--- later.
+-- `refusal` at `place` if `IsWrong` holds, otherwise an error of what is read later.
 abbrev pub CheckFault : Type 0 → Message → ℕ → (Message → Reader → ℕ → Type 0) → Message → Reader → ℕ → Type 0
 CheckFault IsWrong refusal place Later m r offset = (IsWrong × (m ≡ refusal) × (offset ≡ place)) ⊎ (¬ IsWrong × Later m r offset)
 

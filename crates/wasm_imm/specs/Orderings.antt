@@ -1,4 +1,3 @@
--- The byte of an ordering alone and of a fence, and their errors.
 -- Proposals threads, shared-everything threads and acquire-release atomics.
 use Rattle.std.specs.Prelude.{◌≡◌, ℕ, ◌⊎◌, List, [], ◌∷◌, ◌≢◌, false}
 use Rattle.wasm_imm_control.specs.below.bytes.features.WasmFeatures.{WasmFeatures}
@@ -12,11 +11,11 @@ use Rattle.wasm_imm_control.specs.below.bytes.message.Message.TheVariants as mes
 use Rattle.wasm_imm_control.specs.below.PartFaults.{CheckedByteFault}
 use Rattle.wasm_imm_control.specs.below.PartFaults.{ZeroFault}
 
--- An ordering alone. Proposal shared-everything threads.
+-- The byte of an ordering. Proposal shared-everything threads.
 abbrev pub EncodesOrderingByte : List ℕ → Ordering → Type 0
 EncodesOrderingByte text o = text ≡ ordering_byte o ∷ []
 
--- The byte of `atomic.fence`: an ordering with acquire_release_atomics, and 0 without it. Proposals
+-- The byte of `atomic.fence`: an ordering with acquire_release_atomics, 0 without. Proposals
 -- threads and acquire-release atomics.
 abbrev pub EncodesFence : WasmFeatures → List ℕ → Ordering → Type 0
 EncodesFence f text o = (HasFeature acquire_release_atomics f × EncodesOrderingByte text o) ⊎ (¬ HasFeature acquire_release_atomics f × (text ≡ 0x00 ∷ []) × (o ≡ SeqCst))
@@ -25,7 +24,7 @@ EncodesFence f text o = (HasFeature acquire_release_atomics f × EncodesOrdering
 abbrev pub OrderingByteFault : Message → Reader → ℕ → Type 0
 OrderingByteFault m r offset = CheckedByteFault (λ byte. (o : Ordering) → byte ≢ ordering_byte o) (λ byte. message.InvalidOrdering byte false) (offset_of r) m r offset
 
--- The error of the byte of an `atomic.fence` at `start`: with acquire_release_atomics, of an
--- ordering; otherwise the data ends, or the byte is not 0.
+-- With acquire_release_atomics, `OrderingByteFault`. Without, the data ends, or the byte is not 0,
+-- reported at `start`.
 abbrev pub FenceFault : WasmFeatures → ℕ → Message → Reader → ℕ → Type 0
 FenceFault f start m r offset = (HasFeature acquire_release_atomics f × OrderingByteFault m r offset) ⊎ (¬ HasFeature acquire_release_atomics f × ZeroFault message.NonzeroAfterFence start m r offset)

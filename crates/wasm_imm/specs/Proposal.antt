@@ -1,5 +1,4 @@
 -- Written by tools/lists.py from tools/operators.tsv.
--- The names of the proposals that added operators.
 use Rattle.std.specs.Prelude.{ℕ, List, codes}
 use Rattle.wasm_imm.specs.declared.proposal.Proposal.{Proposal}
 use Rattle.wasm_imm.specs.declared.proposal.Proposal.TheVariants as proposal

@@ -34,7 +34,7 @@ impl Ieee32 {
     }
 }
 
-/// The bits of an IEEE 754 binary64 number. Every pattern is allowed.
+/// The bits of an IEEE 754 binary64 number.
 #[derive(Clone, Copy, Debug, PartialEq, Eq, Hash)]
 pub struct Ieee64(u64);
 
@@ -66,8 +66,8 @@ impl Ieee64 {
 pub struct V128(pub [u8; 16]);
 
 impl V128 {
-    /// Reads the constant of `v128.const`. Specification: Vector Instructions. Fails with
-    /// `EndOfData` at the offset of the first byte.
+    /// Reads the constant of `v128.const`. Specification: Vector Instructions. Fails like
+    /// `read_bytes`.
     #[inline(always)]
     pub fn read(reader: &mut BinaryReader<'_>) -> Result<V128>
         ensures reads { Reads EncodesVector result reader.old reader.new }
@@ -79,7 +79,6 @@ impl V128 {
         }
     }
 
-    /// Returns the bytes, the lowest first.
     pub fn bytes(&self) -> &[u8; 16]
         ensures { result.now ≡ self.now.0 }
     {

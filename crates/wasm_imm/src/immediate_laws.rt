@@ -1,4 +1,3 @@
-//! Laws of immediates, each the contract of a function that does nothing.
 ghost use Rattle.std.specs.Prelude.{◌≡◌, ℕ, List, ◌++◌, map};
 ghost use Rattle.wasm_imm_control.specs.below.Equality.{IsExact};
 ghost use Rattle.wasm_imm.specs.Immediate.{Immediate, Kind, kind_of, EncodesImmediates};
@@ -6,7 +5,8 @@ ghost use Rattle.wasm_imm.specs.Immediate.{Immediate, Kind, kind_of, EncodesImme
 use crate::{MemArg, Ordering, V128};
 use wasm_imm_control::below::WasmFeatures;
 
-/// States that the encodings of immediates of the same kinds are a prefix code.
+/// States that for each list of kinds, the encodings of immediates of these kinds are a prefix
+/// code.
 pub fn immediates(features: WasmFeatures)
     ensures { (is js : List Immediate) (a b x y : List ℕ)
         → map kind_of is ≡ map kind_of js
@@ -16,7 +16,6 @@ pub fn immediates(features: WasmFeatures)
         → (is ≡ js) × (a ≡ b) }
 {}
 
-/// States that `==` returns true if and only if two immediates are the same.
 pub fn equality()
     ensures argument { IsExact ⟦<MemArg as PartialEq>⟧.eq }
     ensures order { IsExact ⟦<Ordering as PartialEq>⟧.eq }

@@ -20,8 +20,7 @@ pub fn read_memory_index(reader: &mut BinaryReader<'_>) -> Result<u32>
 
 /// Reads the table index of `call_indirect`. Specification: Control Instructions.
 ///
-/// With call_indirect_overlong, fails like `read_var_u32`; without it, with `EndOfData`, or with
-/// `ZeroByteExpected` at a byte that is not 0.
+/// Fails like `read_memory_index`, with call_indirect_overlong in place of multi_memory.
 #[inline(never)]
 pub fn read_table_index(reader: &mut BinaryReader<'_>) -> Result<u32>
     ensures reads { Reads (EncodesTableIndex reader.old.features) result reader.old reader.new }

@@ -1,7 +1,5 @@
-//! The immediates of operators: the values after an opcode.
-//!
-//! A read call returns `Ok` if and only if a prefix of the rest encodes a value (`specs/`). It then
-//! returns the value and advances past that prefix. On `Err`, the reader is unchanged.
+//! The immediates of operators: the values after an opcode. A read that returns `Err` leaves the
+//! reader unchanged.
 //!
 //! This crate re-exports the names of `wasm_imm_control`. Only calls of that crate allocate.
 #![tactic(auto)]

@@ -21,7 +21,6 @@ pub struct MemArg {
     pub align: u8,
     /// The operator's natural alignment, as an exponent of two. It is not read from the bytes.
     pub max_align: u8,
-    /// The memory ordering, if the argument announces one.
     pub ordering: Option<MemArgOrdering>,
 }
 
@@ -38,7 +37,6 @@ impl Debug for MemArg {
     }
 }
 
-/// What a memory operator accesses.
 #[derive(Clone, Copy, Debug, PartialEq, Eq, Hash)]
 pub enum MemArgTarget {
     Memory(u32),
@@ -54,7 +52,6 @@ impl Default for MemArgTarget {
     }
 }
 
-/// The ordering of a memory argument.
 #[derive(Clone, Copy, Debug, PartialEq, Eq, Hash)]
 pub enum MemArgOrdering {
     Op(Ordering),
@@ -72,7 +69,7 @@ pub enum MemArgKind {
     Rmw,
 }
 
-/// The bits of the flags number that announce something.
+/// The bits of the flags number that announce an ordering, an array index and a memory index.
 const ORDERING: u32 = 16;
 
 const ARRAY_INDEX: u32 = 32;
@@ -83,15 +80,15 @@ impl MemArg {
     /// Reads the memory argument of an operator of this kind. `max_align` is the natural alignment,
     /// as an exponent of two. Specification: Memory Instructions.
     ///
-    /// Fails with the first of these errors that applies:
+    /// Fails with the first error that applies:
     ///
-    /// - as `read_var_u32` at the flags number
+    /// - like `read_var_u32` at the flags number
     /// - `MemoryAndArray` at the flags number
-    /// - as `read_var_u32` at the announced index
+    /// - like `read_var_u32` at the announced index
     /// - `OrderingOnPlain` at the flags number
-    /// - `EndOfData` or `InvalidOrdering` at the byte of the ordering
+    /// - `EndOfData` or `InvalidOrdering` at the ordering
     /// - `ReservedFlags` at the flags number
-    /// - at the offset field, as `read_var_u64` with memory64 and as `read_var_u32` without it
+    /// - at the offset, like `read_var_u64` with memory64 and like `read_var_u32` without it
     #[inline(always)]
     pub fn read(reader: &mut BinaryReader<'_>, max_align: u8, kind: MemArgKind) -> Result<MemArg>
         ensures reads { Reads (EncodesMemArg reader.old.features kind max_align)
@@ -126,7 +123,6 @@ impl MemArg {
     }
 }
 
-/// Reads the rest of a memory argument that starts at `start` and announces something.
 #[inline(always)]
 fn read_announced(
     reader: &mut BinaryReader<'_>,
@@ -149,8 +145,8 @@ fn read_announced(
     outcome
 }
 
-/// Reads the same. The code of `read_rest` occurs twice: in the copy for a memory index alone, the
-/// compiler drops all other checks.
+/// Reads a memory argument whose flags number announces something. `read_rest` occurs in it twice:
+/// for a memory index alone, the compiler drops the other checks.
 fn read_announced_out_of_line(
     reader: &mut BinaryReader<'_>,
     start: usize,
@@ -194,7 +190,6 @@ fn read_other(
     read_rest(reader, start, flags, max_align, kind)
 }
 
-/// Reads the index, the ordering and the offset after the flags number.
 #[inline(always)]
 fn read_rest(
     reader: &mut BinaryReader<'_>,
@@ -328,8 +323,6 @@ fn read_target(
     Ok(MemArgTarget::Memory(0))
 }
 
-/// Reads the ordering, if the flags number announces one. Fails with `EndOfData` or
-/// `InvalidOrdering` at its byte.
 #[inline(always)]
 fn read_ordering(
     reader: &mut BinaryReader<'_>,
@@ -374,7 +367,6 @@ fn ordering_of(kind: MemArgKind, byte: u8) -> Option<MemArgOrdering>
     }
 }
 
-/// Reads a number of 64 bits with memory64, and of 32 bits without it.
 #[inline(always)]
 fn read_offset(reader: &mut BinaryReader<'_>) -> Result<u64>
     ensures reads { Reads (EncodesOffset reader.old.features) result reader.old reader.new }

@@ -10,24 +10,20 @@ ghost use Rattle.wasm_imm.specs.MemoryArgument.{EncodesMemArg};
 use crate::memory_argument::MemArgKind;
 use wasm_imm_control::below::WasmFeatures;
 
-/// States that the encodings of memory arguments are a prefix code.
 pub fn memory_arguments(features: WasmFeatures, kind: MemArgKind, max_align: u8)
     ensures { PrefixCode (EncodesMemArg features kind max_align) }
 {}
 
-/// States that the encodings of memory indices, and of table indices, are prefix codes.
 pub fn indices(features: WasmFeatures)
     ensures memory { PrefixCode (EncodesMemoryIndex features) }
     ensures table { PrefixCode (EncodesTableIndex features) }
 {}
 
-/// States that the encodings of orderings, alone and of a fence, are prefix codes.
 pub fn orderings(features: WasmFeatures)
     ensures alone { PrefixCode EncodesOrderingByte }
     ensures fence { PrefixCode (EncodesFence features) }
 {}
 
-/// States that the faults of an index, an ordering and the byte of a fence determine their errors.
 pub fn short_refusals(features: WasmFeatures)
     ensures memory { DeterminesRefusal (MemoryIndexFault features) }
     ensures table { DeterminesRefusal (TableIndexFault features) }
@@ -35,7 +31,6 @@ pub fn short_refusals(features: WasmFeatures)
     ensures fence { (start : ℕ) → DeterminesRefusal (FenceFault features start) }
 {}
 
-/// States that the fault of a memory argument determines its error, for any kind of operator.
 pub fn memory_argument_refusals(features: WasmFeatures, kind: MemArgKind)
     ensures { DeterminesRefusal (MemArgFault features kind) }
 {}

@@ -1,11 +1,8 @@
-//! The row of an operator, as `info` returns it.
-
 use crate::proposal::Proposal;
 
 /// The row of an operator in the table of all operators.
 #[derive(Clone, Copy, Debug, PartialEq, Eq)]
 pub struct OperatorInfo {
-    /// The proposal that introduced the operator.
     pub proposal: Proposal,
     /// The name of the operator's variant.
     pub name: &'static str,

@@ -11,7 +11,7 @@ use wasm_imm_control::below::{BinaryReader, Error, Message, Result, WasmFeatures
 pub enum Ordering {
     /// A load acquires, a store releases.
     AcqRel,
-    /// As `AcqRel`, and all threads see all such operations in one order.
+    /// A load acquires, a store releases, and all threads see all `SeqCst` operations in one order.
     SeqCst,
 }
 

@@ -1,4 +1,4 @@
-//! The proposals that added operators. Written by tools/lists.py from tools/operators.tsv.
+//! Written by tools/lists.py from tools/operators.tsv.
 ghost use Rattle.std.specs.Prelude.{◌≡◌};
 ghost use Rattle.wasm_imm.specs.Proposal.{proposal_name};
 

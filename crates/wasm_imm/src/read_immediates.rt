@@ -10,13 +10,13 @@ pub trait ReadImmediates {
     // The state of the reader of bytes.
     ghost reader: { Self → Reader };
 
-    /// Reads four bytes, the lowest first. Specification: Values, Floating-Point. Fails with
-    /// `EndOfData` at the offset of the first byte.
+    /// Reads four bytes, the lowest first. Specification: Values, Floating-Point. Fails like
+    /// `read_bytes`.
     fn read_f32(&mut self) -> Result<Ieee32>
         ensures reads { Reads (EncodesFixed w32) result (reader self.old) (reader self.new) }
         ensures end { IfErr result (λ e. IsShort 4 e (reader self.old)) };
 
-    /// Reads eight bytes in the same way.
+    /// Reads eight bytes, the lowest first. Fails like `read_bytes`.
     fn read_f64(&mut self) -> Result<Ieee64>
         ensures reads { Reads (EncodesFixed w64) result (reader self.old) (reader self.new) }
         ensures end { IfErr result (λ e. IsShort 8 e (reader self.old)) };

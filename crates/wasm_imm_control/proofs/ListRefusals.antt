@@ -1,4 +1,3 @@
--- Errors of calls that may allocate.
 use Rattle.std.proofs.Common.{◌≡◌, ◌≢◌, ℕ, ◌+◌, ◌<◌, ◌≤◌, ◌⊎◌, inl, inr, Bool, true, false, List, ◌++◌, length, Ok, refl, sym, subst, ap, ◌∙◌, append_assoc, arith}
 use Rattle.wasm_below.specs.bytes.error.Error.{Error}
 use Rattle.wasm_below.specs.bytes.message.Message.TheVariants as message
@@ -64,8 +63,6 @@ member_refused P takes e old now now2 new text done read count position lean pre
     memory = λ m. absurd (let k : true ≡ false = sym (h.memory m).0 ∙ lean in cc k);
   },
 )
-
--- ---- which bytes precede an allocation
 
 -- a call that does not allocate reports no allocation failure
 pub not_memory : {X : Type 0} (P : List ℕ → X → Type 0) (e : Error) (old : Reader) → IsRefusal P e old → e.message ≡ message.OutOfMemory → ⊥

@@ -6,7 +6,7 @@ use Rattle.wasm_below.specs.Number.{EncodesSigned}
 use Rattle.wasm_below.specs.Source.{Reader, rest, offset_of, BeginsWith, S33Fault}
 use Rattle.wasm_below.specs.TypeEncoding.{ValTypeFault}
 
--- A first byte of a value type: as seven bits a negative number, and not 0x40.
+-- A first byte of a value type: negative as seven bits, and not 0x40.
 abbrev pub LeadsValType : ℕ → Type 0
 LeadsValType byte = (0x41 ≤ byte) × (byte ≤ 0x7f)
 
@@ -17,6 +17,6 @@ NegativeFault index m r offset = (index <ℤ pos 0) × (m ≡ message.InvalidFun
 abbrev pub FunctionTypeFault : Message → Reader → ℕ → Type 0
 FunctionTypeFault = ThenFault (EncodesSigned 33) S33Fault NegativeFault
 
--- The error of a value type, if the first byte starts one, otherwise of the index.
+-- By the first byte, the error of a value type or of the index.
 abbrev pub BlockTypeFault : Message → Reader → ℕ → Type 0
 BlockTypeFault m r offset = ((byte : ℕ) × LeadsValType byte × BeginsWith byte (rest r) × ValTypeFault m r offset) ⊎ (((byte : ℕ) → LeadsValType byte → BeginsWith byte (rest r) → ⊥) × FunctionTypeFault m r offset)

@@ -5,7 +5,7 @@ use Rattle.wasm_below.specs.TypeEncoding.{EncodesValType}
 use Rattle.wasm_imm_control.specs.declared.block_type.BlockType.{BlockType}
 use Rattle.wasm_imm_control.specs.declared.block_type.BlockType.TheVariants as block
 
--- The byte 0x40; a value type; or the index of a function type, as a signed number.
+-- The byte 0x40, a value type, or a function type's index as a signed number.
 --   blocktype ::= 0x40 ⇒ ε | t:valtype ⇒ t | i:s33 ⇒ i, if i ≥ 0
 abbrev pub EncodesBlockType : List ℕ → BlockType → Type 0
 EncodesBlockType text block.Empty = text ≡ 0x40 ∷ []

@@ -4,7 +4,7 @@ use Rattle.std.specs.Cmp.{IsPartialEquivalence, IsEquivalence, partial_equiv_fro
 use Rattle.std.specs.Cmp.Lexicographic.{pointwise, nat_list_eq_equiv}
 use Rattle.wasm_imm_control.specs.BranchTables.{BranchTable}
 
--- The tables have the same count, default target and target bytes.
+-- Count, default target and target bytes are equal.
 abbrev pub same_table : BranchTable → BranchTable → Bool
 same_table = eq_of_both (on (λ t. t.count) nat_eq) (eq_of_both (on (λ t. t.default) nat_eq) (on (λ t. t.targets) (pointwise nat_eq)))
 

@@ -3,7 +3,7 @@ use Rattle.std.specs.Prelude.{◌≡◌, ℕ, ◌+◌, ◌-◌, ◌*◌, ltb, Bo
 use Rattle.wasm_below.specs.Number.{EncodesUnsigned, EncodesSize}
 use Rattle.wasm_imm_control.specs.Lists.{EncodesMany}
 
--- The number of targets of a branch table, their bytes, and the default target.
+-- Count and bytes of the targets, and the default target.
 pub record BranchTable : Type 0 where
   pub count : ℕ
   pub targets : List ℕ
@@ -19,25 +19,24 @@ pub record HasTargets (count : ℕ) (bytes : List ℕ) (start after : ℕ) : Typ
   pub parts : drop start bytes ≡ text ++ drop after bytes
   pub ends : after ≡ start + length text
 
--- The bytes are `count` targets, and `size` is their length.
 abbrev pub EncodesTargets : ℕ → List ℕ → ℕ → Type 0
 EncodesTargets count bytes size = (size ≡ length bytes) × AreTargets count bytes
 
--- A limit of this project, not of the specification.
+-- The greatest number of targets: a limit of this project.
 abbrev pub max_targets : ℕ
 max_targets = 7654321
 
--- The count, the targets and the default target.
+-- Count, targets and default target.
 --   0x0E l*:list(labelidx) l_N:labelidx ⇒ br_table l* l_N
 abbrev pub EncodesBranchTable : List ℕ → BranchTable → Type 0
 EncodesBranchTable text t = (count default : List ℕ) × (text ≡ count ++ (t.targets ++ default)) × EncodesSize max_targets count t.count × AreTargets t.count t.targets × EncodesUnsigned 32 default t.default
 
--- A byte before the number n: a number, or the low seven bits of one.
 abbrev pub before_number : Bool → ℕ → ℕ → List ℕ → List ℕ
 before_number true byte n numbers = byte ∷ n ∷ numbers
 before_number false byte n numbers = (128 * n + (byte - 128)) ∷ numbers
 
--- A byte before numbers: a number below 128, otherwise the low seven bits of the first.
+-- The numbers whose encodings a byte and these numbers give: a byte below 128 is a number, another
+-- is the low seven bits of the first number.
 abbrev pub with_byte : ℕ → List ℕ → List ℕ
 with_byte byte [] = byte ∷ []
 with_byte byte (n ∷ numbers) = before_number (ltb byte 128) byte n numbers

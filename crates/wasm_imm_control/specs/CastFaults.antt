@@ -10,6 +10,6 @@ use Rattle.wasm_below.specs.TypeEncoding.{EncodesHeapType, HeapTypeFault}
 abbrev pub CastTypesFault : ℕ → ℕ → Message → Reader → ℕ → Type 0
 CastTypesFault start flags m r offset = ((3 < flags) × (m ≡ message.InvalidCastFlags flags) × (offset ≡ start)) ⊎ ((flags ≤ 3) × ThenFault EncodesHeapType HeapTypeFault (λ first. HeapTypeFault) m r offset)
 
--- The error of the flags, of the label, or of what follows.
+-- The error of the flags, the label or the types.
 abbrev pub CastFault : Message → Reader → ℕ → Type 0
 CastFault m r offset = ThenFault IsByte EndFault (λ flags. ThenFault (EncodesUnsigned 32) U32Fault (λ label. CastTypesFault (offset_of r) flags)) m r offset

@@ -1,5 +1,4 @@
--- Casts: the immediates of `br_on_cast` and its variants. Specification: Binary Format, Control
--- Instructions.
+-- Specification: Binary Format, Control Instructions.
 use Rattle.std.specs.Prelude.{◌≡◌, ◌==◌, ℕ, ◌/◌, ◌%◌, Bool, true, false, List, ◌∷◌, ◌++◌}
 use Rattle.wasm_below.specs.Number.{EncodesUnsigned}
 use Rattle.wasm_below.specs.Reference.{Reference}
@@ -13,7 +12,7 @@ cast_flags true false = 1
 cast_flags false true = 2
 cast_flags true true = 3
 
--- The flags, the label, and the heap types of the two reference types.
+-- The flags, the label and both heap types.
 --   castop ::= 0x00 ⇒ (ε, ε) | 0x01 ⇒ (null, ε) | 0x02 ⇒ (ε, null) | 0x03 ⇒ (null, null)
 --   0xFB 24:u32 (null1?, null2?):castop l:labelidx ht1:heaptype ht2:heaptype ⇒ br_on_cast l (ref null1? ht1) (ref null2? ht2)
 abbrev pub EncodesCast : List ℕ → Cast → Type 0

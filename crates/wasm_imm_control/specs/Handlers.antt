@@ -21,7 +21,7 @@ EncodesCatchIndices text (clause.OneRef tag label) = EncodesPair text (tag, labe
 EncodesCatchIndices text (clause.All label) = EncodesUnsigned 32 text label
 EncodesCatchIndices text (clause.AllRef label) = EncodesUnsigned 32 text label
 
--- A catch: its first byte and its indices.
+-- The first byte and the indices.
 --   catch ::= 0x00 x:tagidx l:labelidx | 0x01 x:tagidx l:labelidx | 0x02 l:labelidx | 0x03 l:labelidx
 abbrev pub EncodesCatch : List ℕ → Catch → Type 0
 EncodesCatch text c = (after : List ℕ) × (text ≡ catch_byte c ∷ after) × EncodesCatchIndices after c
@@ -34,11 +34,11 @@ abbrev pub EncodesHandleIndices : List ℕ → Handle → Type 0
 EncodesHandleIndices text (handle.OnLabel tag label) = EncodesPair text (tag, label)
 EncodesHandleIndices text (handle.OnSwitch tag) = EncodesUnsigned 32 text tag
 
--- A clause: its first byte, a tag and perhaps a label.
+-- The first byte, a tag, and for `OnLabel` a label.
 abbrev pub EncodesHandle : List ℕ → Handle → Type 0
 EncodesHandle text h = (after : List ℕ) × (text ≡ handle_byte h ∷ after) × EncodesHandleIndices after h
 
--- The rest of a catch, and the rest of a clause, after this first byte.
+-- The rest of a catch after this first byte.
 abbrev pub IsCatchAfterByte : ℕ → List ℕ → Catch → Type 0
 IsCatchAfterByte byte text c = (byte ≡ catch_byte c) × EncodesCatchIndices text c
 

@@ -12,11 +12,11 @@ use Rattle.wasm_imm_control.specs.Handlers.{EncodesCatch, EncodesHandle}
 use Rattle.wasm_imm_control.specs.HandlerFaults.{CatchFault, HandleFault}
 use Rattle.wasm_imm_control.specs.HandlerTables.{max_catches, max_handlers, max_select_types}
 
--- The error of the count of a list of this name, or of a member.
+-- The error of the count, with the list's name, or of a member.
 abbrev pub ListFault : {X : Type 0} → SizeName → ℕ → (List ℕ → X → Type 0) → (Message → Reader → ℕ → Type 0) → Message → Reader → ℕ → Type 0
 ListFault name limit Encodes Fault = ThenFault (EncodesSize limit) (CountFault name limit) (ManyFault Encodes Fault)
 
--- The error of the block type, or of the catches after it.
+-- The error of the block type or the catches.
 abbrev pub TryTableFault : Message → Reader → ℕ → Type 0
 TryTableFault = ThenFault EncodesBlockType BlockTypeFault (λ ty. ListFault size_name.Catches max_catches EncodesCatch CatchFault)
 

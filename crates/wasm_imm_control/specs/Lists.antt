@@ -3,7 +3,6 @@ use Rattle.std.specs.Prelude.{◌≡◌, ℕ, List, [], ◌∷◌, ◌++◌, len
 use Rattle.wasm_below.specs.Number.{EncodesSize}
 use Rattle.wasm_below.specs.Sequence.{Then}
 
--- The encodings of the members, in sequence.
 abbrev pub EncodesEach : {X : Type 0} → (List ℕ → X → Type 0) → List ℕ → List X → Type 0
 EncodesEach Encodes text [] = text ≡ []
 EncodesEach Encodes text (x ∷ xs) = (first rest : List ℕ) × (text ≡ first ++ rest) × Encodes first x × EncodesEach Encodes rest xs

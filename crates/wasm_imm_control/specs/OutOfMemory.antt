@@ -6,7 +6,6 @@ use Rattle.wasm_below.specs.bytes.message.Message.TheVariants as message
 abbrev pub IsOutOfMemoryAt : ℕ → Error → Type 0
 IsOutOfMemoryAt offset e = (e.message ≡ message.OutOfMemory) × (e.offset ≡ offset)
 
--- The error f of a call from this offset, from the error e of a part: `OutOfMemory` gets this
--- offset.
+-- The error `f` is `e`, with this offset, the call's start, if `e` is `OutOfMemory`.
 abbrev pub IsRefusedFrom : ℕ → Error → Error → Type 0
 IsRefusedFrom offset e f = (f.message ≡ e.message) × ((IsOutOfMemoryAt offset f) ⊎ ((e.message ≢ message.OutOfMemory) × (f.offset ≡ e.offset)))

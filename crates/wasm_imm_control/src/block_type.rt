@@ -9,11 +9,10 @@ use wasm_below::{BinaryReader, Error, Message, Result, ValType};
 /// The parameters and results of a block. Specification: Control Instructions.
 #[derive(Clone, Copy, Debug, PartialEq, Eq)]
 pub enum BlockType {
-    /// No parameters and no results.
     Empty,
     /// No parameters, and one result.
     Value(ValType),
-    /// The parameters and results of the function type with this index.
+    /// The function type with this index.
     FuncType(u32),
 }
 
@@ -60,7 +59,7 @@ fn short_value_type(byte: u8) -> ValType
     }
 }
 
-/// Reads a block type of any form.
+/// Reads by a copy, so that `read` keeps its reader in registers.
 #[inline(always)]
 fn read_by_copy(reader: &mut BinaryReader<'_>) -> Result<BlockType>
     ensures reads { Reads EncodesBlockType result reader.old reader.new }

@@ -15,10 +15,10 @@ use wasm_below::{BinaryReader, Error, Result, SizeName};
 
 const MAX_TARGETS: usize = 7654321;
 
-/// The labels of `br_table`: the targets, and a default target for all other values.
+/// The targets of `br_table`, and the default target.
 ///
-/// The targets stay in the bytes that were read. Tables are equal if and only if their counts,
-/// default targets and target bytes are.
+/// The targets stay encoded in the borrowed bytes. `==` compares these bytes, the count and the
+/// default target.
 #[derive(Debug, Drop)]
 pub struct BrTable<'a> {
     count: u32,
@@ -39,8 +39,7 @@ impl<'a> Model for BrTable<'a> {
 impl<'a> BrTable<'a> {
     /// Reads a branch table. Specification: Control Instructions.
     ///
-    /// Fails with `SizeOutOfBounds` of `br_table` at the start of the count if it is above 7654321.
-    /// Otherwise fails like `read_size` at the count, or like `read_var_u32` at a target.
+    /// Fails like `read_size` with the limit 7654321, or like `read_var_u32` at a target.
     pub fn read(reader: &mut BinaryReader<'a>) -> Result<BrTable<'a>>
         ensures reads { Reads EncodesBranchTable result reader.old reader.new }
         ensures fault { IfErr result (λ e. BranchTableFault e.message reader.old e.offset) }
@@ -97,7 +96,6 @@ impl<'a> BrTable<'a> {
     }
 }
 
-/// Reads `count` targets, and returns their size in bytes.
 #[inline(always)]
 fn read_targets(reader: &mut BinaryReader<'_>, count: usize) -> Result<usize>
     ensures reads { Reads (EncodesTargets count) result reader.old reader.new }
@@ -119,19 +117,18 @@ fn read_targets(reader: &mut BinaryReader<'_>, count: usize) -> Result<usize>
     Ok(reader.current_position() - start)
 }
 
-/// Targets that were skipped: how many, and the position after them.
+/// How many targets were skipped, and the position after them.
 #[derive(Clone, Copy)]
 struct Passed {
     targets: usize,
     position: usize,
 }
 
-/// Skips targets, at most `count`: four at a time as long as each has one byte, then one at a time
-/// as long as five bytes are left, the greatest size of a target. So it need not check for the end
-/// of the data at each byte.
+/// Skips at most `count` targets: four at a time while each has one byte, then one at a time while
+/// five bytes, the greatest size, are left. So it need not check for the end at each byte.
 ///
-/// The caller reads the targets that are left. The function is not inlined, to keep the caller
-/// small; its result is two words.
+/// The caller reads the other targets. This function is not inlined, to keep the caller small; its
+/// result is two words.
 #[inline(never)]
 fn pass_targets(bytes: &[u8], count: usize) -> Passed
     ensures most { result.targets ≤ count }
@@ -150,8 +147,6 @@ fn pass_targets(bytes: &[u8], count: usize) -> Passed
     Passed { targets, position }
 }
 
-/// Skips targets, at most `count`, as long as each of the next four has one byte. Returns their
-/// number.
 #[inline(always)]
 fn pass_short_targets(bytes: &[u8], count: usize) -> usize
     ensures most { result ≤ count }

@@ -6,7 +6,7 @@ ghost use Rattle.wasm_imm_control.specs.Casts.{EncodesCast, EncodesReference};
 
 use wasm_below::{BinaryReader, HeapType, Message, RefType, Result};
 
-/// The immediates of a branch on the type of a reference.
+/// The immediates of `br_on_cast` and its variants.
 #[derive(Clone, Copy, Debug, PartialEq, Eq)]
 pub struct Cast {
     /// The label, counted outwards from the innermost block.
@@ -17,11 +17,10 @@ pub struct Cast {
 }
 
 impl Cast {
-    /// Reads the flags, the label and the two heap types of a cast. Specification: Control
-    /// Instructions.
+    /// Reads a cast. Specification: Control Instructions.
     ///
-    /// Fails with `EndOfData` at the flags, or like `read_var_u32` at the label; then with
-    /// `InvalidCastFlags` at the flags if they are above 3; then like `HeapType::read`.
+    /// Fails with `EndOfData` at the flags, then like `read_var_u32` at the label, then with
+    /// `InvalidCastFlags` at flags above 3, then like `HeapType::read`.
     #[inline(never)]
     pub fn read(reader: &mut BinaryReader<'_>) -> Result<Cast>
         ensures reads { Reads EncodesCast result reader.old reader.new }

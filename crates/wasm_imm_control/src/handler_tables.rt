@@ -15,11 +15,10 @@ const MAX_CATCHES: usize = 10000;
 
 const MAX_HANDLERS: usize = 10000;
 
-/// The immediates of `try_table`: a block type, and the exceptions that are caught in the block.
 #[derive(Debug, PartialEq, Eq, Drop)]
 pub struct TryTable {
     pub ty: BlockType,
-    /// The catches. The first that matches is taken.
+    /// The first catch that matches is taken.
     pub catches: Catches,
 }
 
@@ -49,11 +48,10 @@ impl<'a> FromReader<'a> for TryTable {
 
     ghost allocates = { λ r. SomePrefix EncodesTryTableCount (rest r) };
 
-    /// Reads a block type and catches. Control Instructions.
+    /// Reads a block type and catches. Specification: Control Instructions.
     ///
-    /// Fails like `BlockType::read`. Then fails with `SizeOutOfBounds` of `catches` at the start of
-    /// the count if it is above 10000, or like `read_size`. Then fails like `Catch::read` at a
-    /// catch. Allocates only after a block type and a count of at most 10000.
+    /// Fails like `BlockType::read`, then like `read_size` with the limit 10000, then like
+    /// `Catch::read`. Allocates only after a count within the limit.
     fn from_reader(alloc: Global, reader: &mut BinaryReader<'a>) -> Result<TryTable> {
         let start = reader.current_position();
         let ty = match BlockType::read(reader) {
@@ -71,10 +69,10 @@ impl<'a> FromReader<'a> for TryTable {
     fn determines_refusal() {}
 }
 
-/// The clauses of `resume`: what is handled while a continuation runs. Proposal stack switching.
+/// What `resume` handles while a continuation runs. Proposal stack switching.
 #[derive(Debug, PartialEq, Eq, Drop)]
 pub struct ResumeTable {
-    /// The clauses. The first that matches is taken.
+    /// The first clause that matches is taken.
     pub handlers: Handles,
 }
 
@@ -107,11 +105,8 @@ impl<'a> FromReader<'a> for ResumeTable {
 
     ghost allocates = { λ r. SomePrefix EncodesHandlerCount (rest r) };
 
-    /// Reads clauses. Proposal stack switching.
-    ///
-    /// Fails with `SizeOutOfBounds` of `resume table` at the start of the count if it is above
-    /// 10000, or like `read_size`. Then fails like `Handle::read` at a clause. Allocates only after
-    /// a count of at most 10000.
+    /// Reads clauses. Fails like `read_size` with the limit 10000, then like `Handle::read`.
+    /// Allocates only after a count within the limit.
     fn from_reader(alloc: Global, reader: &mut BinaryReader<'a>) -> Result<ResumeTable> {
         match read_list::<Handle>(alloc, reader, MAX_HANDLERS, SizeName::ResumeTable) {
             Ok(handlers) => Ok(ResumeTable { handlers }),

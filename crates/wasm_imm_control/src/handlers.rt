@@ -8,24 +8,23 @@ use wasm_below::{
     BinaryReader, FromReader, LeadingByteName, MemoryUse, Message, Never, Result, UsesMemory,
 };
 
-/// A catch of a try table.
 #[derive(Clone, Copy, Debug, PartialEq, Eq)]
 pub enum Catch {
     /// Exceptions with this tag branch to this label, with their values.
     One { tag: u32, label: u32 },
-    /// The same, with a reference to the exception too.
+    /// Like `One`, with a reference to the exception too.
     OneRef { tag: u32, label: u32 },
     /// All exceptions branch to this label.
     All { label: u32 },
-    /// All exceptions branch to this label, with a reference to the exception.
+    /// Like `All`, with a reference to the exception.
     AllRef { label: u32 },
 }
 
 impl Catch {
     /// Reads a catch. Specification: Control Instructions.
     ///
-    /// Fails with `EndOfData` at the first byte, or with `InvalidLeadingByte` of `catch` there if
-    /// it is above 3; then like `read_var_u32`.
+    /// Fails with `EndOfData`, with `InvalidLeadingByte` at a first byte above 3, or then like
+    /// `read_var_u32`.
     #[inline(always)]
     pub fn read(reader: &mut BinaryReader<'_>) -> Result<Catch>
         ensures reads { Reads EncodesCatch result reader.old reader.new }
@@ -101,15 +100,15 @@ impl<'a> FromReader<'a> for Catch {
 pub enum Handle {
     /// Suspensions with this tag branch to this label.
     OnLabel { tag: u32, label: u32 },
-    /// Switches with this tag.
+    /// Handles a switch with this tag, without a label.
     OnSwitch { tag: u32 },
 }
 
 impl Handle {
     /// Reads a clause. Proposal stack switching.
     ///
-    /// Fails with `EndOfData` at the first byte, or with `InvalidLeadingByte` of `on clause` there
-    /// if it is above 1; then like `read_var_u32`.
+    /// Fails with `EndOfData`, with `InvalidLeadingByte` at a first byte above 1, or then like
+    /// `read_var_u32`.
     #[inline(always)]
     pub fn read(reader: &mut BinaryReader<'_>) -> Result<Handle>
         ensures reads { Reads EncodesHandle result reader.old reader.new }

@@ -1,5 +1,5 @@
-//! Laws of the immediates of control operators: encodings are prefix codes, and faults determine
-//! their errors.
+//! Laws of the immediates of control operators: encodings are prefix codes, faults determine
+//! errors, and `==` is exact.
 ghost use Rattle.std.specs.Prelude.{◌≡◌, ◌<◌, ℕ, List, true};
 ghost use Rattle.wasm_below.specs.bytes.features.WasmFeatures.{WasmFeatures};
 ghost use Rattle.wasm_below.specs.bytes.message.SizeName.{SizeName};
@@ -49,8 +49,6 @@ pub fn handler_tables()
     ensures clauses { PrefixCode EncodesResumeTable }
 {}
 
-/// States that the fault of a list determines its error, for any name and limit, if the members are
-/// a prefix code and their faults determine their errors.
 pub fn list_refusals<'a, T: FromReader<'a>>()
     ensures { (name : SizeName) (limit : ℕ) (features : WasmFeatures)
         → PrefixCode (T.encodes features)
@@ -58,8 +56,6 @@ pub fn list_refusals<'a, T: FromReader<'a>>()
         → DeterminesRefusal (ListFault name limit (T.encodes features) T.fault) }
 {}
 
-/// States that the faults of block types, branch tables, casts and the types of a `select`
-/// determine their errors.
 pub fn control_refusals()
     ensures block { DeterminesRefusal BlockTypeFault }
     ensures table { DeterminesRefusal BranchTableFault }
@@ -67,7 +63,6 @@ pub fn control_refusals()
     ensures select { DeterminesRefusal SelectFault }
 {}
 
-/// States that the faults of catches, clauses, try tables and resume tables determine their errors.
 pub fn handler_refusals()
     ensures catches { DeterminesRefusal CatchFault }
     ensures clauses { DeterminesRefusal HandleFault }
@@ -84,7 +79,6 @@ pub fn equal_tables()
         → (m ≡ n) × (s.default ≡ t.default) }
 {}
 
-/// States that `==` returns true if and only if two immediates are the same.
 pub fn equality()
     ensures block { IsExact ⟦<BlockType as PartialEq>⟧.eq }
     ensures table { IsExact same_table }

@@ -1,5 +1,4 @@
-//! Immediates of control operators: block types, branch tables, casts, the types of a `select`, try
-//! tables and resume tables.
+//! Immediates of control operators.
 //!
 //! Every call that allocates may fail with `OutOfMemory`, at the offset where the call began; a
 //! `clone`, at offset 0.
@@ -24,7 +23,6 @@ pub use lists::refuse_from;
 pub use members::{Catches, Handles, Members, SelectTypes};
 pub use select::Select;
 
-/// Readers of bytes, numbers and types.
 pub mod below {
     pub use wasm_below::{
         AbstractHeapType, BinaryReader, BinaryReaderError, BinaryReaderIter, Error, ErrorKind,

@@ -13,8 +13,7 @@ use wasm_below::{BinaryReader, Error, FromReader, Message, Result, SizeName};
 
 /// Reads a count of at most `limit`, and that many members. Allocates once.
 ///
-/// Fails with `SizeOutOfBounds` of `desc` at the start of the count if it is above `limit`, or like
-/// `read_size`. Then fails like `T::from_reader` at a member. Allocation can fail only after a count
+/// Fails like `read_size`, then like `T::from_reader`. Allocation can fail only after a count
 /// within the limit.
 pub fn read_list<'a, T: FromReader<'a>>(
     alloc: Global,
@@ -41,7 +40,6 @@ pub fn read_list<'a, T: FromReader<'a>>(
     }
 }
 
-/// Reads `count` members. Fails like `T::from_reader`.
 pub fn read_members<'a, T: FromReader<'a>>(
     alloc: Global,
     reader: &mut BinaryReader<'a>,
@@ -72,8 +70,8 @@ pub fn read_members<'a, T: FromReader<'a>>(
     Ok(Members::from_vec(items))
 }
 
-/// Goes back to where a call began. Returns `OutOfMemory` with the offset there, and any other
-/// error unchanged.
+/// Goes back to `position`, where a call began. `OutOfMemory` gets that offset; other errors are
+/// unchanged.
 #[cold]
 #[inline(never)]
 pub fn refuse_from(reader: &mut BinaryReader<'_>, position: usize, e: Error) -> Error

@@ -9,7 +9,7 @@ use std::marker::Model;
 use std::slice::Iter;
 use wasm_below::{Error, Message, Result, ValType};
 
-/// A list that owns its memory. In contracts it is a plain list.
+/// A list that owns its memory; in contracts, a plain list.
 #[derive(Debug, Drop)]
 pub struct Members<T> {
     items: Vec<T>,
@@ -30,14 +30,14 @@ impl<T> Model for Members<T> {
 }
 
 impl<T> Members<T> {
-    /// Converts a vector to a list. Does not allocate.
+    /// Converts a vector without allocating.
     pub fn from_vec(items: Vec<T>) -> Members<T>
         ensures { result ≡ items.items }
     {
         Members { items }
     }
 
-    /// Converts the list to a vector. Does not allocate.
+    /// Converts to a vector without allocating.
     pub fn into_vec(self) -> Vec<T>
         ensures { result.items ≡ self }
     {

@@ -21,12 +21,10 @@ pub enum Select {
 }
 
 impl Select {
-    /// Reads the types of a `select`. Specification: Parametric Instructions. A single type does
-    /// not allocate.
+    /// Reads the types of a `select`. Specification: Parametric Instructions.
     ///
-    /// Fails with `SizeOutOfBounds` of `select types` at the start of the count if it is above 10,
-    /// or like `read_size`. Then fails like `ValType::read` at a type. Neither a single
-    /// type nor a count above 10 allocates.
+    /// Fails like `read_size` with the limit 10, then like `ValType::read`. Neither a single type
+    /// nor a count above 10 allocates.
     #[inline(never)]
     pub fn read(alloc: Global, reader: &mut BinaryReader<'_>) -> Result<Select>
         ensures reads { ReadsValue EncodesSelect true result reader.old reader.new }

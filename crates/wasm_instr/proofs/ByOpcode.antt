@@ -1,5 +1,5 @@
 -- Written by tools/lists.py from tools/operators.tsv.
--- The operators of one byte by opcode, except the numeric ones.
+-- The operators with a one-byte opcode by opcode, except the numeric ones.
 use Rattle.std.proofs.Common.{ℕ, List, [], ◌∷◌, get_or}
 use Rattle.wasm_instr_ops.specs.imm.control.select.Select.{Select}
 use Rattle.wasm_instr_ops.specs.imm.control.select.Select.TheVariants as select

@@ -1,5 +1,4 @@
 -- Written by tools/lists.py from tools/operators.tsv.
--- Equality of operators is exact.
 use denote.Signature.{static_lft}
 use Rattle.wasm_instr_ops.specs.below.Equality.{IsExact}
 use Rattle.std.proofs.lemmas.Bool.Decides.{Decides-eqb, Decides-int_eq}

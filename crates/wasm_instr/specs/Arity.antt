@@ -1,7 +1,6 @@
 -- Specification: Validation, Instructions; Appendix, Validation Algorithm. Proposals legacy
--- exception handling, stack switching and custom descriptors. An operator that opens a construct
--- takes its parameters and passes them to its body. An `end` takes and returns the results. An
--- operator that does not fall through has no results.
+-- exception handling, stack switching and custom descriptors. The operator that opens a construct
+-- takes its parameters and passes them to its body. An `end` takes and returns the results.
 use Rattle.std.specs.Prelude.{ℕ, ◌+◌, ◌-◌, ◌*◌, ◌^◌, ◌==◌, nat_lt, if◌then◌else◌, Option, Some, None, length}
 use Rattle.std.specs.Option.{option_map, option_and_then}
 use Rattle.wasm_grammar.specs.declared.frame_kind.FrameKind.{FrameKind}
@@ -30,7 +29,7 @@ arity_of_block m block.Empty = Some (0, 0)
 arity_of_block m (block.Value _) = Some (0, 1)
 arity_of_block m (block.FuncType i) = m.func_type_arity i
 
--- The innermost frame has depth 0.
+-- The numbers of parameters and results of the frame at a depth. The innermost frame has depth 0.
 abbrev pub arity_of_frame : ModuleFacts → ℕ → Arity
 arity_of_frame m depth = option_and_then (λ b. arity_of_block m b.0) (m.label_block depth)
 
@@ -42,18 +41,17 @@ carried _ a = a.1
 abbrev pub arity_of_label : ModuleFacts → ℕ → Option ℕ
 arity_of_label m depth = option_and_then (λ b. option_map (carried b.1) (arity_of_block m b.0)) (m.label_block depth)
 
--- The parameters and results of a function, and of the function type of a continuation type.
 abbrev pub arity_of_function : ModuleFacts → ℕ → Arity
 arity_of_function m i = option_and_then m.func_type_arity (m.type_index_of_function i)
 
 abbrev pub arity_of_continuation : ModuleFacts → ℕ → Arity
 arity_of_continuation m i = option_and_then m.func_type_arity (m.cont_type_func i)
 
--- block, loop, try and try_table.
+-- The arity of block, loop, try and try_table.
 abbrev pub arity_of_entry : ModuleFacts → BlockType → Arity
 arity_of_entry m ty = option_map (λ a. (a.0, a.0)) (arity_of_block m ty)
 
--- if takes the parameters and the condition, and passes the parameters to its body.
+-- if takes the parameters and the condition.
 abbrev pub arity_of_if : ModuleFacts → BlockType → Arity
 arity_of_if m ty = option_and_then (taking_more 1) (arity_of_entry m ty)
 
@@ -61,7 +59,7 @@ arity_of_if m ty = option_and_then (taking_more 1) (arity_of_entry m ty)
 abbrev pub arity_of_else : ModuleFacts → Arity
 arity_of_else m = option_map (λ a. (a.1, a.0)) (arity_of_frame m 0)
 
--- catch takes the results of the list before it, and passes on the parameters of its tag.
+-- catch takes the results of the list before it, and passes on its tag's parameters.
 abbrev pub arity_of_catch : ModuleFacts → ℕ → Arity
 arity_of_catch m tag = option_and_then (λ a. option_map (λ t. (a.1, t.0)) (m.tag_type_arity tag)) (arity_of_frame m 0)
 
@@ -69,7 +67,7 @@ arity_of_catch m tag = option_and_then (λ a. option_map (λ t. (a.1, t.0)) (m.t
 abbrev pub arity_of_catch_all : ModuleFacts → Arity
 arity_of_catch_all m = option_map (λ a. (a.1, 0)) (arity_of_frame m 0)
 
--- end and delegate.
+-- The arity of end and delegate.
 abbrev pub arity_of_end : ModuleFacts → Arity
 arity_of_end m = option_map (λ a. (a.1, a.1)) (arity_of_frame m 0)
 
@@ -77,19 +75,19 @@ arity_of_end m = option_map (λ a. (a.1, a.1)) (arity_of_frame m 0)
 abbrev pub arity_of_return : ModuleFacts → Arity
 arity_of_return m = if m.control_stack_height == 0 then None else option_map (λ a. (a.1, 0)) (arity_of_frame m (m.control_stack_height - 1))
 
--- The operator does not fall through.
+-- An operator that does not fall through has no results.
 abbrev pub leaving : Arity → Arity
 leaving a = option_map (λ p. (p.0, 0)) a
 
--- The values that the branch carries stay on the stack if it falls through.
+-- A branch takes the values that it carries. They stay if it falls through.
 abbrev pub arity_of_branch : ModuleFacts → ℕ → Arity
 arity_of_branch m depth = option_map (λ n. (n, n)) (arity_of_label m depth)
 
--- A branch with a condition, one more operand.
+-- A branch with a condition takes one operand more.
 abbrev pub arity_of_branch_if : ModuleFacts → ℕ → Arity
 arity_of_branch_if m depth = option_and_then (taking_more 1) (arity_of_branch m depth)
 
--- If the branch falls through, the values that it carries and the reference stay.
+-- br_on_null takes the carried values and a reference, which all stay if it falls through.
 abbrev pub arity_of_branch_on_null : ModuleFacts → ℕ → Arity
 arity_of_branch_on_null m depth = option_and_then (λ n. option_map (λ one_more. (one_more, one_more)) (sum_within n 1)) (arity_of_label m depth)
 
@@ -97,7 +95,7 @@ arity_of_branch_on_null m depth = option_and_then (λ n. option_map (λ one_more
 abbrev pub less_one : ℕ → Arity
 less_one n = if n == 0 then None else Some (n, n - 1)
 
--- If the branch falls through, the values that it carries stay, except the reference.
+-- br_on_non_null takes the carried values. All but the reference stay if it falls through.
 abbrev pub arity_of_branch_on_non_null : ModuleFacts → ℕ → Arity
 arity_of_branch_on_non_null m depth = option_and_then less_one (arity_of_label m depth)
 
@@ -113,36 +111,30 @@ arity_of_select n = if nat_lt (2 * n + 1) (2 ^ 32) then Some (2 * n + 1, n) else
 abbrev pub bound_within : ℕ → ℕ → Arity
 bound_within p q = if nat_lt p q then None else option_map (λ takes. (takes, 1)) (sum_within (p - q) 1)
 
--- cont.bind from one continuation type to another.
 abbrev pub arity_of_bind : ModuleFacts → ℕ → ℕ → Arity
 arity_of_bind m from to = option_and_then (λ a. option_and_then (λ b. bound_within a.0 b.0) (arity_of_continuation m to)) (arity_of_continuation m from)
 
--- resume takes the parameters of the continuation type and the continuation, and returns the
--- results.
+-- resume takes the continuation type's parameters and the continuation.
 abbrev pub arity_of_resume : ModuleFacts → ℕ → Arity
 arity_of_resume m i = option_and_then (taking_more 1) (arity_of_continuation m i)
 
--- resume_throw takes the parameters of the tag and the continuation, and returns the results of the
--- continuation type.
+-- resume_throw takes the tag's parameters and the continuation.
 abbrev pub arity_of_resume_throw : ModuleFacts → ℕ → ℕ → Arity
 arity_of_resume_throw m i tag = option_and_then (λ t. option_and_then (λ a. taking_more 1 (t.0, a.1)) (arity_of_continuation m i)) (m.tag_type_arity tag)
 
--- resume_throw_ref takes the exception and the continuation, and returns the results of the
--- continuation type.
+-- resume_throw_ref takes the exception and the continuation.
 abbrev pub arity_of_resume_throw_ref : ModuleFacts → ℕ → Arity
 arity_of_resume_throw_ref m i = option_map (λ a. (2, a.1)) (arity_of_continuation m i)
 
--- The parameters and results of the continuation that a switch resumes: the last parameter of its
--- type refers to it.
+-- The arity of the continuation type that a switch resumes, to which its last parameter refers.
 abbrev pub arity_of_switched : ModuleFacts → ℕ → Arity
 arity_of_switched m i = option_and_then (arity_of_continuation m) (option_and_then m.cont_type_of_last_param (m.cont_type_func i))
 
--- switch: the parameters of the continuation type, and of the continuation type that its last
--- parameter refers to.
+-- switch takes the parameters of its continuation type, and returns the parameters of the resumed
+-- one.
 abbrev pub arity_of_switch : ModuleFacts → ℕ → Arity
 arity_of_switch m i = option_and_then (λ a. option_map (λ b. (a.0, b.0)) (arity_of_switched m i)) (arity_of_continuation m i)
 
--- struct.new takes a value for each field, and returns the structure.
 abbrev pub arity_of_struct : ModuleFacts → ℕ → Arity
 arity_of_struct m i = option_map (λ n. (n, 1)) (m.struct_type_fields i)
 
@@ -156,8 +148,8 @@ gc_arity_of m (gc.BrOnCastDescEq depth _ _) = arity_of_branch_if m depth
 gc_arity_of m (gc.BrOnCastDescEqFail depth _ _) = arity_of_branch_if m depth
 gc_arity_of m op = gc_pair op
 
--- The numbers of operands and results of an operator; `None` if the module does not determine them,
--- or if one does not fit in 32 bits.
+-- The numbers of operands and results; `None` if the module does not determine them, or one exceeds
+-- 32 bits.
 abbrev pub arity_of : ModuleFacts → Operator → Arity
 arity_of m (operator.Block ty) = arity_of_entry m ty
 arity_of m (operator.Loop ty) = arity_of_entry m ty

@@ -8,19 +8,19 @@ use Rattle.wasm_instr.specs.declared.operator.Operator.TheVariants as operator
 use Rattle.wasm_instr.specs.Row.{prefix_of, opcode_of, immediates_of}
 use Rattle.wasm_instr_ops.specs.imm.Immediate.{EncodesImmediates}
 
--- The bytes encode the opcode, or the prefix byte and the subopcode as a u32.
+-- The opcode, or the prefix byte and the subopcode (u32).
 abbrev pub EncodesOpcode : Option ℕ → ℕ → List ℕ → Type 0
 EncodesOpcode None code bytes = bytes ≡ code ∷ []
 EncodesOpcode (Some prefix) code bytes = (number : List ℕ) × (bytes ≡ prefix ∷ number) × EncodesUnsigned 32 number code
 
--- The features enable the operator: try, catch and catch_all need legacy_exceptions.
+-- `try`, `catch` and `catch_all` need legacy_exceptions.
 abbrev pub IsEnabled : WasmFeatures → Operator → Type 0
 IsEnabled f (operator.Try _) = HasFeature legacy_exceptions f
 IsEnabled f (operator.Catch _) = HasFeature legacy_exceptions f
 IsEnabled f operator.CatchAll = HasFeature legacy_exceptions f
 IsEnabled f _ = Unit {0}
 
--- Under these features the bytes encode the opcode and the immediates of the operator.
+-- With these features, the bytes encode opcode and immediates.
 pub record EncodesOperator (f : WasmFeatures) (op : Operator) (bytes : List ℕ) : Type 0 where
   pub head : List ℕ
   pub after : List ℕ

@@ -1,5 +1,4 @@
 -- Written by tools/lists.py from tools/operators.tsv.
--- The numbers of operands and results of the operators for which they are fixed.
 -- Specification: Appendix, Index of Instructions. An access to an array also takes the array: proposal multibyte array access.
 use Rattle.std.specs.Prelude.{ℕ, ◌+◌, Option, Some, None}
 use Rattle.wasm_instr_ops.specs.imm.declared.memory_argument.MemArg.{MemArg}
@@ -18,16 +17,16 @@ use Rattle.wasm_instr_ops.specs.declared.atomic.AtomicOperator.TheVariants as at
 use Rattle.wasm_instr.specs.declared.operator.Operator.{Operator}
 use Rattle.wasm_instr.specs.declared.operator.Operator.TheVariants as operator
 
--- An array is an operand besides the address; a memory is none.
+-- The number of arrays among the operands of an access.
 abbrev pub arrays_in : MemArgTarget → ℕ
 arrays_in (target.Array _) = 1
 arrays_in (target.Memory _) = 0
 
--- The number of operands of an access: one more if the target is an array.
+-- The number of operands of an access: `takes`, or one more if its target is an array.
 abbrev pub reaching : MemArg → ℕ → ℕ
 reaching m takes = takes + arrays_in m.target
 
--- The operands and results of an operator; `None` if they depend on the module.
+-- The numbers of operands and results; for `gc_pair`, `None` if they depend on the module.
 abbrev pub numeric_pair : NumericOperator → ℕ × ℕ
 numeric_pair numeric.I32Eqz = (1, 1)
 numeric_pair numeric.I64Eqz = (1, 1)
@@ -292,7 +291,7 @@ atomic_pair (atomic.ArrayAtomicSet _ _) = (3, 0)
 atomic_pair (atomic.ArrayAtomicRmwCmpxchg _ _) = (4, 1)
 atomic_pair _ = (2, 1)
 
--- The operands and results of any operator; `None` if they depend on the module.
+-- The numbers of operands and results of any operator; `None` if they depend on the module.
 abbrev pub fixed_arity : Operator → Option (ℕ × ℕ)
 fixed_arity operator.Unreachable = Some (0, 0)
 fixed_arity operator.Nop = Some (0, 0)

@@ -1,4 +1,3 @@
--- Classes of operators.
 use Rattle.std.specs.Prelude.{◌≡◌, ◌⊎◌}
 use Rattle.wasm_instr_ops.specs.imm.declared.proposal.Proposal.TheVariants as proposal
 use Rattle.wasm_instr.specs.declared.operator.Operator.{Operator}
@@ -23,7 +22,7 @@ HoldsList (operator.ResumeThrow _ _ _) = Unit {0}
 HoldsList (operator.ResumeThrowRef _ _) = Unit {0}
 HoldsList _ = ⊥
 
--- The operator is one of the two variants that share an opcode.
+-- `TypedSelect` or `TypedSelectMulti`, which share an opcode.
 abbrev pub IsTypedSelect : Operator → Type 0
 IsTypedSelect (operator.TypedSelect _) = Unit {0}
 IsTypedSelect (operator.TypedSelectMulti _) = Unit {0}

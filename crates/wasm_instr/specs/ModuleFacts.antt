@@ -1,9 +1,8 @@
--- The data of a module on which arities depend.
 use Rattle.std.specs.Prelude.{ℕ, Option}
 use Rattle.wasm_grammar.specs.declared.frame_kind.FrameKind.{FrameKind}
 use Rattle.wasm_instr_ops.specs.imm.control.block_type.BlockType.{BlockType}
 
--- The results of the methods of `ModuleArity`. A pair is the numbers of parameters and results.
+-- The results of the methods of `ModuleArity`.
 pub record ModuleFacts : Type 0 where
   pub func_type_arity : ℕ → Option (ℕ × ℕ)
   pub struct_type_fields : ℕ → Option ℕ

@@ -1,5 +1,5 @@
 -- Written by tools/lists.py from tools/operators.tsv.
--- The rows of all operators, by columns.
+-- The table of all operators: a function for each column.
 -- Specification: Binary Format, Instructions; Appendix, Index of Instructions.
 use Rattle.std.specs.Prelude.{ℕ, List, [], ◌∷◌, Option, Some, None, codes}
 use Rattle.wasm_instr_ops.specs.imm.declared.memory_argument.MemArgKind.TheVariants as kind
@@ -15,7 +15,7 @@ use Rattle.wasm_instr_simd.specs.Simd.{simd_proposal, simd_name, simd_subopcode,
 use Rattle.wasm_instr_ops.specs.Atomic.{atomic_proposal, atomic_name, atomic_subopcode, atomic_immediates}
 use Rattle.wasm_instr_ops.specs.imm.Immediate.{Immediate, unsigned_32, signed_32, signed_64, float_32, float_64, memory_argument, memory_index, table_index_32, heap_type, block_type, branch_table, select_types, try_clauses, resume_clauses}
 
--- The proposal that added the operator.
+-- The operator's proposal.
 abbrev pub proposal_of : Operator → Proposal
 proposal_of operator.RefEq = proposal.Gc
 proposal_of (operator.TypedSelect _) = proposal.ReferenceTypes
@@ -54,7 +54,7 @@ proposal_of (operator.Simd op) = simd_proposal op
 proposal_of (operator.Atomic op) = atomic_proposal op
 proposal_of _ = proposal.Mvp
 
--- The name of the variant.
+-- The variant's name.
 abbrev pub name_of : Operator → List ℕ
 name_of operator.Unreachable = codes "Unreachable"
 name_of operator.Nop = codes "Nop"

@@ -13,7 +13,7 @@ pub trait ModuleArity {
     ghost use Rattle.std.specs.Prelude.{◌≡◌};
     ghost use Rattle.wasm_instr.specs.ModuleFacts.{ModuleFacts};
 
-    /// The results of all methods.
+    /// The results of all methods of the trait.
     ghost facts: { Self → ModuleFacts };
 
     fn func_type_arity(&self, type_index: u32) -> Option<(u32, u32)>
@@ -46,10 +46,11 @@ pub trait ModuleArity {
 }
 
 impl<'a> Operator<'a> {
-    /// Returns the numbers of operands and results of the operator. Validation, Instructions.
+    /// Returns the numbers of operands and results. Specification: Validation, Instructions.
     ///
-    /// Returns `None` if a method of the module that is needed returns `None`, or if a number is
-    /// above 4294967295 or would be below 0.
+    /// Returns `None` if a needed method of the module does, if a number would be below 0 or above
+    /// 4294967295, if `return` has no open frame, or if the second continuation type of `cont.bind`
+    /// has more parameters than the first.
     pub fn operator_arity<M: ModuleArity>(&self, context: &M) -> Option<(u32, u32)>
         ensures { result ≡ arity_of (M.facts context.now) self.now }
     {
@@ -131,7 +132,7 @@ fn one_more(arity: Option<(u32, u32)>) -> Option<(u32, u32)>
     }
 }
 
-/// Removes the results.
+/// Returns the arity with no results.
 fn going(arity: Option<(u32, u32)>) -> Option<(u32, u32)>
     ensures { result ≡ leaving arity }
 {
@@ -315,8 +316,6 @@ fn select_arity(count: usize) -> Option<(u32, u32)>
     }
 }
 
-/// Returns the arity of `cont.bind`, which takes the parameters except the last `later`, and the
-/// continuation.
 fn bound(parameters: u32, later: u32) -> Option<(u32, u32)>
     ensures { result ≡ bound_within parameters later }
 {

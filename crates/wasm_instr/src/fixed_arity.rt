@@ -1,4 +1,4 @@
-//! Fixed arities. Written by tools/lists.py from tools/operators.tsv.
+//! Written by tools/lists.py from tools/operators.tsv.
 ghost use Rattle.std.specs.Prelude.{◌≡◌, ◌<◌};
 ghost use Rattle.wasm_instr.specs.FixedArity.{reaching as reaching_of, numeric_pair, gc_pair, misc_pair, simd_pair, atomic_pair, fixed_arity as pair_of};
 
@@ -7,7 +7,7 @@ use wasm_instr_ops::imm::{MemArg, MemArgTarget};
 use wasm_instr_ops::{AtomicOperator, GcOperator, MiscOperator, NumericOperator};
 use wasm_instr_simd::SimdOperator;
 
-/// Returns the number of operands of an access: `takes`, and one more for an array.
+/// Returns the number of operands of an access: `takes`, or one more if its target is an array.
 fn reaching(memarg: &MemArg, takes: u32) -> u32
     requires { takes < 8 }
     ensures { result ≡ reaching_of memarg.now takes }

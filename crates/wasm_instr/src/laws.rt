@@ -25,7 +25,6 @@ pub fn shared_opcodes()
         → (name_of op ≡ name_of other) ⊎ (IsTypedSelect op × IsTypedSelect other) }
 {}
 
-/// States that `==` returns true if and only if two operators are the same.
 pub fn equality()
     ensures { IsExact ⟦<Operator<'static> as PartialEq>⟧.eq }
 {}

@@ -1,5 +1,4 @@
-//! The operators of WebAssembly as one type, with their rows, encodings, roles and arities, which
-//! `specs/` defines.
+//! The operators of WebAssembly as one type, with rows, encodings, roles and arities (`specs/`).
 #![tactic(auto)]
 
 mod arity;

@@ -1,4 +1,4 @@
-//! All operators as one type. Written by tools/lists.py from tools/operators.tsv.
+//! Written by tools/lists.py from tools/operators.tsv.
 ghost use Rattle.std.specs.Prelude.{◌≡◌, ◌↔◌, IsTrue, IfOk, IfErr};
 ghost use Rattle.wasm_instr_ops.specs.imm.OutOfMemory.{IsOutOfMemoryAt};
 ghost use Rattle.wasm_instr.specs.Row.{proposal_of, name_of, prefix_of, opcode_of};
@@ -16,8 +16,7 @@ use wasm_instr_simd::SimdOperator;
 
 /// An operator with its immediates.
 ///
-/// The variants are the operators of one byte except the numeric ones, then the inner enums, from
-/// which `From` converts.
+/// `From` converts the operators of the inner enums, which are the last variants.
 #[derive(Drop, PartialEq, Eq)]
 pub enum Operator<'a> {
     Unreachable,
@@ -326,7 +325,6 @@ impl<'a> Operator<'a> {
         }
     }
 
-    /// Returns the proposal that added the operator.
     fn proposal(&self) -> Proposal
         ensures { result ≡ proposal_of self.now }
     {
@@ -558,7 +556,7 @@ impl<'a> Operator<'a> {
         matches!(self, Operator::Simd(_))
     }
 
-    /// Copies the operator with its list. Fails with `OutOfMemory` at offset 0, only if it owns one.
+    /// Copies the operator. Fails only if it owns a list: with `OutOfMemory` at offset 0.
     pub fn clone(&self, alloc: Global) -> Result<Operator<'a>>
         ensures ok { IfOk result (λ copy. copy ≡ self.now) }
         ensures err { IfErr result (λ e. HoldsList self.now × IsOutOfMemoryAt 0 e) }

@@ -1,5 +1,4 @@
 -- Written by tools/lists.py from tools/operators.tsv.
--- For the operators with the prefix byte 0xfe: subopcode and immediates determine the operator.
 use Rattle.std.proofs.Common.{◌≡◌, ℕ, List, [], ◌∷◌, map, get_or, refl, sym, ap, ◌∙◌}
 use Rattle.wasm_imm.specs.declared.memory_argument.MemArgKind.TheVariants as kind
 use Rattle.wasm_instr_ops.specs.declared.atomic.AtomicOperator.{AtomicOperator}

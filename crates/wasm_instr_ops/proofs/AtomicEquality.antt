@@ -1,5 +1,4 @@
 -- Written by tools/lists.py from tools/operators.tsv.
--- Equality of the operators with the prefix byte 0xfe is exact.
 use Rattle.std.proofs.Common.{◌==◌, ap}
 use Rattle.std.proofs.lemmas.Bool.Decides.{Decides-and, Decides-like}
 use Rattle.wasm_imm.specs.below.Equality.{IsExact}

@@ -1,5 +1,4 @@
 -- Written by tools/lists.py from tools/operators.tsv.
--- Equality of the operators with the prefix byte 0xfb is exact.
 use Rattle.wasm_imm.specs.below.Equality.{IsExact}
 use Rattle.std.proofs.lemmas.Bool.Decides.{Decides-eqb}
 use Rattle.wasm_imm.proofs.of_below.TypeEquality.{heap_exact, ref_exact}

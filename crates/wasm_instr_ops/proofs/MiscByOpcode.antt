@@ -1,5 +1,4 @@
 -- Written by tools/lists.py from tools/operators.tsv.
--- For the operators with the prefix byte 0xfc: subopcode and immediates determine the operator.
 use Rattle.std.proofs.Common.{◌≡◌, ℕ, List, [], ◌∷◌, map, get_or, refl}
 use Rattle.wasm_instr_ops.specs.declared.misc.MiscOperator.{MiscOperator}
 use Rattle.wasm_instr_ops.specs.declared.misc.MiscOperator.TheVariants as misc

@@ -1,5 +1,4 @@
 -- Written by tools/lists.py from tools/operators.tsv.
--- For the numeric operators of one byte: opcode and immediates determine the operator.
 use Rattle.std.proofs.Common.{◌≡◌, ℕ, ◌-◌, List, [], ◌∷◌, map, get_or, refl, Bool, true, ltb, ◌&&◌}
 use Rattle.wasm_instr_ops.specs.declared.numeric.NumericOperator.{NumericOperator}
 use Rattle.wasm_instr_ops.specs.declared.numeric.NumericOperator.TheVariants as numeric
@@ -153,7 +152,6 @@ pub numeric_named : (op : NumericOperator) → numeric_name op ≡ numeric_name 
 numeric_named numeric.I32Eqz = refl
 numeric_named op = refl
 
--- Whether a numeric operator has the opcode: it is in 0x45 to 0xc4.
 abbrev pub is_numeric : ℕ → Bool
 is_numeric code = ltb 0x44 code && ltb code 0xc5
 

@@ -1,5 +1,4 @@
 -- Written by tools/lists.py from tools/operators.tsv.
--- Equality of the numeric operators of one byte is exact.
 use Rattle.wasm_imm.specs.below.Equality.{IsExact}
 use Rattle.wasm_imm.proofs.of_below.EnumEquality.{bare_exact}
 use Rattle.wasm_instr_ops.specs.contracts.numeric.NumericOperator as numeric_type

@@ -1,5 +1,5 @@
 -- Written by tools/lists.py from tools/operators.tsv.
--- The rows of the operators with the prefix byte 0xfe, by columns.
+-- The table of the operators with the prefix byte 0xfe: a function for each column.
 -- Specification: Binary Format, proposals threads, shared-everything threads and acquire-release atomics.
 use Rattle.std.specs.Prelude.{ℕ, List, [], ◌∷◌, codes}
 use Rattle.wasm_imm.specs.declared.memory_argument.MemArgKind.TheVariants as kind
@@ -11,7 +11,7 @@ use Rattle.wasm_instr_ops.specs.declared.atomic.AtomicOperator.{AtomicOperator}
 use Rattle.wasm_instr_ops.specs.declared.atomic.AtomicOperator.TheVariants as atomic
 use Rattle.wasm_imm.specs.Immediate.{Immediate, unsigned_32, memory_argument, order, fence_order}
 
--- The proposal that added the operator.
+-- The operator's proposal.
 abbrev pub atomic_proposal : AtomicOperator → Proposal
 atomic_proposal (atomic.GlobalAtomicGet _ _) = proposal.SharedEverythingThreads
 atomic_proposal (atomic.GlobalAtomicSet _ _) = proposal.SharedEverythingThreads
@@ -52,7 +52,7 @@ atomic_proposal atomic.RefI31Shared = proposal.SharedEverythingThreads
 atomic_proposal atomic.Pause = proposal.AcquireReleaseAtomics
 atomic_proposal _ = proposal.Threads
 
--- The name of the variant.
+-- The variant's name.
 abbrev pub atomic_name : AtomicOperator → List ℕ
 atomic_name (atomic.MemoryAtomicNotify _) = codes "MemoryAtomicNotify"
 atomic_name (atomic.MemoryAtomicWait32 _) = codes "MemoryAtomicWait32"

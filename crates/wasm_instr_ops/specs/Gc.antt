@@ -1,5 +1,5 @@
 -- Written by tools/lists.py from tools/operators.tsv.
--- The rows of the operators with the prefix byte 0xfb, by columns.
+-- The table of the operators with the prefix byte 0xfb: a function for each column.
 -- Specification: Binary Format, Aggregate Instructions; proposal custom descriptors.
 use Rattle.std.specs.Prelude.{ℕ, List, [], ◌∷◌, codes}
 use Rattle.wasm_imm.specs.declared.proposal.Proposal.{Proposal}
@@ -8,7 +8,7 @@ use Rattle.wasm_instr_ops.specs.declared.gc.GcOperator.{GcOperator}
 use Rattle.wasm_instr_ops.specs.declared.gc.GcOperator.TheVariants as gc
 use Rattle.wasm_imm.specs.Immediate.{Immediate, unsigned_32, heap_type, cast}
 
--- The proposal that added the operator.
+-- The operator's proposal.
 abbrev pub gc_proposal : GcOperator → Proposal
 gc_proposal (gc.StructNewDesc _) = proposal.CustomDescriptors
 gc_proposal (gc.StructNewDefaultDesc _) = proposal.CustomDescriptors
@@ -19,7 +19,7 @@ gc_proposal (gc.BrOnCastDescEq _ _ _) = proposal.CustomDescriptors
 gc_proposal (gc.BrOnCastDescEqFail _ _ _) = proposal.CustomDescriptors
 gc_proposal _ = proposal.Gc
 
--- The name of the variant.
+-- The variant's name.
 abbrev pub gc_name : GcOperator → List ℕ
 gc_name (gc.StructNew _) = codes "StructNew"
 gc_name (gc.StructNewDefault _) = codes "StructNewDefault"

@@ -1,5 +1,5 @@
 -- Written by tools/lists.py from tools/operators.tsv.
--- The rows of the operators with the prefix byte 0xfc, by columns.
+-- The table of the operators with the prefix byte 0xfc: a function for each column.
 -- Specification: Binary Format, Numeric, Memory and Table Instructions; proposals memory control and wide arithmetic.
 use Rattle.std.specs.Prelude.{ℕ, List, [], ◌∷◌, codes}
 use Rattle.wasm_imm.specs.declared.proposal.Proposal.{Proposal}
@@ -8,7 +8,7 @@ use Rattle.wasm_instr_ops.specs.declared.misc.MiscOperator.{MiscOperator}
 use Rattle.wasm_instr_ops.specs.declared.misc.MiscOperator.TheVariants as misc
 use Rattle.wasm_imm.specs.Immediate.{Immediate, unsigned_32}
 
--- The proposal that added the operator.
+-- The operator's proposal.
 abbrev pub misc_proposal : MiscOperator → Proposal
 misc_proposal (misc.MemoryInit _ _) = proposal.BulkMemory
 misc_proposal (misc.DataDrop _) = proposal.BulkMemory
@@ -27,7 +27,7 @@ misc_proposal misc.I64MulWideS = proposal.WideArithmetic
 misc_proposal misc.I64MulWideU = proposal.WideArithmetic
 misc_proposal _ = proposal.SaturatingFloatToInt
 
--- The name of the variant.
+-- The variant's name.
 abbrev pub misc_name : MiscOperator → List ℕ
 misc_name misc.I32TruncSatF32S = codes "I32TruncSatF32S"
 misc_name misc.I32TruncSatF32U = codes "I32TruncSatF32U"

@@ -1,5 +1,5 @@
 -- Written by tools/lists.py from tools/operators.tsv.
--- The rows of the numeric operators of one byte, by columns.
+-- The table of the numeric operators with a one-byte opcode: a function for each column.
 -- Specification: Binary Format, Numeric Instructions.
 use Rattle.std.specs.Prelude.{ℕ, List, [], codes}
 use Rattle.wasm_imm.specs.declared.proposal.Proposal.{Proposal}
@@ -8,7 +8,7 @@ use Rattle.wasm_instr_ops.specs.declared.numeric.NumericOperator.{NumericOperato
 use Rattle.wasm_instr_ops.specs.declared.numeric.NumericOperator.TheVariants as numeric
 use Rattle.wasm_imm.specs.Immediate.{Immediate}
 
--- The proposal that added the operator.
+-- The operator's proposal.
 abbrev pub numeric_proposal : NumericOperator → Proposal
 numeric_proposal numeric.I32Extend8S = proposal.SignExtension
 numeric_proposal numeric.I32Extend16S = proposal.SignExtension
@@ -17,7 +17,7 @@ numeric_proposal numeric.I64Extend16S = proposal.SignExtension
 numeric_proposal numeric.I64Extend32S = proposal.SignExtension
 numeric_proposal _ = proposal.Mvp
 
--- The name of the variant.
+-- The variant's name.
 abbrev pub numeric_name : NumericOperator → List ℕ
 numeric_name numeric.I32Eqz = codes "I32Eqz"
 numeric_name numeric.I32Eq = codes "I32Eq"

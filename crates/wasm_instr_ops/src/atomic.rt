@@ -1,4 +1,4 @@
-//! The operators with the prefix byte 0xfe. Written by tools/lists.py from tools/operators.tsv.
+//! Written by tools/lists.py from tools/operators.tsv.
 ghost use Rattle.std.specs.Prelude.{◌≡◌, ◌↔◌, IsTrue, nat_eq};
 ghost use Rattle.std.specs.Ordering.{on, eq_of_both};
 ghost use Rattle.wasm_instr_ops.specs.Atomic.{atomic_proposal, atomic_name, atomic_subopcode, atomic_fields};
@@ -382,7 +382,6 @@ impl AtomicOperator {
         }
     }
 
-    /// Returns the proposal that added the operator.
     fn proposal(&self) -> Proposal
         ensures { result ≡ atomic_proposal self.now }
     {
@@ -894,7 +893,6 @@ impl AtomicOperator {
     }
 }
 
-/// The fields of an operator, by their names.
 #[derive(Clone, Copy, PartialEq, Eq)]
 pub enum AtomicFields {
     Memarg {

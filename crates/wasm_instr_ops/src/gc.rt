@@ -1,12 +1,12 @@
-//! The operators with the prefix byte 0xfb. Written by tools/lists.py from tools/operators.tsv.
+//! Written by tools/lists.py from tools/operators.tsv.
 ghost use Rattle.std.specs.Prelude.{◌≡◌};
 ghost use Rattle.wasm_instr_ops.specs.Gc.{gc_proposal, gc_name, gc_subopcode};
 
 use wasm_imm::below::{HeapType, RefType};
 use wasm_imm::{OperatorInfo, Proposal};
 
-/// The operators with the prefix byte 0xfb: structures, arrays and casts. Aggregate Instructions, and
-/// the proposal custom descriptors.
+/// The operators with the prefix byte 0xfb: structures, arrays and casts. Aggregate Instructions;
+/// proposal custom descriptors.
 #[derive(Clone, Copy, Debug, PartialEq, Eq)]
 pub enum GcOperator {
     StructNew {
@@ -147,7 +147,6 @@ impl GcOperator {
         }
     }
 
-    /// Returns the proposal that added the operator.
     fn proposal(&self) -> Proposal
         ensures { result ≡ gc_proposal self.now }
     {

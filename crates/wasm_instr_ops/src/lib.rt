@@ -1,5 +1,5 @@
-//! The operators with the prefix bytes 0xfb, 0xfc and 0xfe, and the numeric operators of one byte.
-//! `specs/` has the rows of the table of operators, by columns.
+//! The operators with the prefix bytes 0xfb, 0xfc and 0xfe, and the numeric operators. `specs/` has
+//! the rows of the table of operators, by columns.
 #![tactic(auto)]
 
 mod atomic;

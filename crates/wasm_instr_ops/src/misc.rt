@@ -1,12 +1,11 @@
-//! The operators with the prefix byte 0xfc. Written by tools/lists.py from tools/operators.tsv.
+//! Written by tools/lists.py from tools/operators.tsv.
 ghost use Rattle.std.specs.Prelude.{◌≡◌};
 ghost use Rattle.wasm_instr_ops.specs.Misc.{misc_proposal, misc_name, misc_subopcode};
 
 use wasm_imm::{OperatorInfo, Proposal};
 
-/// The operators with the prefix byte 0xfc: saturating truncations, bulk memory, tables and wide
-/// arithmetic. Numeric, Memory and Table Instructions, and the proposals memory control and wide
-/// arithmetic.
+/// The operators with the prefix byte 0xfc. Numeric, Memory and Table Instructions; proposals
+/// memory control and wide arithmetic.
 #[derive(Clone, Copy, Debug, PartialEq, Eq)]
 pub enum MiscOperator {
     I32TruncSatF32S,
@@ -50,7 +49,6 @@ impl MiscOperator {
         }
     }
 
-    /// Returns the proposal that added the operator.
     fn proposal(&self) -> Proposal
         ensures { result ≡ misc_proposal self.now }
     {

@@ -1,11 +1,12 @@
-//! The numeric operators of one byte. Written by tools/lists.py from tools/operators.tsv.
+//! Written by tools/lists.py from tools/operators.tsv.
 ghost use Rattle.std.specs.Prelude.{◌≡◌};
 ghost use Rattle.wasm_instr_ops.specs.Numeric.{numeric_proposal, numeric_name, numeric_opcode};
 
 use std::fmt::{self, Debug, Formatter};
 use wasm_imm::{OperatorInfo, Proposal};
 
-/// The numeric operators of one byte, 0x45 to 0xc4, which have no immediates. Numeric Instructions.
+/// The numeric operators with a one-byte opcode, 0x45 to 0xc4, without immediates. Numeric
+/// Instructions.
 #[derive(Clone, Copy, PartialEq, Eq)]
 pub enum NumericOperator {
     I32Eqz = 0x45,
@@ -154,7 +155,6 @@ impl NumericOperator {
         }
     }
 
-    /// Returns the proposal that added the operator.
     fn proposal(&self) -> Proposal
         ensures { result ≡ numeric_proposal self.now }
     {

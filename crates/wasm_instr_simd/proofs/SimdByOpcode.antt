@@ -1,5 +1,4 @@
 -- Written by tools/lists.py from tools/operators.tsv.
--- For the operators with the prefix byte 0xfd: subopcode and immediates determine the operator.
 use Rattle.std.proofs.Common.{◌≡◌, ℕ, List, [], ◌∷◌, map, get_or, refl}
 use Rattle.wasm_instr_simd.specs.declared.simd.SimdOperator.{SimdOperator}
 use Rattle.wasm_instr_simd.specs.declared.simd.SimdOperator.TheVariants as simd

@@ -1,5 +1,4 @@
 -- Written by tools/lists.py from tools/operators.tsv.
--- Equality of the operators with the prefix byte 0xfd is exact.
 use Rattle.wasm_imm.specs.below.Equality.{IsExact}
 use Rattle.std.proofs.lemmas.Bool.Decides.{Decides-eqb}
 use Rattle.wasm_imm.proofs.ImmediateEquality.{lanes_exact, vector_exact, argument_exact}

@@ -1,5 +1,5 @@
 -- Written by tools/lists.py from tools/operators.tsv.
--- The rows of the operators with the prefix byte 0xfd, by columns.
+-- The table of the operators with the prefix byte 0xfd: a function for each column.
 -- Specification: Binary Format, Vector Instructions.
 use Rattle.std.specs.Prelude.{ℕ, List, [], ◌∷◌, codes}
 use Rattle.wasm_imm.specs.declared.memory_argument.MemArgKind.TheVariants as kind
@@ -9,7 +9,7 @@ use Rattle.wasm_instr_simd.specs.declared.simd.SimdOperator.{SimdOperator}
 use Rattle.wasm_instr_simd.specs.declared.simd.SimdOperator.TheVariants as simd
 use Rattle.wasm_imm.specs.Immediate.{Immediate, vector, one_lane, sixteen_lanes, memory_argument}
 
--- The proposal that added the operator.
+-- The operator's proposal.
 abbrev pub simd_proposal : SimdOperator → Proposal
 simd_proposal simd.I8x16RelaxedSwizzle = proposal.RelaxedSimd
 simd_proposal simd.I32x4RelaxedTruncF32x4S = proposal.RelaxedSimd
@@ -33,7 +33,7 @@ simd_proposal simd.I16x8RelaxedDotI8x16I7x16S = proposal.RelaxedSimd
 simd_proposal simd.I32x4RelaxedDotI8x16I7x16AddS = proposal.RelaxedSimd
 simd_proposal _ = proposal.Simd
 
--- The name of the variant.
+-- The variant's name.
 abbrev pub simd_name : SimdOperator → List ℕ
 simd_name (simd.V128Load _) = codes "V128Load"
 simd_name (simd.V128Load8x8S _) = codes "V128Load8x8S"

@@ -1,11 +1,11 @@
-//! The operators with the prefix byte 0xfd. Written by tools/lists.py from tools/operators.tsv.
+//! Written by tools/lists.py from tools/operators.tsv.
 ghost use Rattle.std.specs.Prelude.{◌≡◌, ◌⊎◌, ◌<◌, ◌≤◌, MatchOption};
 ghost use Rattle.wasm_instr_simd.specs.Simd.{simd_proposal, simd_name, simd_subopcode};
 
 use std::fmt::{self, Debug, Formatter};
 use wasm_imm::{MemArg, OperatorInfo, Proposal, V128};
 
-/// The SIMD operators, with the prefix byte 0xfd. Vector Instructions, including the relaxed ones.
+/// The operators with the prefix byte 0xfd: SIMD, including the relaxed ones. Vector Instructions.
 #[derive(Clone, Copy, PartialEq, Eq)]
 pub enum SimdOperator {
     V128Load { memarg: MemArg },
@@ -282,7 +282,6 @@ impl SimdOperator {
         }
     }
 
-    /// Returns the proposal that added the operator.
     fn proposal(&self) -> Proposal
         ensures { result ≡ simd_proposal self.now }
     {
@@ -329,7 +328,7 @@ impl SimdOperator {
         unreachable!()
     }
 
-    /// Handles 0x00 to 0x3f, and returns `None` for others.
+    /// Handles 0x00 to 0x3f.
     fn first_name(&self) -> Option<&'static str>
         ensures { MatchOption result (0x40 ≤ simd_subopcode self.now) (λ x. x.now ≡ simd_name self.now) }
     {
@@ -402,7 +401,7 @@ impl SimdOperator {
         }
     }
 
-    /// Handles 0x40 to 0x7f, and returns `None` for others.
+    /// Handles 0x40 to 0x7f.
     fn second_name(&self) -> Option<&'static str>
         ensures { MatchOption result ((simd_subopcode self.now < 0x40) ⊎ (0x80 ≤ simd_subopcode self.now))
             (λ x. x.now ≡ simd_name self.now) }
@@ -476,7 +475,7 @@ impl SimdOperator {
         }
     }
 
-    /// Handles 0x80 to 0xcc, and returns `None` for others.
+    /// Handles 0x80 to 0xcc.
     fn third_name(&self) -> Option<&'static str>
         ensures { MatchOption result ((simd_subopcode self.now < 0x80) ⊎ (0xcd ≤ simd_subopcode self.now))
             (λ x. x.now ≡ simd_name self.now) }
@@ -550,7 +549,7 @@ impl SimdOperator {
         }
     }
 
-    /// Handles 0xcd to 0x113, and returns `None` for others.
+    /// Handles 0xcd to 0x113.
     fn fourth_name(&self) -> Option<&'static str>
         ensures { MatchOption result (simd_subopcode self.now < 0xcd) (λ x. x.now ≡ simd_name self.now) }
     {
@@ -641,7 +640,7 @@ impl SimdOperator {
         unreachable!()
     }
 
-    /// Handles 0x00 to 0x3f, and returns `None` for others.
+    /// Handles 0x00 to 0x3f.
     fn first_code(&self) -> Option<u32>
         ensures { MatchOption result (0x40 ≤ simd_subopcode self.now) (λ x. x ≡ simd_subopcode self.now) }
     {
@@ -714,7 +713,7 @@ impl SimdOperator {
         }
     }
 
-    /// Handles 0x40 to 0x7f, and returns `None` for others.
+    /// Handles 0x40 to 0x7f.
     fn second_code(&self) -> Option<u32>
         ensures { MatchOption result ((simd_subopcode self.now < 0x40) ⊎ (0x80 ≤ simd_subopcode self.now))
             (λ x. x ≡ simd_subopcode self.now) }
@@ -788,7 +787,7 @@ impl SimdOperator {
         }
     }
 
-    /// Handles 0x80 to 0xcc, and returns `None` for others.
+    /// Handles 0x80 to 0xcc.
     fn third_code(&self) -> Option<u32>
         ensures { MatchOption result ((simd_subopcode self.now < 0x80) ⊎ (0xcd ≤ simd_subopcode self.now))
             (λ x. x ≡ simd_subopcode self.now) }
@@ -862,7 +861,7 @@ impl SimdOperator {
         }
     }
 
-    /// Handles 0xcd to 0x113, and returns `None` for others.
+    /// Handles 0xcd to 0x113.
     fn fourth_code(&self) -> Option<u32>
         ensures { MatchOption result (simd_subopcode self.now < 0xcd) (λ x. x ≡ simd_subopcode self.now) }
     {

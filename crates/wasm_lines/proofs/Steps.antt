@@ -1,5 +1,4 @@
--- Loops that write a text piece by piece: what was written, followed by what is left, is the whole
--- text.
+-- Loops that write a text piece by piece.
 use Rattle.std.proofs.Common.{◌≡◌, ℕ, suc, ◌+◌, List, [], ◌∷◌, ◌++◌, ap, sym, ◌∙◌, append_assoc, append-nil}
 use Rattle.std.specs.List.{repeat}
 use Rattle.wasm_lines.specs.Rows.{row, rows_from}

@@ -1,5 +1,4 @@
--- Rows of a disassembly: an address, at most nine bytes, and a text, in the form of
--- `wasm-objdump -d` of wabt.
+-- The form is that of `wasm-objdump -d` of wabt.
 use Rattle.std.specs.Prelude.{ℕ, zero, suc, ◌+◌, ◌-◌, ◌*◌, ◌/◌, ◌%◌, ◌^◌, ltb, false, List, [], ◌∷◌, ◌++◌, length, take, drop, codes, flat_map, if◌then◌else◌}
 use Rattle.std.specs.Fmt.{radix_digits}
 use Rattle.std.specs.List.{repeat}
@@ -12,13 +11,12 @@ offset_text offset =
     then byte_text (offset / 2 ^ 16) ++ (byte_text (offset / 2 ^ 8 % 2 ^ 8) ++ byte_text (offset % 2 ^ 8))
     else radix_digits 16 false offset
 
--- The first columns of a row: an address, at most nine bytes at it, and three spaces for each
--- missing byte.
+-- An address, at most nine bytes, and three spaces for each missing byte.
 abbrev pub column : ℕ → List ℕ → List ℕ
 column offset bytes =
     (codes " " ++ (offset_text offset ++ codes ":")) ++ (flat_map spaced_byte bytes ++ (repeat (9 - length bytes) (codes "   ") ++ codes " | "))
 
--- The first columns of row `n` of the bytes at an offset.
+-- The address and bytes of row `n` of the bytes at an offset.
 abbrev pub row : ℕ → List ℕ → ℕ → List ℕ
 row offset bytes n = column (offset + n * 9) (take 9 (drop (n * 9) bytes))
 
@@ -26,8 +24,7 @@ abbrev pub rows_from : ℕ → ℕ → List ℕ → ℕ → List ℕ
 rows_from zero offset bytes n = []
 rows_from (suc more) offset bytes n = row offset bytes n ++ (10 ∷ rows_from more offset bytes (n + 1))
 
--- The first row at an offset, and two spaces for each open construct. `line_end` follows the text,
--- with the other rows.
+-- The first row at an offset, and two spaces for each open construct. `line_end` follows the text.
 abbrev pub line_begin : ℕ → ℕ → List ℕ → List ℕ
 line_begin depth offset bytes = row offset bytes 0 ++ repeat depth (codes "  ")
 

@@ -1,4 +1,3 @@
-//! The header of a function, and the indices of its locals.
 ghost use Rattle.std.specs.Prelude.{◌≡◌, ◌++◌, ◌+◌, ◌^◌, ◌<◌, OnOk, string_bytes};
 ghost use Rattle.wasm_lines.specs.Lines.{shown_name, header_of, shown_indices};
 
@@ -15,8 +14,7 @@ pub fn write_name(out: &mut String, name: &str) -> Written
     write!(out, " <{name}>")
 }
 
-/// Writes the header of a function: the offset of its body, its index, and its name unless that is
-/// empty.
+/// Writes the header of a function: the offset of its body, its index and its name.
 pub fn write_header(out: &mut String, offset: u64, index: u32, name: &str) -> Written
     ensures { OnOk result (string_bytes out.new ≡ string_bytes out.old ++ header_of offset index name.now) }
 {
@@ -26,8 +24,7 @@ pub fn write_header(out: &mut String, offset: u64, index: u32, name: &str) -> Wr
     out.push_str(":\n")
 }
 
-/// Writes the indices of `number` locals and `type=`: the first index, and the last one too unless
-/// `number` is 1.
+/// Writes the indices of `number` locals: the first, and the last unless `number` is 1.
 pub fn write_indices(out: &mut String, first: u64, number: u32) -> Written
     requires { first + number < 2 ^ 64 }
     ensures { OnOk result (string_bytes out.new ≡ string_bytes out.old ++ shown_indices first number) }

@@ -1,10 +1,8 @@
 //! The lines of a disassembly, in the form of `wasm-objdump -d` of wabt: an address, at most nine
 //! bytes, and a text.
 //!
-//! The main theorem is the contract of [`write_line`].
-//!
-//! A call that writes fails with `AllocError` if allocation fails. `out` may then end with a part
-//! of the text.
+//! The main theorem is the contract of [`write_line`]. If allocation fails, `out` may end with a
+//! part of the text.
 #![tactic(auto)]
 
 mod function;

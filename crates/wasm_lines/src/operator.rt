@@ -1,4 +1,3 @@
-//! The lines of an operator.
 ghost use Rattle.std.specs.Prelude.{◌≡◌, ◌++◌, ◌+◌, ◌^◌, ◌<◌, OnOk, IfOk, string_bytes, length, slice_index};
 ghost use Rattle.wasm_lines.specs.Rows.{line_of};
 ghost use Rattle.wasm_lines.specs.Lines.{shown_name, is_outside, opens, closes, depth_of, depth_after, between};
@@ -10,29 +9,28 @@ use std::alloc::AllocError;
 use wasm_text::instr::Operator;
 use wasm_text::write_operator;
 
-/// Returns whether this opcode turns or ends a construct, so that its line is indented like the
-/// opener: `else`, `catch`, `end`, `delegate` and `catch_all`.
+/// Returns whether this opcode is indented like its opener.
 fn is_outside(opcode: u8) -> bool
     ensures { result ≡ is_outside opcode }
 {
     opcode == 0x05 || opcode == 0x07 || opcode == 0x0b || opcode == 0x18 || opcode == 0x19
 }
 
-/// Returns whether this opcode opens a construct: `block`, `loop`, `if`, `try` and `try_table`.
+/// Returns whether this opcode opens a construct.
 fn opens(opcode: u8) -> bool
     ensures { result ≡ opens opcode }
 {
     opcode == 0x02 || opcode == 0x03 || opcode == 0x04 || opcode == 0x06 || opcode == 0x1f
 }
 
-/// Returns whether this opcode closes a construct: `end` and `delegate`.
+/// Returns whether this opcode closes a construct.
 fn closes(opcode: u8) -> bool
     ensures { result ≡ closes opcode }
 {
     opcode == 0x0b || opcode == 0x18
 }
 
-/// Returns how deep the line of an operator is indented, if `depth` constructs are open before it.
+/// Returns how deep an operator's line is indented.
 fn depth_of(opcode: u8, depth: usize) -> usize
     ensures { result ≡ depth_of opcode depth }
 {
@@ -43,7 +41,7 @@ fn depth_of(opcode: u8, depth: usize) -> usize
     }
 }
 
-/// Returns how many constructs are open after an operator, if `depth` are open before it.
+/// Returns how many constructs are open after an operator.
 fn depth_after(opcode: u8, depth: usize) -> usize
     requires { depth + 1 < 2 ^ 64 }
     ensures { result ≡ depth_after opcode depth }
@@ -57,7 +55,7 @@ fn depth_after(opcode: u8, depth: usize) -> usize
     }
 }
 
-/// Returns the first byte of an operator, or 0 if there are no bytes.
+/// Returns the first byte, or 0 if there is none.
 fn opcode_of(bytes: &[u8]) -> u8
     ensures { result ≡ slice_index bytes.now 0 }
 {
@@ -67,8 +65,7 @@ fn opcode_of(bytes: &[u8]) -> u8
     }
 }
 
-/// Returns the bytes from the offset `from` to the offset `to`. `start` is the offset of
-/// `bytes[0]`.
+/// Returns the bytes from one offset to another; `start` is the offset of `bytes[0]`.
 pub fn bytes_between(bytes: &[u8], start: u64, from: u64, to: u64) -> &[u8]
     ensures bytes { result.now ≡ between start bytes.now from to }
     ensures fits { from + length result.now < 2 ^ 64 }
@@ -85,9 +82,8 @@ pub fn bytes_between(bytes: &[u8], start: u64, from: u64, to: u64) -> &[u8]
     &left[..needed as usize]
 }
 
-/// Writes the lines of the operator at `offset`, and returns how many constructs are open after it.
-/// `depth` constructs are open before it. `bytes` are the operator's bytes, and start with its
-/// opcode. `callee` is the name of the function that it calls; it may be empty.
+/// Writes the lines of the operator at `offset`, which has these bytes and calls `callee` (it may
+/// be empty). Takes and returns how many constructs are open.
 pub fn write_line(
     out: &mut String,
     depth: usize,

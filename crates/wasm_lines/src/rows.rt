@@ -85,7 +85,7 @@ fn write_column(out: &mut String, offset: u64, bytes: &[u8]) -> Written
     write_room(out, bytes)
 }
 
-/// Writes the address and the bytes of row `number` of the bytes at `offset`.
+/// Writes the address and the bytes of row `number`.
 fn write_row(out: &mut String, offset: u64, bytes: &[u8], number: usize) -> Written
     requires within { number * 9 ≤ length bytes.now }
     requires fits { offset + length bytes.now < 2 ^ 64 }
@@ -97,8 +97,7 @@ fn write_row(out: &mut String, offset: u64, bytes: &[u8], number: usize) -> Writ
     write_column(out, offset + before as u64, &left[..shown])
 }
 
-/// Writes the start of the lines at an offset: the first row, and two spaces for each open
-/// construct.
+/// Starts a line: the first row, and two spaces for each open construct.
 pub fn begin_line(out: &mut String, depth: usize, offset: u64, bytes: &[u8]) -> Written
     requires { offset + length bytes.now < 2 ^ 64 }
     ensures { OnOk result (string_bytes out.new ≡ string_bytes out.old ++ line_begin depth offset bytes.now) }
@@ -107,7 +106,7 @@ pub fn begin_line(out: &mut String, depth: usize, offset: u64, bytes: &[u8]) -> 
     write_times(out, depth, "  ")
 }
 
-/// Ends the line, and writes the further rows of the bytes if there are more than nine.
+/// Ends the line, and writes the further rows of the bytes.
 pub fn end_line(out: &mut String, offset: u64, bytes: &[u8]) -> Written
     requires { offset + length bytes.now < 2 ^ 64 }
     ensures { OnOk result (string_bytes out.new ≡ string_bytes out.old ++ line_end offset bytes.now) }

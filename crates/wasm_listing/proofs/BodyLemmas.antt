@@ -13,12 +13,12 @@ use Rattle.wasm_operators.specs.Body.{EncodesBody, OpensBody, StopsBody, ReadsBo
 use Rattle.wasm_operators.specs.Locals.{Declaration, RefusesLocals}
 use Rattle.wasm_listing.specs.Census.{BodyMayAllocate}
 
--- What the law `opened_bodies` says about a body that was read to its end.
+-- The law `opened_bodies` for a body that was read to its end.
 abbrev pub IsWhole : Type 0
 IsWhole = (body : Reader) (opened new : State) (placed : Placed) → OpensBody (Ok opened) body → ReadsTree [] opened new placed →
     (declarations : List Declaration) × EncodesBody (source_of body) declarations placed
 
--- What it says about a body whose reading stopped at an error.
+-- The same for a body with an error.
 abbrev pub IsStopped : Allocating → Type 0
 IsStopped Allocates = (e : Error) (body : Reader) (opened new : State) (placed : Placed) → OpensBody (Ok opened) body →
     ReadsBeginning IsAny EncodesAllowed OperatorFault Allocates [] e opened new placed → StopsBody e body placed

@@ -16,7 +16,7 @@ use Rattle.wasm_listing.specs.declared.fault.DumpFault.TheVariants as fault
 use Rattle.wasm_listing.specs.Census.{proposals, count_of, counts_of, one_more, one_more_of, CountsVisit, Counted, Counts}
 use Rattle.wasm_listing.specs.Dump.{IsBody}
 
--- The counts, each increased by the operators of the list.
+-- The counts after these operators.
 abbrev pub added : List (List ℕ) → List ℕ → Placed → List ℕ
 added (p ∷ ps) (n ∷ ns) placed = (n + count_of p placed) ∷ added ps ns placed
 added _ _ placed = []

@@ -1,4 +1,3 @@
--- Counting one more operator, proposal by proposal.
 use Rattle.std.proofs.Common.{◌≡◌, ℕ, zero, suc, ◌<◌, List, [], ◌∷◌, length, refl, sym, ap, arith, get_or, set, cond, true, false, nat_eq}
 use Rattle.std.specs.Cmp.Lexicographic.{pointwise}
 use Rattle.wasm_listing.specs.Census.{one_more_of, one_more}

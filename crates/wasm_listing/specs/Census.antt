@@ -49,7 +49,8 @@ counts_of placed = map (λ proposal. count_of proposal placed) proposals
 abbrev pub one_more : ℕ → ℕ
 one_more n = min (n + 1) (2 ^ 64 - 1)
 
--- The counts of some proposals after one more operator of this proposal.
+-- The counts of the proposals in the second list, in their order, after one more operator of
+-- `proposal`. A count is at most 2^64 - 1.
 abbrev pub one_more_of : List ℕ → List (List ℕ) → List ℕ → List ℕ
 one_more_of proposal (p ∷ ps) (n ∷ ns) = (if pointwise nat_eq p proposal then one_more n else n) ∷ one_more_of proposal ps ns
 one_more_of proposal _ _ = []
@@ -61,8 +62,8 @@ CountsVisit before op after = after ≡ one_more_of (proposal_name (proposal_of 
 abbrev pub Counted : List ℕ → List ℕ → OfPlaced
 Counted before after placed = Visited {A = Unit {0}} (λ s op outcome t. CountsVisit s op t) before after placed
 
--- Reading the body that starts here may allocate: after its locals and some of its operators, the next operator owns a list, or opens
--- more frames than were open before, for which no capacity is left.
+-- After the body's locals and some operators, the next one owns a list, or opens a frame without
+-- capacity.
 pub record BodyMayAllocate (body : Reader) : Type 0 where
   pub opened : State
   pub opens : OpensBody (Ok opened) body
@@ -71,7 +72,7 @@ pub record BodyMayAllocate (body : Reader) : Type 0 where
   pub takes : TakesOperators opened stopped placed
   pub asks : NextMayAllocate EncodesAllowed stopped
 
--- The counts of a body's operators, or the error that a listing has.
+-- The counts of a body's operators, or the error of its listing.
 abbrev pub Counts : Reader → Result (List ℕ) DumpFault → Type 0
 Counts input (Ok counts) = (declarations : List Declaration) × (placed : Placed) × IsBody input declarations placed × (counts ≡ counts_of placed)
 Counts input (Err (fault.Refused e)) = (placed : Placed) × IsNoBody e input placed

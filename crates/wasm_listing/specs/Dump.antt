@@ -24,11 +24,11 @@ lines placed = flat_map line_of placed
 abbrev pub input_of : WasmFeatures → List ℕ → Reader
 input_of features bytes = reader_of features 0 bytes
 
--- The input is a body with these declarations of locals and these operators.
+-- The input is a body with these locals and operators.
 abbrev pub IsBody : Reader → List Declaration → Placed → Type 0
 IsBody input declarations placed = EncodesBody (source_of input) declarations placed
 
--- The input is no body: these operators were read, and the error describes the bytes after them.
+-- The input is no body: an error follows these operators.
 abbrev pub IsNoBody : Error → Reader → Placed → Type 0
 IsNoBody e input placed = (e.message ≢ message.OutOfMemory) × StopsBody e input placed
 
@@ -41,8 +41,8 @@ abbrev pub Lists : {X : Type 0} → Reader → Result X Error → List ℕ → T
 Lists input (Ok x) text = (declarations : List Declaration) × (placed : Placed) × IsBody input declarations placed × (text ≡ lines placed)
 Lists input (Err e) text = (placed : Placed) × IsNoBody e input placed × (text ≡ lines placed)
 
--- The lines of the body's operators are written, or of those before the error. Nothing is said
--- about other faults.
+-- The lines of the body's operators are written, or of those before an error of the bytes. Nothing
+-- is said of other faults.
 abbrev pub Dumps : {X : Type 0} → Reader → Result X DumpFault → Option (List ℕ) → Option (List ℕ) → Type 0
 Dumps input (Ok x) old new = (declarations : List Declaration) × (placed : Placed) × IsBody input declarations placed × Appends old new (lines placed)
 Dumps input (Err (fault.Refused e)) old new = (placed : Placed) × IsNoBody e input placed × Appends old new (lines placed)

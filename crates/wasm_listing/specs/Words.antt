@@ -1,4 +1,3 @@
--- The argument that names features.
 use Rattle.std.specs.Prelude.{ℕ, List, [], ◌∷◌, Option, Some, None, codes, nat_eq, if◌then◌else◌}
 use Rattle.std.specs.Result.{result_ok}
 use Rattle.std.specs.Cmp.Lexicographic.{pointwise}
@@ -14,8 +13,8 @@ feature_names =
     ∷ (codes "MULTIBYTE_ARRAY_ACCESS", 32)
     ∷ []
 
--- All features for `all` or no word, none for `none`, otherwise the features named, separated by
--- bars.
+-- All features for `all` or no word, none for `none`, else those named, separated by bars; `None`
+-- at an unknown name.
 abbrev pub bits_of_word : Option (List ℕ) → Option ℕ
 bits_of_word None = Some 63
 bits_of_word (Some word) =

@@ -6,7 +6,7 @@ ghost use Rattle.wasm_listing.specs.Dump.{input_of};
 use std::alloc::Global;
 use wasm_operators::{BinaryReader, FunctionBody, OperatorsReader, Result, WasmFeatures};
 
-/// Skips the locals of a body and returns a reader of its operators. Fails as the locals do.
+/// Skips the locals and returns a reader of the operators. Fails with the error of the locals.
 pub fn open_body<'a>(
     alloc: Global,
     features: WasmFeatures,

@@ -31,14 +31,10 @@ fn count_body(
     operators.visit_all_simd(census)
 }
 
-/// Counts the operators of a body by proposal, in the order of the proposals: `mvp`,
-/// `sign_extension`, `gc`, `custom_descriptors`, `saturating_float_to_int`, `bulk_memory`,
-/// `reference_types`, `tail_call`, `memory_control`, `threads`, `simd`, `relaxed_simd`,
-/// `exceptions`, `legacy_exceptions`, `shared_everything_threads`, `function_references`,
-/// `stack_switching`, `wide_arithmetic`, `acquire_release_atomics`.
+/// Counts the operators of a body by proposal, in the order of `proposal_at`.
 ///
-/// Fails with `Refused` if the bytes are no body, and with `Memory` only if an operator of the body
-/// may allocate.
+/// Fails with `Refused` if the bytes are no body, and with `Memory` only if an operator may
+/// allocate.
 pub fn census(alloc: Global, features: WasmFeatures, body: &[u8]) -> Result<[u64; 19], DumpFault>
     ensures counts { Counts (input_of features body.now) result }
     // If the bytes encode a body, the result is not `Refused`.

@@ -77,11 +77,10 @@ fn write_text<W: Write>(writer: &mut W, text: &str) -> Result<(), DumpFault>
     Ok(())
 }
 
-/// Reads a body from the reader, and writes a line for each of its operators.
+/// Reads a body, and writes a line for each of its operators.
 ///
-/// If the bytes are no body, writes the lines of the operators before the error and fails with
-/// `Refused`. Otherwise fails with `Reading` or `Memory`, with nothing written, or with `Writing`,
-/// when an unspecified part may have been written.
+/// Fails with `Refused` after the lines before an error. Fails with `Reading` or `Memory` before
+/// anything is written, and with `Writing` after an unspecified part.
 pub fn run<R: Read, W: Write>(
     alloc: Global,
     features: WasmFeatures,

@@ -1,7 +1,6 @@
 //! The operators of a function body as lines of text, and their counts by proposal.
 //!
-//! The main theorem is the contract of [`run`]. If allocation fails, [`run`] and [`census`] fail
-//! with `Memory`, and nothing is written.
+//! The main theorem is the contract of [`run`]. If allocation fails, nothing is written.
 #![tactic(auto)]
 
 mod body;

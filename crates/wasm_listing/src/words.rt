@@ -6,7 +6,7 @@ use bitflags::parser::from_str_strict;
 use wasm_operators::WasmFeatures;
 
 /// Returns the features that a word names: all for `all` or no word, none for `none`, otherwise the
-/// features separated by `|`. Returns `None` if a name is none of the six.
+/// features separated by `|`. Returns `None` at an unknown name.
 pub fn features_of(word: Option<&str>) -> Option<WasmFeatures>
     ensures { option_map (λ features. features.0) result ≡ bits_of_word (option_map (λ text. text.now) word.entry) }
 {

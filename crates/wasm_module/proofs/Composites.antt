@@ -1,4 +1,3 @@
--- Types are a prefix code, and their faults determine the error.
 use Rattle.std.proofs.Common.{◌≡◌, ℕ, zero, suc, ◌+◌, ◌-◌, ◌<◌, ◌≤◌, List, [], ◌∷◌, inl, inr, Result, Ok, Err, refl, ap, sym, ◌∙◌, arith}
 use Rattle.wasm_below.specs.bytes.error.Error.{Error}
 use Rattle.wasm_below.specs.Fault.{DeterminesRefusal}

@@ -1,4 +1,3 @@
--- Imports are a prefix code, and their faults determine the error.
 use Rattle.std.proofs.Common.{ℕ, List, zero, suc, inl, inr, refl, sym, ◌∙◌}
 use Rattle.wasm_below.specs.Fault.{DeterminesRefusal}
 use Rattle.wasm_below.specs.Number.{EncodesUnsigned}

@@ -1,4 +1,4 @@
--- Values of one kind, one after another, as a loop reads them; and lists whose length is kept.
+-- Values of one kind, as a loop reads them, and lists of which only the length is kept.
 use Rattle.std.proofs.Common.{◌≡◌, ℕ, zero, suc, ◌+◌, ◌<◌, ◌≤◌, List, [], length, inl, inr, Ok, Err, refl, ap, sym, subst, ◌∙◌, arith}
 use Rattle.wasm_below.specs.bytes.error.Error.{Error}
 use Rattle.wasm_below.specs.bytes.message.Message.{Message}

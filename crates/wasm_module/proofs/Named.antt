@@ -1,4 +1,3 @@
--- Names, and items with names, are prefix codes, and their faults determine the error.
 use Rattle.std.proofs.Common.{◌≡◌, ℕ, List, [], ◌∷◌, ◌++◌, length, Err, refl, ap, sym, ◌∙◌, arith}
 use Rattle.wasm_below.specs.bytes.error.Error.{Error}
 use Rattle.wasm_below.specs.Fault.{DeterminesRefusal}

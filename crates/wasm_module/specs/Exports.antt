@@ -20,7 +20,7 @@ EncodesExternIndex = Both IsByte (EncodesUnsigned 32)
 abbrev pub ExternIndexFault : Message → Reader → ℕ → Type 0
 ExternIndexFault = ThenFault IsByte EndFault (λ kind. U32Fault)
 
--- A name, followed by the byte of a kind and an index.
+-- A name, the byte of a kind, and an index.
 --   export ::= nm:name xx:externidx
 abbrev pub EncodesExport : List ℕ → ExportParts → Type 0
 EncodesExport text e = Both EncodesName EncodesExternIndex text (e.name, (e.kind, e.index))

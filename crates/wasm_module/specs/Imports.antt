@@ -16,21 +16,19 @@ Skipped = List ℕ → Unit {0} → Type 0
 abbrev pub SkipFault : Type 1
 SkipFault = Message → Reader → ℕ → Type 0
 
--- The bytes encode some value of this kind.
 abbrev pub SomeOf : {X : Type 0} → (List ℕ → X → Type 0) → Skipped
 SomeOf {X} Encodes text done = (x : X) × Encodes text x
 
 abbrev pub IsNothing : Skipped
 IsNothing text done = text ≡ []
 
--- The maximum size, if the flags say that there is one.
 abbrev pub IsMost : ℕ → Skipped
 IsMost flags text done = ((flags % 2 ≡ 1) × SomeOf (EncodesUnsigned 64) text done) ⊎ ((flags % 2 ≢ 1) × IsNothing text done)
 
 abbrev pub MostFault : ℕ → SkipFault
 MostFault flags m r offset = (flags % 2 ≡ 1) × U64Fault m r offset
 
--- Limits. Only the lowest bit of the flags is checked.
+-- Only the lowest bit of the flags is checked.
 --   limits ::= 0x00 n:u64 | 0x01 n:u64 m:u64 | 0x04 n:u64 | 0x05 n:u64 m:u64
 abbrev pub IsBounds : ℕ → Skipped
 IsBounds flags = Then (EncodesUnsigned 64) (λ least. IsMost flags)
@@ -85,7 +83,6 @@ ExternTypeFaultAfterByte (suc (suc (suc zero))) = GlobalFault
 ExternTypeFaultAfterByte (suc (suc (suc (suc zero)))) = TagFault
 ExternTypeFaultAfterByte _ = λ m r offset. ⊥
 
--- The byte of a kind, which is kept, and the bytes after it.
 abbrev pub EncodesExternTypeAfterByte : ℕ → List ℕ → ℕ → Type 0
 EncodesExternTypeAfterByte byte text kind = (kind ≡ byte) × IsExternTypeAfterByte byte text tt
 
@@ -106,8 +103,7 @@ EncodesNamed = Both EncodesName EncodesExternType
 abbrev pub NamedFault : SkipFault
 NamedFault = ThenFault EncodesName NameFault (λ name. ExternTypeFault)
 
--- The module's name, the import's name, the byte of a kind and what follows it: nothing, if the
--- standard has no such kind.
+-- The names of module and import, the byte of a kind, and, if the standard has that kind, a type.
 --   import ::= nm1:name nm2:name xt:externtype
 abbrev pub EncodesImport : List ℕ → ImportParts → Type 0
 EncodesImport text i = Both EncodesName EncodesNamed text (i.module_name, (i.name, i.kind))

@@ -17,7 +17,7 @@ use Rattle.wasm_module.specs.declared.preamble.PreambleKind.TheVariants as kind
 abbrev pub EncodesPreamble : List ℕ → Preamble → Type 0
 EncodesPreamble text p = Both (EncodesFixed w32) (EncodesFixed w32) text (p.magic, p.version)
 
--- The kind of binary. Components, of the component model proposal, have version 13 and layer 1.
+-- The kind of binary. A component (component model proposal) has version 13 and layer 1.
 abbrev pub preamble_kind : Preamble → PreambleKind
 preamble_kind p =
     if p.magic == 0x6d736100
@@ -29,15 +29,15 @@ pub record SectionParts : Type 0 where
   pub id : ℕ
   pub contents : Reader
 
--- The number of a section, the length of its contents, and the contents.
+-- A section's number, and the length and bytes of its contents.
 --   section_N(X) ::= N:byte len:u32 en*:X
 abbrev pub EncodesSection : WasmFeatures → List ℕ → SectionParts → Type 0
 EncodesSection features text s = Both IsByte (EncodesReader features) text (s.id, s.contents)
 
--- The data ends within one of the numbers.
+-- The data ends within the magic number or the version.
 abbrev pub PreambleFault : Message → Reader → ℕ → Type 0
 PreambleFault = ThenFault (EncodesFixed w32) (EndsWithin 4) (λ magic. EndsWithin 4)
 
--- The data ends at the number, or the length or the contents are in error.
+-- The number is missing, or length or contents are in error.
 abbrev pub SectionFault : Message → Reader → ℕ → Type 0
 SectionFault = ThenFault IsByte EndFault (λ id. ReaderFault)

@@ -11,7 +11,7 @@ use Rattle.wasm_module.specs.Both.{Both}
 abbrev pub IsBytes : ℕ → List ℕ → List ℕ → Type 0
 IsBytes n text bytes = (bytes ≡ text) × (length text ≡ n)
 
--- A name: its length in bytes, and the bytes. Whether they are UTF-8 is not checked.
+-- A length, and that many bytes, UTF-8 or not.
 --   name ::= b*:list(byte)
 abbrev pub EncodesName : List ℕ → List ℕ → Type 0
 EncodesName = Then (EncodesUnsigned 32) IsBytes

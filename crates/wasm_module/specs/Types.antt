@@ -15,7 +15,7 @@ abbrev pub IsMany : {X : Type 0} → (List ℕ → X → Type 0) → ℕ → Ski
 IsMany P zero = IsNothing
 IsMany P (suc n) = Then P (λ x. IsMany P n)
 
--- The number of values, which is kept, followed by the values.
+-- `count` encodings of `P` in sequence. Of their values, only the number is kept.
 --   list(X) ::= n:u32 (el:X)^n
 abbrev pub EncodesCounted : {X : Type 0} → (List ℕ → X → Type 0) → ℕ → List ℕ → ℕ → Type 0
 EncodesCounted P count text n = (n ≡ count) × IsMany P count text tt
@@ -34,7 +34,6 @@ EncodesValueTypes = EncodesLength EncodesValType
 abbrev pub ValueTypesFault : SkipFault
 ValueTypesFault = LengthFault EncodesValType ValTypeFault
 
--- The value types of the parameters, followed by those of the results.
 abbrev pub EncodesSignature : List ℕ → ℕ × ℕ → Type 0
 EncodesSignature = Both EncodesValueTypes EncodesValueTypes
 
@@ -53,7 +52,7 @@ IsPacked text done = (byte : ℕ) × IsPackedByte byte × (text ≡ byte ∷ [])
 abbrev pub IsStorage : Skipped
 IsStorage text done = SomeOf EncodesValType text done ⊎ IsPacked text done
 
--- A storage type, and the byte of its mutability, with any value.
+-- A storage type, and the byte of its mutability, which may have any value.
 --   fieldtype ::= zt:storagetype mut:mut
 abbrev pub IsField : Skipped
 IsField = Then IsStorage (λ storage. SomeOf IsByte)
@@ -71,7 +70,7 @@ FieldsFault = LengthFault IsField FieldFault
 abbrev pub IsOther : ℕ → Type 0
 IsOther byte = (byte ≢ 0x60) × (byte ≢ 0x5f) × (byte ≢ 0x5e)
 
--- The bytes after the first byte of a type: none if that byte is none of the three.
+-- The bytes after the first byte of a composite type: none if that starts none of the three sorts.
 --   comptype ::= 0x5E ft:fieldtype ⇒ array | 0x5F ft*:list(fieldtype) ⇒ struct | 0x60 t1*:resulttype t2*:resulttype ⇒ func
 abbrev pub EncodesAfterByte : ℕ → List ℕ → CompositeType → Type 0
 EncodesAfterByte byte text (composite.Function parameters results) = (byte ≡ 0x60) × EncodesSignature text (parameters, results)
@@ -88,11 +87,11 @@ EncodesComposite = Then IsByte EncodesAfterByte
 abbrev pub CompositeFault : SkipFault
 CompositeFault = ThenFault IsByte EndFault FaultAfterByte
 
--- The byte starts a type with supertypes: 0x4f a final type, 0x50 one that is not final.
+-- The first byte of a type with supertypes: 0x4f if it is final, otherwise 0x50.
 abbrev pub NamesSupertypes : ℕ → Type 0
 NamesSupertypes byte = (byte ≡ 0x4f) ⊎ (byte ≡ 0x50)
 
--- The indices of the supertypes, followed by the composite type.
+-- A count and that many indices of supertypes. Only the count is kept.
 abbrev pub EncodesIndices : List ℕ → ℕ → Type 0
 EncodesIndices = EncodesLength (EncodesUnsigned 32)
 
@@ -113,8 +112,8 @@ EncodesSubAfterByte byte text ty = (NamesSupertypes byte × EncodesWithSupertype
 abbrev pub SubFaultAfterByte : ℕ → SkipFault
 SubFaultAfterByte byte m r offset = (NamesSupertypes byte × WithSupertypesFault m r offset) ⊎ ((¬ NamesSupertypes byte) × FaultAfterByte byte m r offset)
 
--- A composite type, perhaps after the indices of supertypes. Kept are the numbers of parameters and
--- results, or of fields, or a first byte of no composite type.
+-- A composite type, after any supertypes' indices: the numbers of parameters and results, or of
+-- fields, or an unknown first byte.
 abbrev pub EncodesSubType : List ℕ → CompositeType → Type 0
 EncodesSubType = Then IsByte EncodesSubAfterByte
 
@@ -122,11 +121,11 @@ EncodesSubType = Then IsByte EncodesSubAfterByte
 abbrev pub SubTypeFault : SkipFault
 SubTypeFault = ThenFault IsByte EndFault SubFaultAfterByte
 
--- The start of a recursive type that is a list: its byte, and the number of sub types.
+-- The byte 0x4e and the number of sub types after it.
 --   rectype ::= 0x4E st*:list(subtype) | st:subtype
 abbrev pub EncodesRecTypeLength : List ℕ → ℕ → Type 0
 EncodesRecTypeLength = Then IsByte (λ byte text n. (byte ≡ 0x4e) × EncodesUnsigned 32 text n)
 
--- The error of the number in this start.
+-- The error of the number after the byte 0x4e.
 abbrev pub RecTypeLengthFault : SkipFault
 RecTypeLengthFault = FaultAfter IsByte (λ byte. U32Fault)

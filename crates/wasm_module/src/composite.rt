@@ -62,7 +62,6 @@ fn count_value_types(reader: &mut BinaryReader<'_>) -> Result<u32>
     }
 }
 
-/// Skips the parameters and results of a function type and returns their numbers.
 fn read_signature(reader: &mut BinaryReader<'_>) -> Result<(u32, u32)>
     ensures reads { Reads EncodesSignature result reader.old reader.new }
     ensures fault { IfErr result (λ e. SignatureFault e.message reader.old e.offset) }
@@ -121,14 +120,13 @@ fn count_indices(reader: &mut BinaryReader<'_>) -> Result<u32>
     }
 }
 
-/// A composite type. Specification: Composite Types.
+/// Specification: Composite Types.
 #[derive(Clone, Copy, Debug, PartialEq, Eq)]
 pub enum CompositeType {
     Function { parameters: u32, results: u32 },
     Struct { fields: u32 },
     Array,
-    /// The first byte of a type that is none of the standard's composite types. No bytes after it
-    /// are read.
+    /// The first byte of a type outside the standard. No bytes after it are read.
     Other(u8),
 }
 
@@ -206,8 +204,7 @@ fn read_sub_after_byte(reader: &mut BinaryReader<'_>, kind: u8) -> Result<Compos
 impl CompositeType {
     /// Reads a sub type and returns its composite type. Specification: Recursive Types.
     ///
-    /// After a first byte that is not one of the standard's, nothing is read. Fails as the first
-    /// part in error does: with `EndOfData`, or with the error of a number or a type.
+    /// Fails at the first part in error: with `EndOfData`, or like the read of a number or a type.
     pub fn read(reader: &mut BinaryReader<'_>) -> Result<CompositeType>
         ensures reads { Reads EncodesSubType result reader.old reader.new }
         ensures fault { IfErr result (λ e. SubTypeFault e.message reader.old e.offset) }
@@ -233,11 +230,10 @@ fn is_rec_type_list_next(reader: &BinaryReader<'_>) -> bool
     matches!(reader.remaining_buffer(), [REC_TYPE, ..])
 }
 
-/// Returns the number of sub types of the recursive type that starts here. If it is a list,
-/// consumes its first byte and that number; otherwise returns 1 and consumes nothing.
-/// Specification: Recursive Types.
+/// Reads the first byte and the number of sub types of a recursive type that is a list. At a single
+/// type, consumes nothing and returns 1. Specification: Recursive Types.
 ///
-/// Fails as `read_var_u32` does after the byte.
+/// After the byte 0x4e, fails like `read_var_u32`.
 pub fn read_rec_type_len(reader: &mut BinaryReader<'_>) -> Result<u32>
     ensures rec_type { BeginsWith REC_TYPE (rest reader.old)
         → Reads EncodesRecTypeLength result reader.old reader.new }

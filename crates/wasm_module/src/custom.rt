@@ -6,7 +6,7 @@ use crate::name::Name;
 use std::marker::Model;
 use wasm_below::{BinaryReader, Result};
 
-/// The contents of a custom section: its name, and a reader of the bytes after it.
+/// The name of a custom section, and a reader of the bytes after it.
 #[derive(Debug, Drop)]
 pub struct CustomSection<'a> {
     name: Name<'a>,
@@ -23,7 +23,7 @@ impl<'a> Model for CustomSection<'a> {
 
 impl<'a> CustomSection<'a> {
     /// Reads the name from the contents of a section with the number 0. Specification: Custom
-    /// Section. Fails as `Name::read` does.
+    /// Section. Fails like `Name::read`.
     pub fn new(mut reader: BinaryReader<'a>) -> Result<CustomSection<'a>>
         ensures name { IfOk result (λ s. Reads EncodesName (Ok s.name) reader.entry s.contents) }
         ensures refused { IfErr result (λ e. IsRefusal EncodesName e reader.entry) }
@@ -38,7 +38,6 @@ impl<'a> CustomSection<'a> {
         }
     }
 
-    /// Returns the bytes of the name, which identifies what the section contains.
     pub fn name(&self) -> &'a [u8]
         ensures { result.now ≡ self.now.name }
     {

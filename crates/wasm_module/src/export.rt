@@ -31,7 +31,7 @@ fn read_extern_index(reader: &mut BinaryReader<'_>) -> Result<(u8, u32)>
     }
 }
 
-/// An export: a name for an item of the module.
+/// The name, kind and index of an item that the module exports.
 #[derive(Debug, Drop)]
 pub struct Export<'a> {
     name: Name<'a>,
@@ -48,15 +48,14 @@ impl<'a> Model for Export<'a> {
 }
 
 impl<'a> Export<'a> {
-    /// Returns the bytes of the name.
     pub fn name(&self) -> &'a [u8]
         ensures { result.now ≡ self.now.name }
     {
         self.name.bytes()
     }
 
-    /// Returns the byte of the kind: 0 for a function, 1 for a table, 2 for a memory, 3 for a
-    /// global, 4 for a tag. The standard has no other kinds.
+    /// Returns the kind: 0 for a function, 1 for a table, 2 for a memory, 3 for a global, 4 for a
+    /// tag, or another byte, outside the standard.
     pub fn kind(&self) -> u8
         ensures { result ≡ self.now.kind }
     {
@@ -70,10 +69,10 @@ impl<'a> Export<'a> {
         self.index
     }
 
-    /// Reads an export: its name, the byte of its kind, with any value, and an index.
-    /// Specification: Export Section.
+    /// Reads a name, the byte of a kind, with any value, and an index. Specification: Export
+    /// Section.
     ///
-    /// Fails as the first part in error does: with `EndOfData`, or with the error of a number.
+    /// Fails like `Name::read`, with `EndOfData` at the byte, or like `read_var_u32`.
     pub fn read(reader: &mut BinaryReader<'a>) -> Result<Export<'a>>
         ensures reads { Reads EncodesExport result reader.old reader.new }
         ensures fault { IfErr result (λ e. ExportFault e.message reader.old e.offset) }

@@ -80,7 +80,6 @@ fn skip_fields(reader: &mut BinaryReader<'_>, count: u32) -> Result<()>
     Ok(())
 }
 
-/// Skips a list of fields and returns their number.
 pub fn count_fields(reader: &mut BinaryReader<'_>) -> Result<u32>
     ensures reads { Reads EncodesFields result reader.old reader.new }
     ensures fault { IfErr result (λ e. FieldsFault e.message reader.old e.offset) }

@@ -68,7 +68,7 @@ fn read_named<'a>(reader: &mut BinaryReader<'a>) -> Result<(Name<'a>, u8)>
     }
 }
 
-/// An import. Only the kind of what is imported is kept.
+/// The names of an import, and the kind of what is imported.
 #[derive(Debug, Drop)]
 pub struct Import<'a> {
     module_name: Name<'a>,
@@ -85,32 +85,31 @@ impl<'a> Model for Import<'a> {
 }
 
 impl<'a> Import<'a> {
-    /// Returns the bytes of the name of the module that the item is imported from.
+    /// Returns the name of the module that the item is imported from.
     pub fn module_name(&self) -> &'a [u8]
         ensures { result.now ≡ self.now.module_name }
     {
         self.module_name.bytes()
     }
 
-    /// Returns the bytes of the item's name in that module.
+    /// Returns the item's name in that module.
     pub fn name(&self) -> &'a [u8]
         ensures { result.now ≡ self.now.name }
     {
         self.name.bytes()
     }
 
-    /// Returns the byte of the kind, as `Export::kind` does.
+    /// Returns the kind, a byte as of `Export::kind`.
     pub fn kind(&self) -> u8
         ensures { result ≡ self.now.kind }
     {
         self.kind
     }
 
-    /// Reads an import: the module's name, the import's name, and its type. Specification: Import
-    /// Section.
+    /// Reads the module's name, the import's name, and a type. Specification: Import Section.
     ///
-    /// After a byte that is none of the five kinds, nothing is read. Fails as the first part in
-    /// error does: with `EndOfData`, or with the error of a number or a type.
+    /// After a byte that is none of the five kinds, nothing is read. Fails at the first part in
+    /// error: with `EndOfData`, or like the read of a number or a type.
     pub fn read(reader: &mut BinaryReader<'a>) -> Result<Import<'a>>
         ensures reads { Reads EncodesImport result reader.old reader.new }
         ensures fault { IfErr result (λ e. ImportFault e.message reader.old e.offset) }

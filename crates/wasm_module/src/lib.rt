@@ -1,6 +1,4 @@
-//! The parts of a module: its preamble, sections, types, imports, exports and custom sections, and
-//! the names in the custom section `name`. Of types the sorts are kept, of imports the names and
-//! kinds.
+//! The parts of a module: preamble, sections, types, imports, exports, custom sections and names.
 #![tactic(auto)]
 
 mod composite;

@@ -10,7 +10,6 @@ ghost use Rattle.wasm_module.specs.Types.{EncodesSubType, SubTypeFault, EncodesR
 use wasm_below::byte_laws::{fixed_numbers, number_refusals, part_refusals, unsigned_numbers};
 use wasm_below::type_laws::{reference_types, type_refusals, value_types};
 
-/// States that the errors of a preamble and of a section are determined.
 pub fn refusals()
     ensures preamble { DeterminesRefusal PreambleFault }
     ensures section { DeterminesRefusal SectionFault }
@@ -48,8 +47,6 @@ pub fn imports()
     type_refusals();
 }
 
-/// States that types, and the start of a list of them, are prefix codes, and that their errors are
-/// determined.
 pub fn types()
     ensures one { PrefixCode EncodesSubType }
     ensures refusal { DeterminesRefusal SubTypeFault }

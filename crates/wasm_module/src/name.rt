@@ -12,7 +12,7 @@ use std::marker::Model;
 use wasm_below::byte_laws::unsigned_numbers;
 use wasm_below::{BinaryReader, FromReader, MemoryUse, Never, Result, UsesMemory};
 
-/// A name. Whether its bytes are UTF-8 is not checked.
+/// A name, which need not be UTF-8.
 #[derive(Debug, Drop)]
 pub struct Name<'a> {
     bytes: &'a [u8],
@@ -33,9 +33,9 @@ impl<'a> Name<'a> {
         self.bytes
     }
 
-    /// Reads a name: a number of 32 bits, and that many bytes. Specification: Names.
+    /// Reads a length and that many bytes. Specification: Names.
     ///
-    /// Fails as `read_var_u32` does, or with `EndOfData` at the start of the bytes.
+    /// Fails like `read_var_u32`, or with `EndOfData` at the start of the bytes.
     pub fn read(reader: &mut BinaryReader<'a>) -> Result<Name<'a>>
         ensures reads { Reads EncodesName result reader.old reader.new }
         ensures fault { IfErr result (λ e. NameFault e.message reader.old e.offset) }
@@ -56,7 +56,6 @@ impl<'a> Name<'a> {
     }
 }
 
-/// An index with its name, for example of a function.
 #[derive(Debug, Drop)]
 pub struct NameAssociation<'a> {
     index: u32,
@@ -78,15 +77,14 @@ impl<'a> NameAssociation<'a> {
         self.index
     }
 
-    /// Returns the bytes of the name.
     pub fn name(&self) -> &'a [u8]
         ensures { result.now ≡ self.now.name }
     {
         self.name.bytes()
     }
 
-    /// Reads an index and its name. Specification: Name Section, Name Maps. Fails as `read_var_u32`
-    /// does, then as `Name::read` does.
+    /// Reads an index and its name. Specification: Name Section, Name Maps. Fails like
+    /// `read_var_u32`, then like `Name::read`.
     pub fn read(reader: &mut BinaryReader<'a>) -> Result<NameAssociation<'a>>
         ensures reads { Reads EncodesNameAssociation result reader.old reader.new }
         ensures fault { IfErr result (λ e. NameAssociationFault e.message reader.old e.offset) }

@@ -13,7 +13,7 @@ const MODULE: u32 = 0x0000_0001;
 
 const COMPONENT: u32 = 0x0001_000d;
 
-/// The preamble of a binary: a magic number and a version, each of four bytes, the lowest first.
+/// The first eight bytes of a binary: two little-endian numbers.
 #[derive(Clone, Copy, Debug, PartialEq, Eq)]
 pub struct Preamble {
     /// Identifies a binary of WebAssembly.
@@ -28,14 +28,11 @@ pub enum PreambleKind {
     Module,
     /// A component, of the component model proposal.
     Component,
-    /// A binary of WebAssembly of another version.
     OtherVersion,
-    /// No binary of WebAssembly.
     NotWasm,
 }
 
 impl Preamble {
-    /// Returns the kind of binary. Specification: Modules.
     pub fn kind(&self) -> PreambleKind
         ensures { result ≡ preamble_kind self.now }
     {

@@ -5,7 +5,6 @@ ghost use Rattle.wasm_module.specs.Module.{EncodesSection, SectionFault};
 use std::marker::Model;
 use wasm_below::{BinaryReader, Result};
 
-/// A section of a module: its number, and a reader of its contents.
 #[derive(Debug, Drop)]
 pub struct Section<'a> {
     id: u8,
@@ -21,7 +20,7 @@ impl<'a> Model for Section<'a> {
 }
 
 impl<'a> Section<'a> {
-    /// Returns the number, which identifies what the section contains. Specification: Sections.
+    /// Returns the number, which identifies the contents. Specification: Sections.
     pub fn id(&self) -> u8
         ensures { result ≡ self.now.id }
     {
@@ -36,10 +35,10 @@ impl<'a> Section<'a> {
     }
 }
 
-/// Reads the next section: a byte, a number of 32 bits, and that many bytes. Specification:
-/// Sections. The subsections of the custom section `name` have the same encoding.
+/// Reads a number, a length and that many bytes: a section, or a subsection of the custom section
+/// `name`. Specification: Sections.
 ///
-/// Fails with `EndOfData` at the end of the data; otherwise as `read_reader` does after the byte.
+/// Fails with `EndOfData` at the end of the data, otherwise like `read_reader` after the number.
 pub fn read_section<'a>(reader: &mut BinaryReader<'a>) -> Result<Section<'a>>
     ensures reads { Reads (EncodesSection reader.old.features) result reader.old reader.new }
     ensures placed { IfOk result (λ s. end_of s.contents ≡ offset_of reader.new) }

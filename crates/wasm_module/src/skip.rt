@@ -1,4 +1,4 @@
-//! Skipping the type of an import after the byte of its kind.
+//! Skips the type of an import after the byte of its kind.
 ghost use Rattle.std.specs.Prelude.{IfErr};
 ghost use Rattle.wasm_below.specs.Source.{Reads};
 ghost use Rattle.wasm_module.specs.Imports.{IsMost, MostFault, IsBounds, BoundsFault, IsLimits, LimitsFault, IsTable, TableFault, IsGlobal, GlobalFault, IsTag, TagFault};

@@ -1,4 +1,3 @@
--- Functions that were counted, and one more.
 use Rattle.std.proofs.Common.{◌≡◌, ℕ, ◌+◌, List, [], ◌∷◌, ◌++◌, length, Option, refl, sym, subst, ap, ◌∙◌, append_assoc, append-nil, arith}
 use Rattle.wasm_disassembly.specs.operators.below.bytes.error.Error.{Error}
 use Rattle.wasm_disassembly.specs.operators.below.bytes.features.WasmFeatures.{WasmFeatures}
@@ -30,12 +29,10 @@ added_more features t only place (c ∷ cs) b reported one before mid after at i
       added_more features t only (place + 1) cs b others one between mid after at next later last,
     )
 
--- No function was counted.
 pub adds_none : {S : Type 0} (reports : S → ℕ → Error → S → Type 0) (features : WasmFeatures) (t : ModuleFunctions) (only : Option ℕ) (s : S) →
     Adds reports features t only [] [] s s no_counts
 adds_none reports features t only s = record { added = (refl, refl); reported_all = refl }
 
--- One more function was counted.
 pub adds_more : {S : Type 0} (reports : S → ℕ → Error → S → Type 0) (features : WasmFeatures) (t : ModuleFunctions) (only : Option ℕ) (bs : List Reader) (b : Reader)
     (reported one : Refusals) (at : ℕ) (before mid after : S) (counts more : List ℕ) → at ≡ length bs →
     Adds reports features t only bs reported before mid counts → IsAdded features t only at b one counts more → Reported reports one mid after →

@@ -1,4 +1,3 @@
--- Functions that are requested, and others; and the next body of a section.
 use Rattle.std.proofs.Common.{◌≡◌, ◌+◌, Bool, true, false, Some, Result, Ok, sym, subst, ◌∙◌}
 use Rattle.wasm_disassembly.specs.operators.below.bytes.error.Error.{Error}
 use Rattle.wasm_disassembly.specs.operators.below.FromReader.{ReadsValue, EncodesReader, ReaderFault}
@@ -14,7 +13,6 @@ asked_for A B asked given same is a = subst (λ b. WhereAsked b A B) (sym is ∙
 pub not_asked_for : (A B : Type 0) (asked given : Bool) → asked ≡ given → asked ≡ false → B → WhereAsked given A B
 not_asked_for A B asked given same is b = subst (λ b. WhereAsked b A B) (sym is ∙ same) b
 
--- An item that was read.
 pub item_read : (item : Result Reader Error) (body : Reader) (old new : SectionItems) → item ≡ Ok body →
     StepsSection (EncodesReader old.reader.features) ReaderFault (λ o b n. end_of b ≡ offset_of n) false (Some item) old new →
     (old.refused ≡ false) × (new.refused ≡ false) × (old.remaining ≡ new.remaining + 1) ×
@@ -22,11 +20,9 @@ pub item_read : (item : Result Reader Error) (body : Reader) (old new : SectionI
 item_read item body old new is steps =
     subst (λ (x : Result Reader Error). StepsSection (EncodesReader old.reader.features) ReaderFault (λ o b n. end_of b ≡ offset_of n) false (Some x) old new) is steps
 
--- The property of a requested function.
 pub asked_only : (A B : Type 0) (asked given : Bool) → asked ≡ given → asked ≡ true → WhereAsked given A B → A
 asked_only A B asked given same is requested = subst (λ b. WhereAsked b A B) (sym same ∙ is) requested
 
--- If writing or allocation failed, something may be written.
 pub halts_later : (f : Fault) → IsHalt f → IsLater f
 halts_later (fault.Module _) h = h
 halts_later (fault.NoFunction _) h = h

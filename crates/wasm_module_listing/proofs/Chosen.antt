@@ -1,4 +1,3 @@
--- The disassembly or the operator counts.
 use Rattle.std.proofs.Common.{◌≡◌, ℕ, Bool, true, false, not, refl, List, Option, Err}
 use Rattle.std.specs.Bool.{OnTrue, OnFalse}
 use Rattle.wasm_disassembly.specs.operators.below.bytes.error.Error.{Error}

@@ -11,13 +11,11 @@ use Rattle.wasm_disassembly.specs.operators.below.Sequence.{PrefixCode}
 use Rattle.wasm_disassembly.specs.operators.below.Source.{Reader, rest, offset_of, end_of, at_position, MayFollow, IsRefusal, Reads}
 use Rattle.wasm_module_listing.specs.Listing.{BodiesOccur, IsCode, StopsCode, RefusesCode}
 
--- Nothing follows bytes at their end.
 may_end : (m : Message) → (m ≡ message.OutOfMemory → ⊥) → MayFollow m []
 may_end message.EndOfData h = refl
 may_end message.OutOfMemory h = absurd (h refl)
 may_end _ h = tt
 
--- A value that can be read is not in error.
 pub not_refused : {X : Type 0} (P : List ℕ → X → Type 0) (e : Error) (r b : Reader) (x : X) → IsRefused P false e r → ReadsValue P false (Ok x) r b → ⊥
 not_refused P e r b x refused (text, is, takes) =
     let memory : e.message ≡ message.OutOfMemory → ⊥ = λ m. let h : false ≡ true = (refused.memory m).0 in cc in
@@ -55,7 +53,6 @@ module _ (numbers : PrefixCode (EncodesUnsigned 32)) where
       let same = numbers text other (rest a) (rest b) n m is is_other (sym takes.parts ∙ takes_other.parts) in
       (same.1, takes.moved ∙ ap (λ (z : List ℕ). at_position r (r.position + length z)) same.0 ∙ sym takes_other.moved)
 
-  -- The same bytes are read as the same body, up to the same place.
   one_body : (r mid next b c : Reader) → ReadsValue (EncodesReader r.features) false (Ok b) r mid → ReadsValue (EncodesReader r.features) false (Ok c) r next →
       end_of b ≡ offset_of mid → end_of c ≡ offset_of next → (b ≡ c) × (mid ≡ next)
   one_body r mid next b c (text, (n, body, size, q, number, (f, buffer, start, long)), takes)
@@ -74,7 +71,6 @@ module _ (numbers : PrefixCode (EncodesUnsigned 32)) where
       let starts : b.start ≡ c.start = omega (arith, placed, placed', sizes, ends) in
       (same_reader b c (f ∙ sym f') starts same_buffer (start ∙ sym start'), moved)
 
-  -- The same number of bodies of the same bytes are the same.
   same_bodies : (r : Reader) (bs cs : List Reader) (mid end : Reader) → BodiesOccur r bs mid → BodiesOccur r cs end → length bs ≡ length cs →
       (bs ≡ cs) × (mid ≡ end)
   same_bodies r [] [] mid end a b l = (refl, a ∙ sym b)
@@ -85,7 +81,6 @@ module _ (numbers : PrefixCode (EncodesUnsigned 32)) where
       let more = same_bodies n bs cs mid end others (subst (λ z. BodiesOccur z cs end) (sym first.1) others') (omega (arith, l)) in
       (ap (λ z. z ∷ bs) first.0 ∙ ap (λ zs. c ∷ zs) more.0, more.1)
 
-  -- After fewer bodies, one more body follows.
   one_more : (r : Reader) (bs cs : List Reader) (mid end : Reader) → BodiesOccur r bs mid → BodiesOccur r cs end → length bs < length cs →
       (c : Reader) × (next : Reader) × ReadsValue (EncodesReader mid.features) false (Ok c) mid next
   one_more r bs [] mid end a b l = absurd (omega (arith, l))
@@ -95,7 +90,6 @@ module _ (numbers : PrefixCode (EncodesUnsigned 32)) where
       let first = one_body r n n' b c reads reads' placed placed' in
       one_more n bs cs mid end others (subst (λ z. BodiesOccur z cs end) (sym first.1) others') (omega (arith, l))
 
-  -- A code section is at most one list of bodies.
   pub one_code : (contents : Reader) (first second : List Reader) → IsCode contents first → IsCode contents second → first ≡ second
   one_code contents bs cs a b =
       let same = one_number contents a.first b.first (length bs) (length cs) a.count b.count in
@@ -116,7 +110,6 @@ module _ (numbers : PrefixCode (EncodesUnsigned 32)) where
             left (ap rest ends ∙ h.all)
       ]
 
-  -- A code section with a list of bodies is not in error.
   pub code_not_refused : (contents : Reader) (all before : List Reader) (e : Error) → IsCode contents all → RefusesCode e contents before → ⊥
   code_not_refused contents all before e h (inl (none, refused)) = number_not_refused e contents h.first (length all) refused h.count
   code_not_refused contents all before e h (inr stops) = stops_not contents all before e h stops

@@ -1,4 +1,3 @@
--- A number of 32 bits, and the place of the next body.
 use Rattle.std.proofs.Common.{◌≡◌, ℕ, ◌+◌, ◌<◌, List, [], ◌∷◌, ◌++◌, length, min, arith, length-append}
 use Rattle.wasm_disassembly.specs.operators.below.Number.{EncodesUnsigned}
 

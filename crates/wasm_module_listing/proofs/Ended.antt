@@ -1,4 +1,3 @@
--- The end of reading a code section.
 use Rattle.std.proofs.Common.{◌≡◌, ◌+◌, true, false, List, length, Option, Some, Result, Ok, Err, sym, subst, ap, ◌∙◌, arith, inl, inr}
 use Rattle.wasm_disassembly.specs.operators.below.bytes.error.Error.{Error}
 use Rattle.wasm_disassembly.specs.operators.below.FromReader.{EncodesReader, ReaderFault}

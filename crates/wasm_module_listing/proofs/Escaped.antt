@@ -1,4 +1,3 @@
--- Names as they are shown.
 use Rattle.std.proofs.Common.{◌≡◌, ℕ, zero, suc, ◌+◌, ◌/◌, ◌%◌, ◌<◌, Bool, true, false, List, [], ◌∷◌, length, refl, sym, subst, ap, ◌∙◌, arith, cond}
 use Rattle.std.proofs.lemmas.Bool.{ltb-true, ltb-false}
 use Rattle.std.specs.Prelude.{flat_map, nat_lt, nat_eq}
@@ -76,6 +75,5 @@ escaped_by : (test : Bool) (name : List ℕ) → AreBytes name → All IsShown (
 escaped_by true name bytes = all_shown utf8_byte (λ b small. utf8_by (nat_lt b 32) (nat_eq b 127) b refl refl small) name bytes
 escaped_by false name bytes = all_shown ascii_byte (λ b small. ascii_by (nat_lt b 32) (nat_lt b 127) b refl refl small) name bytes
 
--- A name as it is shown has no control character.
 pub escaped_shown : (name : List ℕ) → AreBytes name → All IsShown (escaped name)
 escaped_shown name bytes = escaped_by (is_utf8 (utf8_name name)) name bytes

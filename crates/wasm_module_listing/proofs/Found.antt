@@ -1,4 +1,3 @@
--- Functions that are requested, and the common parts of two readings of one module.
 use Rattle.std.proofs.Common.{◌≡◌, ◌&&◌, ℕ, ◌+◌, ◌-◌, ◌^◌, Bool, true, false, List, [], ◌∷◌, ◌++◌, length, min, Option, Some, None, refl, subst, ap, ◌∙◌, arith}
 use Rattle.wasm_disassembly.specs.operators.below.bytes.features.WasmFeatures.{WasmFeatures}
 use Rattle.wasm_disassembly.specs.operators.below.Source.{Reader, reader_of}
@@ -13,7 +12,6 @@ both_true true true p q = refl
 both_true true false p q = q
 both_true false b p q = p
 
--- The bodies before the last, and the last.
 pub asked_split : (Is : Reader → Type 0) (t : ModuleFunctions) (only : Option ℕ) (place : ℕ) (bs : List Reader) (b : Reader) (at : ℕ) → at ≡ place + length bs →
     AreAsked Is t only place (bs ++ b ∷ []) → AreAsked Is t only place bs × WhereAsked (is_asked only (index_of t at)) (Is b) (Unit {0})
 asked_split Is t only place [] b at is (one, none) =
@@ -23,7 +21,6 @@ asked_split Is t only place (c ∷ cs) b at is (first, others) =
     let next : at ≡ place + 1 + length cs = is ∙ omega arith in
     let more = asked_split Is t only (place + 1) cs b at next others in ((first, more.0), more.1)
 
--- A module that imports the same number of functions numbers them in the same way.
 same_asked : (Is : Reader → Type 0) (t u : ModuleFunctions) (only : Option ℕ) (place : ℕ) (bs : List Reader) → t.imported ≡ u.imported →
     AreAsked Is t only place bs → AreAsked Is u only place bs
 same_asked Is t u only place [] same h = tt
@@ -46,7 +43,7 @@ OneSection = (whole : Reader) → (id : ℕ) → (a b : Option Reader) → IsSec
 abbrev SameFunctions : Type 0
 SameFunctions = (whole : Reader) → (t u : ModuleFunctions) → DescribesFunctions whole t → DescribesFunctions whole u → (t.imported ≡ u.imported) × (t.types ≡ u.types)
 
--- If each requested function of a module has a body with the property, the functions at which it was opened have it.
+-- The functions at which a module was opened have the property.
 pub asked_there : OneSection → SameFunctions → (Is : Reader → Type 0) (features : WasmFeatures) (only : Option ℕ) (bytes : List ℕ) (t : ModuleFunctions)
     (code : Option Reader) → OpensModule features only bytes t code → IsModuleOf Is features only bytes → HasAsked Is t only code
 asked_there one_section same_functions Is features only bytes t code o h =
@@ -55,7 +52,6 @@ asked_there one_section same_functions Is features only bytes t code o h =
     let same = same_functions whole h.functions t h.opens.described o.described in
     subst (λ c. HasAsked Is t only c) found (same_found Is h.functions t only h.code same.0 h.bodies)
 
--- Then the only fault is an allocation failure.
 pub refused_outside : SameFunctions → (Is : Reader → Type 0) (features : WasmFeatures) (only : Option ℕ) (bytes : List ℕ) (f : Fault) →
     RefusesModule features only bytes f → IsModuleOf Is features only bytes → IsOutside f
 refused_outside same_functions Is features only bytes (fault.Module f) refuses h = refuses.1 h.functions h.opens.described

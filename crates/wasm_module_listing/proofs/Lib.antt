@@ -12,3 +12,4 @@ pub mod Modules
 pub mod Chosen
 pub mod Texts
 pub mod Shown
+pub mod Cuts

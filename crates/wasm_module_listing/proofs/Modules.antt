@@ -1,4 +1,3 @@
--- The code section of a module, listed and counted.
 use Rattle.std.proofs.Common.{ℕ, Bool, true, refl, List, Option, Some, None, Result, Ok, Err, IfErr}
 use Rattle.std.specs.Io.KnownBytes.{Appends}
 use Rattle.wasm_disassembly.specs.operators.below.bytes.error.Error.{Error}
@@ -46,7 +45,6 @@ counts_module reports features only bytes t contents (Err (fault.Section e)) bef
 counts_module reports features only bytes t contents (Err fault.Writing) before after opens counts later = tt
 counts_module reports features only bytes t contents (Err fault.Memory) before after opens counts later = tt
 
--- If a module is in error, nothing is written, and nothing is counted.
 pub lists_refused : {S : Type 0} (reports : S → ℕ → Error → S → Type 0) (features : WasmFeatures) (only : Option ℕ) (file : Option (List ℕ)) (bytes : List ℕ) (f : Fault) (s : S)
     (written : Option (List ℕ)) → RefusesModule features only bytes f → ListsModule reports features only file bytes (Err f) s s written written
 lists_refused reports features only file bytes (fault.Module f) s written refuses = (refuses, refl)

@@ -1,4 +1,3 @@
--- Sections whose lines are written, and one more.
 use Rattle.std.proofs.Common.{◌≡◌, ℕ, ◌+◌, ◌<◌, List, [], ◌∷◌, ◌++◌, length, Option, Result, Ok, Err, IfErr, refl, sym, subst, ap, ◌∙◌, append_assoc, append-nil, length-append, arith}
 use Rattle.std.specs.Io.KnownBytes.{Appends}
 use Rattle.wasm_disassembly.specs.operators.below.bytes.features.WasmFeatures.{WasmFeatures}
@@ -12,13 +11,12 @@ use Rattle.wasm_module_listing.specs.Headers.{HasDetail, section_line, AreShown,
 use Rattle.wasm_module_listing.specs.Listing.{IsHalt, heading_of}
 use Rattle.wasm_module_listing.proofs.Bodies.{appends_both, appends_none}
 
-one_more : (r : Reader) (ss : List SectionParts) (mid new : Reader) (s : SectionParts) → SectionsOccur r ss mid →
+pub one_more : (r : Reader) (ss : List SectionParts) (mid new : Reader) (s : SectionParts) → SectionsOccur r ss mid →
     Reads (EncodesSection mid.features) (Ok s) mid new → end_of s.contents ≡ offset_of new → SectionsOccur r (ss ++ s ∷ []) new
 one_more r [] mid new s same reads placed =
     (new, subst (λ z. Reads (EncodesSection z.features) (Ok s) z new) same reads, placed, refl)
 one_more r (t ∷ ts) mid new s (next, first, occurs, others) reads placed = (next, first, occurs, one_more next ts mid new s others reads placed)
 
--- A section has at least one byte.
 pub shorter : (r new : Reader) (s : SectionParts) → Reads (EncodesSection r.features) (Ok s) r new → length (rest new) < length (rest r)
 shorter r new s (text, (a, b, parts, is, after), takes) =
     let long : length text ≡ length a + length b = ap length parts ∙ length-append a b in
@@ -51,7 +49,7 @@ shows_more first mid new s d old between after h reads placed has wrote = record
   appends = appends_both old between after h.text (section_line s d) h.appends wrote;
 }
 
--- A fact about both faults that say nothing about the module.
+-- A fact about `Memory` and `Writing`.
 pub at_halt : (P : Fault → Type 0) (f : Fault) → IsHalt f → P fault.Memory → P fault.Writing → P f
 at_halt P (fault.Module f) halts memory writing = absurd halts
 at_halt P (fault.NoFunction i) halts memory writing = absurd halts
@@ -60,7 +58,6 @@ at_halt P (fault.Code e) halts memory writing = absurd halts
 at_halt P fault.Writing halts memory writing = writing
 at_halt P fault.Memory halts memory writing = memory
 
--- The sections are listed after a heading.
 pub headers_listed : {X : Type 0} (features : WasmFeatures) (file : Option (List ℕ)) (bytes : List ℕ) (r : Result X Fault) (after : Reader) (name : List ℕ)
     (old titled new : Option (List ℕ)) → BeginsModule (reader_of features 0 bytes) after → IsNameOf (reader_of features 0 bytes) name →
     Appends old titled (heading_of file name sections_heading) → ListsSections after r titled new → IfErr r (λ f. IsSectionFault f) →

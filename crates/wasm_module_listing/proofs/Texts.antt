@@ -1,4 +1,3 @@
--- The text of a function.
 use Rattle.std.proofs.Common.{◌≡◌, ℕ, List, Option, Ok, Err, subst, ap, ◌∙◌}
 use Rattle.std.specs.Io.KnownBytes.{Appends}
 use Rattle.wasm_disassembly.specs.operators.below.bytes.error.Error.{Error}
@@ -15,7 +14,6 @@ pub same_heading : (i j : ℕ) (a b : List (List ℕ)) (n m : ℕ) → i ≡ j �
 same_heading i j a b n m index names parameters =
     ap (λ z. heading_by z a n) index ∙ ap (λ z. heading_by j z n) names ∙ ap (λ z. heading_by j b z) parameters
 
--- The text with the heading that the module determines.
 pub text_whole : (h k : Heading) (body : Reader) (old new : Option (List ℕ)) → h ≡ k → Disassembles {X = Unit {0}} h (Ok tt) body old new →
     (text : List ℕ) × Appends old new text × IsText {X = Unit {0}} k (Ok tt) body text
 text_whole h k body old new same (text, appends, whole) = (text, appends, subst (λ z. IsText {X = Unit {0}} z (Ok tt) body text) same whole)
@@ -26,6 +24,5 @@ text_part h k f e body old new same is disassembles =
     let (text, appends, part) = subst (λ z. Disassembles {X = Unit {0}} h (Err z) body old new) is disassembles in
     (text, appends, subst (λ z. IsText {X = Unit {0}} z (Err e) body text) same part)
 
--- An error of the bytes is no fault of allocation or the writer.
 pub no_halt : (P : Type 0) (f : DisassemblyFault) (e : Error) → f ≡ disassembly_fault.Refused e → IsHalt f → P
 no_halt P f e is halts = absurd (subst IsHalt is halts)

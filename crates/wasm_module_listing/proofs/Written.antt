@@ -1,4 +1,3 @@
--- Functions that were written, and one more.
 use Rattle.std.proofs.Common.{◌≡◌, ℕ, ◌+◌, List, [], ◌∷◌, ◌++◌, length, Option, refl, sym, subst, ap, ◌∙◌, append_assoc, append-nil, arith}
 use Rattle.std.specs.Io.KnownBytes.{Appends}
 use Rattle.wasm_disassembly.specs.operators.below.bytes.error.Error.{Error}
@@ -33,12 +32,10 @@ written_more t only place (c ∷ cs) b reported one text own at is (first, other
       written_more t only (place + 1) cs b others one more own at next after last,
     )
 
--- No function was written.
 pub writes_none : {S : Type 0} (reports : S → ℕ → Error → S → Type 0) (t : ModuleFunctions) (only : Option ℕ) (s : S) (old : Option (List ℕ)) →
     Writes reports t only [] [] s s old old
 writes_none reports t only s old = record { text = []; written = (refl, refl); appends = appends_none old; reported_all = refl }
 
--- One more function was written.
 pub writes_more : {S : Type 0} (reports : S → ℕ → Error → S → Type 0) (t : ModuleFunctions) (only : Option ℕ) (bs : List Reader) (b : Reader) (reported one : Refusals)
     (own : List ℕ) (at : ℕ) (before mid after : S) (old between new : Option (List ℕ)) → at ≡ length bs →
     Writes reports t only bs reported before mid old between → IsWritten t only at b one own → Reported reports one mid after → Appends between new own →

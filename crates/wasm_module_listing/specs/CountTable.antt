@@ -1,4 +1,3 @@
--- The operator counts of a module as a table: a line for each proposal whose operators occur, the largest count first.
 use Rattle.std.specs.Prelude.{◌==◌, ℕ, ◌+◌, ◌-◌, ◌^◌, List, [], ◌∷◌, ◌++◌, IsPermutation, IsSorted, codes, flat_map, if◌then◌else◌, slice_index_or}
 use Rattle.std.specs.Fmt.{styled_decimal, format_spec}
 use Rattle.std.specs.Ordering.{nat_cmp, ordering_then}
@@ -6,16 +5,16 @@ use Rattle.std.specs.declared.cmp.Ordering.{Ordering}
 use Rattle.std.specs.declared.cmp.Reverse.{Reverse}
 use Rattle.wasm_listing.specs.Census.{proposals}
 
--- A row: the number of operators, and the place of the proposal that introduced them.
+-- A count, and its proposal's index in `proposals`.
 abbrev pub Row : Type 0
 Row = Reverse ℕ × ℕ
 
--- The counts that are not 0, each with its place, from a place on.
+-- The counts above 0, each with its index, which is `place` for the first.
 abbrev pub rows_from : ℕ → List ℕ → List Row
 rows_from place [] = []
 rows_from place (n ∷ ns) = (if n == 0 then [] else (record { 0 = n }, place) ∷ []) ++ rows_from (place + 1) ns
 
--- The larger count comes first; of equal counts, the one whose proposal is listed first.
+-- The larger count comes first; of equal counts, the first in the order of proposals.
 abbrev pub row_cmp : Row → Row → Ordering
 row_cmp a b = ordering_then (nat_cmp b.0.0 a.0.0) (nat_cmp a.1 b.1)
 
@@ -24,11 +23,11 @@ pub record IsTable (counts : List ℕ) (rows : List Row) : Type 0 where
   pub same : IsPermutation (rows_from 0 counts) rows
   pub falls : IsSorted row_cmp rows
 
--- A number in decimal, aligned right in at least twelve columns.
+-- A number in decimal, aligned right in twelve columns.
 abbrev pub at_right : ℕ → List ℕ
 at_right n = styled_decimal (format_spec 32 3 0 12 (2 ^ 64 - 1)) n
 
--- The line of a row: its count, and the name of its proposal.
+-- A count, and the name of its proposal.
 abbrev pub row_text : Row → List ℕ
 row_text r = at_right r.0.0 ++ (codes " " ++ (slice_index_or proposals r.1 [] ++ codes "\n"))
 

@@ -1,30 +1,29 @@
--- Names as they are shown: without control characters, and as UTF-8.
 use Rattle.std.specs.Prelude.{◌≡◌, ◌≢◌, ◌==◌, ◌<◌, ◌≤◌, ℕ, ◌/◌, ◌%◌, List, [], ◌∷◌, nat_lt, flat_map, map, if◌then◌else◌}
 use Rattle.std.specs.List.{All}
 use Rattle.std.specs.Str.{is_utf8}
 use Rattle.wasm_disassembly.specs.lines.text.Values.{byte_text}
 
--- A byte as a backslash and two hexadecimal digits, as in the strings of the text format.
+-- A backslash and two hexadecimal digits, as in the strings of the text format.
 abbrev pub escape : ℕ → List ℕ
 escape byte = 92 ∷ byte_text byte
 
--- A byte as it is shown in UTF-8: a control character, which is a byte below 0x20 or 0x7f, is escaped.
+-- A byte as shown in UTF-8: bytes below 0x20 and 0x7f are escaped.
 abbrev pub utf8_byte : ℕ → List ℕ
 utf8_byte byte = if nat_lt byte 32 then escape byte else (if byte == 127 then escape byte else byte ∷ [])
 
--- A byte as it is shown in ASCII: bytes from 0x80 on are escaped too.
+-- A byte as shown in ASCII: bytes from 0x80 on are escaped too.
 abbrev pub ascii_byte : ℕ → List ℕ
 ascii_byte byte = if nat_lt byte 32 then escape byte else (if nat_lt byte 127 then byte ∷ [] else escape byte)
 
--- A name as it is shown in UTF-8.
+-- A name as shown in UTF-8.
 abbrev pub utf8_name : List ℕ → List ℕ
 utf8_name name = flat_map utf8_byte name
 
--- A name as it is shown: in UTF-8 if that is possible, otherwise in ASCII.
+-- A name as shown in UTF-8 if that is possible, otherwise in ASCII.
 abbrev pub escaped : List ℕ → List ℕ
 escaped name = if is_utf8 (utf8_name name) then utf8_name name else flat_map ascii_byte name
 
--- Each name as it is shown.
+-- Each name as shown.
 abbrev pub all_escaped : List (List ℕ) → List (List ℕ)
 all_escaped names = map escaped names
 

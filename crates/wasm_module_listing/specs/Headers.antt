@@ -1,5 +1,4 @@
--- The sections of a module, a line for each. The form is that of `wasm-objdump -h` of wabt.
--- WebAssembly Core Specification 3.0, Binary Format, Modules: Sections.
+-- The form is that of `wasm-objdump -h` of wabt. Specification: Binary Format, Modules: Sections.
 use Rattle.std.specs.Prelude.{◌≡◌, ◌==◌, ◌⊎◌, ℕ, ◌+◌, ◌/◌, ◌%◌, ◌^◌, ltb, nat_lt, false, List, [], ◌∷◌, ◌++◌, length, Option, Result, Ok, Err, codes, decimal, if◌then◌else◌}
 use Rattle.std.specs.Fmt.{radix_digits}
 use Rattle.std.specs.Io.KnownBytes.{Appends}
@@ -20,7 +19,7 @@ use Rattle.wasm_module_listing.specs.declared.headers.Detail.TheVariants as deta
 use Rattle.wasm_module_listing.specs.Escapes.{escaped}
 use Rattle.wasm_module_listing.specs.Listing.{heading_of, IsHalt}
 
--- The name of the sections with a number, aligned right in nine columns.
+-- The name of a section number, aligned right in nine columns.
 abbrev pub section_name : ℕ → List ℕ
 section_name id =
     if id == 0 then codes "   Custom" else (if id == 1 then codes "     Type" else (if id == 2 then codes "   Import" else
@@ -29,31 +28,31 @@ section_name id =
     (if id == 9 then codes "     Elem" else (if id == 10 then codes "     Code" else (if id == 11 then codes "     Data" else
     (if id == 12 then codes "DataCount" else (if id == 13 then codes "      Tag" else codes "  Unknown")))))))))))))
 
--- A number in hexadecimal, with at least eight digits.
+-- A number in hexadecimal, of at least eight digits.
 abbrev pub hex_text : ℕ → List ℕ
 hex_text n =
     if ltb n (2 ^ 32)
     then byte_text (n / 2 ^ 24) ++ (byte_text (n / 2 ^ 16 % 2 ^ 8) ++ (byte_text (n / 2 ^ 8 % 2 ^ 8) ++ byte_text (n % 2 ^ 8)))
     else radix_digits 16 false n
 
--- The contents of a section: the offset of the first byte, the offset after the last, and the number of bytes.
+-- Where the contents start and end, and their size.
 abbrev pub range_text : Reader → List ℕ
 range_text contents =
     codes " start=0x" ++ (hex_text (offset_of contents) ++ (codes " end=0x" ++ (hex_text (end_of contents) ++
     (codes " (size=0x" ++ (hex_text (length (rest contents)) ++ codes ") ")))))
 
--- What the line of a section says about its contents: the name of a custom section, the start function, or the number of its items.
+-- The name of a custom section, the start function, or the number of items.
 abbrev pub detail_text : Detail → List ℕ
 detail_text (detail.Custom name) = codes "\"" ++ (escaped name.now ++ codes "\"")
 detail_text (detail.Start index) = codes "start: " ++ decimal index
 detail_text (detail.Count number) = codes "count: " ++ decimal number
 detail_text (detail.Unknown id) = codes "id: " ++ decimal id
 
--- A section whose contents begin with a number: each of the standard's, except custom sections.
+-- 1 for a section whose contents begin with a number, 0 for a custom section, 2 for an unknown one.
 abbrev pub is_numbered : ℕ → ℕ
 is_numbered id = if id == 0 then 0 else (if nat_lt id 14 then 1 else 2)
 
--- What the contents of a section say, or the error of its name or number.
+-- What the contents say, or the error of their name or number.
 abbrev pub HasDetail : SectionParts → Result Detail Error → Type 0
 HasDetail s (Ok (detail.Custom name)) = (s.id ≡ 0) × (after : Reader) × Reads EncodesName (Ok name.now) s.contents after
 HasDetail s (Ok (detail.Start index)) = (s.id ≡ 8) × (after : Reader) × Reads (EncodesUnsigned 32) (Ok index) s.contents after
@@ -70,7 +69,7 @@ abbrev pub AreShown : List SectionParts → List ℕ → Type 0
 AreShown [] text = text ≡ []
 AreShown (s ∷ ss) text = (d : Detail) × HasDetail s (Ok d) × (more : List ℕ) × (text ≡ section_line s d ++ more) × AreShown ss more
 
--- From the first reader on, the bytes are these sections, whose lines are appended. The second reader is after them.
+-- Between the two readers are these sections, whose lines are appended.
 pub record ShowsSections (first next : Reader) (old new : Option (List ℕ)) : Type 0 where
   pub sections : List SectionParts
   pub occur : SectionsOccur first sections next
@@ -78,24 +77,25 @@ pub record ShowsSections (first next : Reader) (old new : Option (List ℕ)) : T
   pub shown : AreShown sections text
   pub appends : Appends old new text
 
--- The next section is in error: it is no section, or its contents do not begin as they have to.
+-- The next section, its name or its number is in error.
 abbrev pub StopsSections : Error → Reader → Type 0
 StopsSections e next =
     IsRefusal (EncodesSection next.features) e next ⊎
     ((s : SectionParts) × (later : Reader) × Reads (EncodesSection next.features) (Ok s) next later × HasDetail s (Err e))
 
--- The lines of all sections are appended, or of those before an error. If writing or allocation failed, nothing is said here.
+-- The lines of all sections are appended, or of those before an error, unless writing or allocation
+-- failed.
 abbrev pub ListsSections : {X : Type 0} → Reader → Result X Fault → Option (List ℕ) → Option (List ℕ) → Type 0
 ListsSections first (Ok x) old new = (next : Reader) × ShowsSections first next old new × (rest next ≡ [])
 ListsSections first (Err (fault.Section e)) old new = (next : Reader) × ShowsSections first next old new × StopsSections e next
 ListsSections first (Err _) old new = Unit {0}
 
--- The faults of listing sections: one is in error, or writing or allocation failed.
+-- A section in error, or a failure of writing or allocation.
 abbrev pub IsSectionFault : Fault → Type 0
 IsSectionFault (fault.Section e) = Unit {0}
 IsSectionFault f = IsHalt f
 
--- The name of a module, which is empty for bytes that are none.
+-- The name of a module, or no bytes.
 abbrev pub IsNameOf : Reader → List ℕ → Type 0
 IsNameOf whole name =
     ((sections : List SectionParts) → IsModule whole sections → NamesModule whole name) ×
@@ -104,7 +104,7 @@ IsNameOf whole name =
 abbrev pub sections_heading : List ℕ
 sections_heading = codes "\nSections:\n\n"
 
--- A heading is appended, and the lines of the sections of a module.
+-- A heading and the lines of the sections are appended.
 pub record WritesSections {X : Type 0} (whole : Reader) (file : Option (List ℕ)) (result : Result X Fault) (old new : Option (List ℕ)) : Type 0 where
   pub after : Reader
   pub begins : BeginsModule whole after
@@ -114,7 +114,8 @@ pub record WritesSections {X : Type 0} (whole : Reader) (file : Option (List ℕ
   pub title : Appends old titled (heading_of file name sections_heading)
   pub lists : ListsSections after result titled new
 
--- The sections of a module are listed, up to an error; or the bytes do not begin with the preamble of a module, and nothing is written.
+-- The sections are listed up to an error, or the bytes do not begin with a module's preamble and
+-- nothing is written.
 abbrev pub ListsHeaders : {X : Type 0} → WasmFeatures → Option (List ℕ) → List ℕ → Result X Fault → Option (List ℕ) → Option (List ℕ) → Type 0
 ListsHeaders features file bytes (Ok x) old new = WritesSections (reader_of features 0 bytes) file (Ok x) old new
 ListsHeaders {X} features file bytes (Err (fault.Section e)) old new = WritesSections {X = X} (reader_of features 0 bytes) file (Err (fault.Section e)) old new

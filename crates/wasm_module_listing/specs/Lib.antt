@@ -3,3 +3,4 @@ pub mod Listing
 pub mod CountTable
 pub mod ModuleCensus
 pub mod Headers
+pub mod Cut

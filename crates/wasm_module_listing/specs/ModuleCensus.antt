@@ -1,4 +1,3 @@
--- The operators of a module, counted by the proposals that introduced them.
 use Rattle.std.specs.Prelude.{◌≡◌, ◌⊎◌, ℕ, ◌+◌, ◌-◌, ◌^◌, Bool, List, [], ◌∷◌, ◌++◌, Option, Some, None, Result, Ok, Err, min, replicate, true}
 use Rattle.wasm_disassembly.specs.operators.below.bytes.error.Error.{Error}
 use Rattle.wasm_disassembly.specs.operators.below.bytes.features.WasmFeatures.{WasmFeatures}
@@ -21,22 +20,23 @@ abbrev pub add_counts : List ℕ → List ℕ → List ℕ
 add_counts (a ∷ more) (b ∷ others) = min (a + b) (2 ^ 64 - 1) ∷ add_counts more others
 add_counts _ _ = []
 
--- An error of bytes at offset 0, for the same bytes at another offset.
+-- The error, if the bytes start at `offset` instead of 0. Its offset is at most 2^64 - 1.
 abbrev pub moved : ℕ → Error → Error
 moved offset e = record { message = e.message; offset = min (offset + e.offset) (2 ^ 64 - 1) }
 
--- The effect of a body on the counts: its counts are added, or its error is reported and nothing is added.
+-- A body's counts are added, or its error is reported.
 abbrev pub AddsBody : WasmFeatures → ℕ → Reader → Refusals → List ℕ → List ℕ → Type 0
 AddsBody features index body reported before after =
     ((added : List ℕ) × Counts (input_of features (rest body)) (Ok added) × (after ≡ add_counts before added) × (reported ≡ [])) ⊎
     ((e : Error) × Counts (input_of features (rest body)) (Err (dump.Refused e)) × (after ≡ before) × (reported ≡ (index, moved (offset_of body) e) ∷ []))
 
--- The effect of the function at a place on the counts: nothing if it is not requested.
+-- As `AddsBody`, for the defined function with the ordinal `place`, if it is requested; otherwise
+-- nothing changes.
 abbrev pub IsAdded : WasmFeatures → ModuleFunctions → Option ℕ → ℕ → Reader → Refusals → List ℕ → List ℕ → Type 0
 IsAdded features t only place body reported before after =
     WhereAsked (is_asked only (index_of t place)) (AddsBody features (index_of t place) body reported before after) ((reported ≡ []) × (after ≡ before))
 
--- The effect of these functions on the counts, from a place on, one after another, and the reports.
+-- As `IsAdded`, for these bodies; `place` is the ordinal of the first.
 abbrev pub AreAdded : WasmFeatures → ModuleFunctions → Option ℕ → ℕ → List Reader → Refusals → List ℕ → List ℕ → Type 0
 AreAdded features t only place [] reported before after = (reported ≡ []) × (after ≡ before)
 AreAdded features t only place (b ∷ bs) reported before after =
@@ -46,14 +46,13 @@ AreAdded features t only place (b ∷ bs) reported before after =
 abbrev pub no_counts : List ℕ
 no_counts = replicate 19 0
 
--- The first functions of a module, with these bodies, were counted and their errors reported.
+-- The functions with these bodies were counted and their errors reported.
 pub record Adds {S : Type 0} (reports : S → ℕ → Error → S → Type 0) (features : WasmFeatures) (t : ModuleFunctions) (only : Option ℕ) (bodies : List Reader)
     (reported : Refusals) (before after : S) (counts : List ℕ) : Type 0 where
   pub added : AreAdded features t only 0 bodies reported no_counts counts
   pub reported_all : Reported reports reported before after
 
--- The functions of a code section are counted, and the result is whether none has an error.
--- Or the section is in error, after the functions before the error. About the other faults nothing is said here.
+-- The functions are counted up to an error of the section. Nothing is said of other faults.
 abbrev pub CountsCode : {S : Type 0} → (S → ℕ → Error → S → Type 0) → WasmFeatures → ModuleFunctions → Option ℕ → Reader → Result ModuleCounts Fault → S → S → Type 0
 CountsCode reports features t only contents (Ok found) before after =
     (bodies : List Reader) × IsCode contents bodies × (reported : Refusals) × Adds reports features t only bodies reported before after found.counts ×
@@ -63,7 +62,8 @@ CountsCode reports features t only contents (Err (fault.Code e)) before after =
     Adds reports features t only bodies reported before after counts
 CountsCode reports features t only contents (Err _) before after = Unit {0}
 
--- The same for a module with a code section or without.
+-- As `CountsCode`, if the module has a code section, with these contents. Without one, the counts
+-- are 0.
 abbrev pub CountsFound : {S : Type 0} → (S → ℕ → Error → S → Type 0) → WasmFeatures → ModuleFunctions → Option ℕ → Option Reader → Result ModuleCounts Fault → S → S →
     Type 0
 CountsFound reports features t only (Some contents) result before after = CountsCode reports features t only contents result before after
@@ -78,8 +78,8 @@ pub record CountsOf {S : Type 0} (reports : S → ℕ → Error → S → Type 0
   pub opens : OpensModule features only bytes functions code
   pub counts : CountsFound reports features functions only code result before after
 
--- The operator counts of a module: it is counted, or its code section is in error after the functions that were counted, or nothing is counted.
--- If reporting failed, or allocation after the start, nothing is said here.
+-- A module is counted, up to an error of its code section, or nothing is. Nothing is said if
+-- reporting failed, or allocation after the start.
 abbrev pub CountsModule : {S : Type 0} → (S → ℕ → Error → S → Type 0) → WasmFeatures → Option ℕ → List ℕ → Result ModuleCounts Fault → S → S → Type 0
 CountsModule reports features only bytes (Ok found) before after = CountsOf reports features only bytes (Ok found) before after
 CountsModule reports features only bytes (Err (fault.Code e)) before after = CountsOf reports features only bytes (Err (fault.Code e)) before after
@@ -91,12 +91,12 @@ CountsModule reports features only bytes (Err f) before after = RefusesModule fe
 abbrev pub IsCounted : WasmFeatures → Reader → Type 0
 IsCounted features body = (declarations : List Declaration) × (placed : Placed) × IsBody (input_of features (rest body)) declarations placed
 
--- All functions are counted and none has an error, unless reporting or allocation failed.
+-- No function has an error, unless reporting or allocation failed.
 abbrev pub CountsAll : Result ModuleCounts Fault → Type 0
 CountsAll (Ok found) = found.whole ≡ true
 CountsAll (Err f) = IsOutside f
 
--- The operator counts of a module as a table, which is written if the module is counted.
+-- The counts are written as a table if the module is counted.
 abbrev pub TabulatesModule : {S : Type 0} → (S → ℕ → Error → S → Type 0) → WasmFeatures → Option ℕ → List ℕ → Result Bool Fault → S → S → Option (List ℕ) →
     Option (List ℕ) → Type 0
 TabulatesModule reports features only bytes (Ok whole) before after old new =

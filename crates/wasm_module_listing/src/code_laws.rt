@@ -6,7 +6,7 @@ ghost use Rattle.wasm_module_listing.specs.Listing.{IsCode, RefusesCode};
 
 use wasm_disassembly::operators::byte_laws::unsigned_numbers;
 
-/// States that the contents of a code section have at most one list of bodies.
+/// States that a code section has at most one list of bodies.
 pub fn one_list()
     ensures { (contents : Reader) → (first second : List Reader) → IsCode contents first → IsCode contents second
         → first ≡ second }
@@ -14,7 +14,7 @@ pub fn one_list()
     unsigned_numbers();
 }
 
-/// States that contents with such a list are not in error.
+/// States that a code section that has a list of bodies is not in error.
 pub fn no_refusal()
     ensures { (contents : Reader) → (all before : List Reader) → (e : Error) → IsCode contents all
         → RefusesCode e contents before → ⊥ }

@@ -1,14 +1,12 @@
-//! Reports of functions with errors.
 ghost use Rattle.std.specs.Prelude.{ℕ, IfOk};
 ghost use Rattle.wasm_disassembly.specs.operators.below.bytes.error.Error.{Error};
 
 use std::io;
 use wasm_disassembly::operators::Error;
 
-/// A receiver of the reports of functions with errors.
+/// Receives the errors of functions.
 pub trait Complaints {
-    // The relation between the states before and after the error of the function with an index is
-    // reported.
+    // The states before and after a report.
     ghost reports: { Self → ℕ → Error → Self → Type 0 };
 
     /// Reports the error of the function with this index.

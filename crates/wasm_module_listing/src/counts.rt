@@ -1,4 +1,3 @@
-//! The number of operators of each proposal in the functions of a code section.
 ghost use Rattle.std.specs.Prelude.{◌≡◌, true, List, IfOk, IfErr};
 ghost use Rattle.wasm_disassembly.specs.operators.below.Source.{Reader, offset_of};
 ghost use Rattle.wasm_functions.specs.ModuleFunctions.{index_of};
@@ -16,12 +15,10 @@ use wasm_disassembly::operators::{
 use wasm_functions::Functions;
 use wasm_listing::{DumpFault, census};
 
-/// The number of operators of each proposal in the functions of a module, and whether no function
-/// has an error. The order is that of `census` of `wasm_listing`. Operators of a function with an
-/// error are not counted.
+/// The operator counts of a module, in the order of `census` of `wasm_listing`. Operators of a
+/// function with an error are not counted.
 #[derive(Clone, Copy, Debug, PartialEq, Eq)]
 pub struct ModuleCounts {
-    /// The counts.
     pub counts: [u64; 19],
     /// Whether no function has an error.
     pub whole: bool,
@@ -49,7 +46,7 @@ fn add(counts: &mut [u64; 19], more: &[u64; 19])
     }
 }
 
-/// Moves an error of the bytes of a body to the offset of the module.
+/// Returns the error with its offset in the module instead of the body.
 fn moved(body: &FunctionBody<'_>, error: Error) -> Error
     ensures { result ≡ moved (offset_of body.now) error }
 {
@@ -57,8 +54,8 @@ fn moved(body: &FunctionBody<'_>, error: Error) -> Error
     Error::new(error.message(), start.saturating_add(error.offset()))
 }
 
-/// Adds the counts of the function at a place, if it is requested. Returns whether it has no error;
-/// reports the error otherwise.
+/// Adds the counts of a function, if it is requested. Reports its error, and returns whether there
+/// is none.
 fn count_asked<C: Complaints>(
     alloc: Global,
     features: WasmFeatures,
@@ -94,10 +91,10 @@ fn count_asked<C: Complaints>(
 }
 
 #[tactic(auto, using(crate::proofs::Asked::halts_later))]
-/// Counts the operators of the functions of a code section, or of the function with an index.
-/// Reports each function with an error, and counts the others.
+/// Counts the operators of all functions, or of one. Reports functions with errors and counts the
+/// others.
 ///
-/// Fails with `Code` if the section itself is in error.
+/// Fails with `Code` if the section is in error.
 pub fn count_code<C: Complaints>(
     alloc: Global,
     features: WasmFeatures,

@@ -1,4 +1,3 @@
-//! The faults of listing a module.
 ghost use Rattle.std.specs.Prelude.{◌≡◌};
 ghost use Rattle.wasm_module_listing.specs.Listing.{status_of};
 
@@ -6,19 +5,18 @@ use std::fmt;
 use wasm_disassembly::operators::Error;
 use wasm_functions::ModuleFault;
 
-/// A function that a module does not define, and the functions that it has.
+/// A function that a module does not define.
 #[derive(Clone, Copy, Debug, PartialEq, Eq)]
 pub struct MissingFunction {
     /// The index of the function.
     pub index: u32,
-    /// The number of imported functions, which have the indices before those of the defined
-    /// functions.
+    /// The number of imported functions, which come first.
     pub imported: u32,
     /// The number of functions that the module defines.
     pub defined: usize,
 }
 
-/// The reason why a module was not listed or counted completely.
+/// Why a module was not listed or counted completely.
 #[derive(Clone, Copy, Debug, PartialEq, Eq)]
 pub enum Fault {
     /// The functions of the module can't be read. Nothing is written.

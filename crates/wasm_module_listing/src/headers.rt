@@ -1,4 +1,3 @@
-//! The sections of a module, a line for each.
 ghost use Rattle.std.specs.Prelude.{◌≡◌, ◌++◌, ◌+◌, ◌/◌, ◌%◌, ◌^◌, IfErr, OnOk, codes, length, string_bytes};
 ghost use Rattle.std.specs.Io.KnownBytes.{Appends};
 ghost use Rattle.wasm_disassembly.specs.operators.below.Source.{offset_of, end_of, rest};
@@ -28,7 +27,7 @@ pub enum Detail<'a> {
     Unknown(u8),
 }
 
-/// Returns the name of the sections with a number, aligned right in nine columns.
+/// Returns the name of a section number, aligned right in nine columns.
 fn section_name(id: u8) -> &'static str
     ensures { result.now ≡ section_name id }
 {
@@ -51,7 +50,7 @@ fn section_name(id: u8) -> &'static str
     }
 }
 
-/// Writes a number in hexadecimal, with at least eight digits.
+/// Writes a number in hexadecimal, of at least eight digits.
 fn write_hex(out: &mut String, number: u64) -> Written
     ensures { OnOk result (string_bytes out.new ≡ string_bytes out.old ++ hex_text number) }
 {
@@ -64,7 +63,7 @@ fn write_hex(out: &mut String, number: u64) -> Written
     write_byte(out, (number % 0x100) as u8)
 }
 
-/// Writes where the contents of a section start and end, and their size.
+/// Writes where the contents start and end, and their size.
 fn write_range(out: &mut String, contents: &BinaryReader<'_>) -> Written
     ensures { OnOk result (string_bytes out.new ≡ string_bytes out.old ++ range_text contents.now) }
 {
@@ -94,9 +93,7 @@ fn write_detail(alloc: Global, out: &mut String, detail: Detail<'_>) -> Written
     }
 }
 
-/// Returns what the contents of a section say.
-///
-/// Fails as the name of a custom section or the number at the start of another section does.
+/// Returns what the contents of a section say. Fails with the error of its name or number.
 fn detail_of<'a>(section: &Section<'a>) -> Result<Detail<'a>, Error>
     ensures { HasDetail section.now result }
 {
@@ -123,7 +120,7 @@ fn detail_of<'a>(section: &Section<'a>) -> Result<Detail<'a>, Error>
     }
 }
 
-/// Writes the line of a section into `out`.
+/// Appends the line of a section.
 fn push_section(
     alloc: Global,
     out: &mut String,
@@ -156,9 +153,9 @@ fn write_section<W: Write>(
     write_text(writer, line.as_str())
 }
 
-/// Writes a line for each section, from the reader's position on.
+/// Writes a line for each section.
 ///
-/// Fails with `Section` at a section that can't be read, after the lines of the sections before it.
+/// Fails with `Section` at the first section that can't be read.
 pub fn list_sections<W: Write>(
     alloc: Global,
     sections: BinaryReader<'_>,

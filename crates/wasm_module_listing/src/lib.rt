@@ -1,18 +1,17 @@
-//! A complete module: the texts of its functions, one after another, its operator counts, and its
-//! sections.
+//! A complete module: its functions as text, its operator counts, and its sections.
 //!
-//! The main theorem of this crate is the contract of [`run`], for any writer. It combines the
-//! contracts of [`list_module`], [`count_module`] and [`write_table`]. [`list_headers`] has a
-//! contract of its own.
+//! The main theorems are the contracts of [`run`] and [`list_headers`].
 //!
-//! Every call that allocates may fail. Before anything is written it fails with
-//! `Module(ModuleFault::Memory)`; with `Memory`, an unspecified part may have been written.
+//! Every call that allocates may fail: with `Module(ModuleFault::Memory)` before anything is
+//! written, with `Memory` after an unspecified part.
 #![tactic(auto)]
 
 pub mod code_laws;
 mod complaints;
 mod counts;
+mod cut;
 mod fault;
+mod flushed;
 mod headers;
 mod listing;
 mod module;
@@ -25,7 +24,9 @@ mod writing;
 
 pub use complaints::Complaints;
 pub use counts::ModuleCounts;
+pub use cut::{before_cut, find_cut};
 pub use fault::{Fault, MissingFunction};
+pub use flushed::FlushedWrite;
 pub use module::{count_module, list_headers, list_module};
 pub use names::{function_named, write_escaped};
 pub use request::{ModuleRequest, run};

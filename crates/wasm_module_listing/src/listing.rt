@@ -1,5 +1,4 @@
-//! The texts of the functions of a code section.
-ghost use Rattle.std.specs.Prelude.{◌≡◌, true, List, ℕ, IsOk, IfOk, IfErr, map, string_bytes};
+ghost use Rattle.std.specs.Prelude.{◌≡◌, true, false, List, ℕ, IsOk, IfOk, IfErr, map, string_bytes};
 ghost use Rattle.std.specs.Io.KnownBytes.{Appends, Keeps};
 ghost use Rattle.wasm_disassembly.specs.Disassembly.{IsText};
 ghost use Rattle.wasm_disassembly.specs.operators.below.Source.{Reader};
@@ -11,6 +10,7 @@ ghost use Rattle.wasm_module_listing.specs.Listing.{IsCode, ListsCode, IsFunctio
 use crate::code_laws;
 use crate::complaints::Complaints;
 use crate::fault::Fault;
+use crate::flushed::FlushedWrite;
 use crate::names::shown_names;
 use std::alloc::Global;
 use std::io::Write;
@@ -18,8 +18,7 @@ use wasm_disassembly::operators::{BinaryReader, CodeSectionReader, Error, Functi
 use wasm_disassembly::{DisassemblyFault, disassemble};
 use wasm_functions::Functions;
 
-/// Writes the text of the function at a place, a line at a time, and returns the result of reading
-/// it. `names` are the escaped names of all functions.
+/// Writes the text of a function and returns the result of reading it. `names` are escaped.
 fn list_function<W: Write>(
     alloc: Global,
     functions: &Functions<'_>,
@@ -45,17 +44,18 @@ fn list_function<W: Write>(
 }
 
 /// Flushes the lines before the error of a function, then reports the error.
-fn complain<W: Write, C: Complaints>(
+fn complain<W: FlushedWrite, C: Complaints>(
     writer: &mut W,
     complaints: &mut C,
     index: u32,
     error: Error,
 ) -> Result<(), Fault>
     ensures keeps { IfOk result (λ done. Keeps (W.contents writer.old) (W.contents writer.new)) }
+    ensures flushed { IfOk result (λ done. W.is_flushed writer.new) }
     ensures reports { IfOk result (λ done. C.reports complaints.old index error complaints.new) }
     ensures halts { IfErr result (λ fault. IsHalt fault) }
 {
-    if writer.flush().is_err() {
+    if writer.flush_all().is_err() {
         return Err(Fault::Writing);
     }
     if complaints.complain(index, error).is_err() {
@@ -74,9 +74,9 @@ pub fn is_asked(only: Option<u32>, index: u32) -> bool
     }
 }
 
-/// Writes the text of the function at a place, if it is requested. Returns whether it has no error;
-/// reports the error otherwise.
-fn list_asked<W: Write, C: Complaints>(
+/// Writes the text of a function, if it is requested. Reports its error, and returns whether there
+/// is none.
+fn list_asked<W: FlushedWrite, C: Complaints>(
     alloc: Global,
     functions: &Functions<'_>,
     names: &[String],
@@ -93,6 +93,7 @@ fn list_asked<W: Write, C: Complaints>(
         × Reported C.reports reported complaints.old complaints.new × (whole ≡ are_none reported)) }
     ensures whole { IfOk result (λ whole. WhereAsked (is_asked only (index_of functions.now place)) (IsFunction body.now) (Unit {0})
         → whole ≡ true) }
+    ensures flushed { IfOk result (λ whole. whole ≡ false → W.is_flushed writer.new) }
     ensures halts { IfErr result (λ fault. IsHalt fault) }
 {
     let index = functions.index(place);
@@ -113,12 +114,11 @@ fn list_asked<W: Write, C: Complaints>(
 }
 
 #[tactic(auto, using(crate::proofs::Asked::halts_later))]
-/// Writes the texts of the functions of a code section, or of the function with an index, in their
-/// order. Returns whether none of them has an error. Reports each function with an error, and goes
-/// on with the others.
+/// Writes the texts of all functions, or of one. Reports functions with errors, and returns whether
+/// there is none.
 ///
-/// Fails with `Code` if the section itself is in error, after the functions before the error.
-pub fn list_code<W: Write, C: Complaints>(
+/// Fails with `Code` if the section is in error, after the functions before the error.
+pub fn list_code<W: FlushedWrite, C: Complaints>(
     alloc: Global,
     functions: &Functions<'_>,
     code: BinaryReader<'_>,

@@ -1,13 +1,15 @@
-//! The disassembly and the operator counts of a module.
 ghost use Rattle.std.specs.Prelude.{◌≡◌, ◌++◌, IfErr, OnOk, option_map, string_bytes};
 ghost use Rattle.std.specs.Io.KnownBytes.{Appends};
 ghost use Rattle.wasm_module_listing.specs.Listing.{file_line, name_line, heading_of, IsHalt, ListsModule, IsModuleOf, IsFunction, Succeeds, WritesNothing};
+ghost use Rattle.wasm_module_listing.specs.Cut.{ListsUpToCut};
 ghost use Rattle.wasm_module_listing.specs.Headers.{ListsHeaders};
 ghost use Rattle.wasm_module_listing.specs.ModuleCensus.{CountsModule, IsCounted, CountsAll};
 
 use crate::complaints::Complaints;
 use crate::counts::{ModuleCounts, count_code};
+use crate::cut::{after_cut, before_cut, find_cut};
 use crate::fault::Fault;
+use crate::flushed::FlushedWrite;
 use crate::headers::list_sections;
 use crate::listing::list_code;
 use crate::names::write_escaped;
@@ -18,13 +20,11 @@ use std::io::Write;
 use wasm_disassembly::operators::WasmFeatures;
 use wasm_functions::{function_laws, module_name, open_sections};
 
-/// The heading of the functions.
 const CODE_HEADING: &str = "\nCode Disassembly:\n\n";
 
-/// The heading of the sections.
 const SECTIONS_HEADING: &str = "\nSections:\n\n";
 
-/// Appends the line with the name of a module, if it has one.
+/// Appends the line with a module's name, if it has one.
 fn push_name(alloc: Global, out: &mut String, name: &[u8]) -> Result<(), AllocError>
     ensures { OnOk result (string_bytes out.new ≡ string_bytes out.old ++ name_line name.now) }
 {
@@ -45,7 +45,7 @@ fn push_file(alloc: Global, out: &mut String, file: &str) -> Result<(), AllocErr
     out.push_str(":\tfile format wasm 0x1\n")
 }
 
-/// Appends the heading of a listing: a title, unless `file` is `None`, and what is listed.
+/// Appends a title, unless `file` is `None`, and what is listed.
 fn push_heading(
     alloc: Global,
     out: &mut String,
@@ -81,14 +81,8 @@ fn write_heading<W: Write>(
     write_text(writer, heading.as_str())
 }
 
-/// Writes the disassembly of a module: a title with the name of its file, unless `file` is `None`,
-/// and the texts of the functions of its code section, or of the function with an index. Returns
-/// whether none of them has an error. Reports each function with an error, and goes on with the
-/// others.
-///
-/// On `Module` and `NoFunction` nothing is written. Fails with `Code` if the code section is in
-/// error, after the functions before the error.
-pub fn list_module<W: Write, C: Complaints>(
+/// Writes the disassembly of a module without a section in error.
+fn list_part<W: FlushedWrite, C: Complaints>(
     alloc: Global,
     features: WasmFeatures,
     only: Option<u32>,
@@ -99,8 +93,6 @@ pub fn list_module<W: Write, C: Complaints>(
 ) -> Result<bool, Fault>
     ensures lists { ListsModule C.reports features only (option_map (λ text. text.now) file.entry) bytes.now result complaints.old complaints.new
         (W.contents writer.old) (W.contents writer.new) }
-    // If each requested function has a body within the limit of locals, the result is `Ok(true)`,
-    // unless writing or allocation fails.
     ensures whole { IsModuleOf IsFunction features only bytes.now → Succeeds result }
     ensures nothing { IfErr result (λ fault. WritesNothing fault → writer.new ≡ writer.old) }
 {
@@ -126,12 +118,39 @@ pub fn list_module<W: Write, C: Complaints>(
     }
 }
 
-/// Writes the sections of a module: a title with the name of its file, unless `file` is `None`, and
-/// a line for each section.
+/// Writes the disassembly of a module up to its first section in error: a title, unless `file` is
+/// `None`, and the texts of all functions, or of one. Reports functions with errors, and returns
+/// whether there is none.
 ///
-/// Fails with `Module` if the bytes do not start with the preamble of a module; nothing is then
-/// written. Fails with `Section` at a section that can't be read, after the lines of the sections
-/// before it.
+/// Fails with `Code` if the code section is in error, after the functions before the error;
+/// otherwise with `Section` if a section is.
+pub fn list_module<W: FlushedWrite, C: Complaints>(
+    alloc: Global,
+    features: WasmFeatures,
+    only: Option<u32>,
+    file: Option<&str>,
+    bytes: &[u8],
+    writer: &mut W,
+    complaints: &mut C,
+) -> Result<bool, Fault>
+    ensures lists { ListsUpToCut C.reports features only (option_map (λ text. text.now) file.entry) bytes.now result complaints.old complaints.new
+        (W.contents writer.old) (W.contents writer.new) }
+    // If each requested function has a body within the limit of locals, the result is `Ok(true)`,
+    // unless writing or allocation fails.
+    ensures whole { IsModuleOf IsFunction features only bytes.now → Succeeds result }
+    ensures nothing { IfErr result (λ fault. WritesNothing fault → writer.new ≡ writer.old) }
+{
+    function_laws::refusals();
+    let cut = find_cut(features, bytes);
+    let part = before_cut(cut, bytes);
+    let listed = list_part(alloc, features, only, file, part, writer, complaints);
+    after_cut(cut, listed)
+}
+
+/// Writes a title, unless `file` is `None`, and a line for each section.
+///
+/// Fails with `Module` if the bytes do not start with a module's preamble, and with `Section` at
+/// the first section that can't be read.
 pub fn list_headers<W: Write>(
     alloc: Global,
     features: WasmFeatures,
@@ -159,8 +178,8 @@ pub fn list_headers<W: Write>(
     list_sections(alloc, sections, writer)
 }
 
-/// Counts the operators of a module by proposal, or those of the function with an index. Reports
-/// each function with an error, and counts the others.
+/// Counts the operators of all functions of a module, or of one. Reports functions with errors and
+/// counts the others.
 ///
 /// Fails with `Code` if the code section is in error.
 pub fn count_module<C: Complaints>(
@@ -171,7 +190,7 @@ pub fn count_module<C: Complaints>(
     complaints: &mut C,
 ) -> Result<ModuleCounts, Fault>
     ensures counts { CountsModule C.reports features only bytes.now result complaints.old complaints.new }
-    // If each requested function has a body, the counts are complete, unless reporting or
+    // If each requested function has a body, no function has an error, unless reporting or
     // allocation fails.
     ensures whole { IsModuleOf (IsCounted features) features only bytes.now → CountsAll result }
 {

@@ -1,4 +1,3 @@
-//! Names as they are shown.
 ghost use Rattle.std.specs.Prelude.{◌≡◌, ◌++◌, ◌<◌, false, IfOk, OnOk, flat_map, map, string_bytes};
 ghost use Rattle.std.specs.Fmt.{digit_glyph};
 ghost use Rattle.wasm_functions.specs.Names.{name_bytes};
@@ -21,7 +20,7 @@ fn digit(value: u8) -> u8
     }
 }
 
-/// Appends a byte as a backslash and two hexadecimal digits.
+/// Appends a byte, escaped: a backslash and two hexadecimal digits.
 fn push_escape(out: &mut Vec<u8>, byte: u8) -> Result<(), AllocError>
     ensures { OnOk result (out.new.items ≡ out.old.items ++ escape byte) }
 {
@@ -31,7 +30,7 @@ fn push_escape(out: &mut Vec<u8>, byte: u8) -> Result<(), AllocError>
     Ok(())
 }
 
-/// Appends a byte as it is shown in UTF-8.
+/// Appends a byte as shown in UTF-8.
 fn push_byte(out: &mut Vec<u8>, byte: u8) -> Result<(), AllocError>
     ensures { OnOk result (out.new.items ≡ out.old.items ++ utf8_byte byte) }
 {
@@ -45,7 +44,7 @@ fn push_byte(out: &mut Vec<u8>, byte: u8) -> Result<(), AllocError>
     Ok(())
 }
 
-/// Returns the bytes of a name as they are shown in UTF-8.
+/// Returns a name as shown in UTF-8.
 fn utf8_name(alloc: Global, name: &[u8]) -> Result<Vec<u8>, AllocError>
     ensures { IfOk result (λ shown. shown.items ≡ utf8_name name.now) }
 {
@@ -56,7 +55,7 @@ fn utf8_name(alloc: Global, name: &[u8]) -> Result<Vec<u8>, AllocError>
     Ok(shown)
 }
 
-/// Writes a byte as a backslash and two hexadecimal digits.
+/// Writes an escaped byte.
 fn write_escape(out: &mut String, byte: u8) -> Written
     ensures { OnOk result (string_bytes out.new ≡ string_bytes out.old ++ escape byte) }
 {
@@ -65,7 +64,7 @@ fn write_escape(out: &mut String, byte: u8) -> Written
 }
 
 #[tactic(auto, using(std::proofs::lemmas::Str::encode_ascii))]
-/// Writes a byte as it is shown in ASCII.
+/// Writes a byte as shown in ASCII.
 fn write_ascii_byte(out: &mut String, byte: u8) -> Written
     ensures { OnOk result (string_bytes out.new ≡ string_bytes out.old ++ ascii_byte byte) }
 {
@@ -78,7 +77,7 @@ fn write_ascii_byte(out: &mut String, byte: u8) -> Written
     out.push(char::from(byte))
 }
 
-/// Writes a name as it is shown in ASCII.
+/// Writes a name as shown in ASCII.
 fn write_ascii(out: &mut String, name: &[u8]) -> Written
     ensures { OnOk result (string_bytes out.new ≡ string_bytes out.old ++ flat_map ascii_byte name.now) }
 {
@@ -89,8 +88,8 @@ fn write_ascii(out: &mut String, name: &[u8]) -> Written
 }
 
 #[tactic(auto, using(crate::proofs::Escaped::in_utf8, crate::proofs::Escaped::in_ascii))]
-/// Writes a name as it is shown: with control characters escaped, and also with all bytes from 0x80
-/// on escaped if the name is not UTF-8.
+/// Writes a name with escaped control characters. If it is not UTF-8, all bytes from 0x80 on are
+/// escaped too.
 pub fn write_escaped(alloc: Global, out: &mut String, name: &[u8]) -> Written
     ensures { OnOk result (string_bytes out.new ≡ string_bytes out.old ++ escaped name.now) }
 {
@@ -101,7 +100,7 @@ pub fn write_escaped(alloc: Global, out: &mut String, name: &[u8]) -> Written
     }
 }
 
-/// Returns the name of a function as it is shown.
+/// Returns the name of a function as shown.
 fn shown_name(alloc: Global, name: &FunctionName<'_>) -> Result<String, AllocError>
     ensures { IfOk result (λ shown. string_bytes shown ≡ escaped (name_bytes name.now)) }
 {
@@ -119,7 +118,7 @@ fn shown_name(alloc: Global, name: &FunctionName<'_>) -> Result<String, AllocErr
     Ok(shown)
 }
 
-/// Returns the names of all functions as they are shown.
+/// Returns the names of all functions as shown.
 pub fn shown_names(alloc: Global, functions: &Functions<'_>) -> Result<Vec<String>, AllocError>
     ensures { IfOk result (λ names. map string_bytes names.items ≡ all_escaped functions.now.names) }
 {
@@ -131,8 +130,7 @@ pub fn shown_names(alloc: Global, functions: &Functions<'_>) -> Result<Vec<Strin
     Ok(names)
 }
 
-/// Returns the index of the first function of a module that is shown with this name, if there is
-/// one.
+/// Returns the index of the first function that is shown with this name, if there is one.
 pub fn function_named(
     alloc: Global,
     functions: &Functions<'_>,

@@ -1,4 +1,3 @@
-//! The functions of a module, and the place of their bodies.
 ghost use Rattle.std.specs.Prelude.{◌≡◌, Some, MatchOption, IfOk, IfErr, length};
 ghost use Rattle.wasm_disassembly.specs.operators.below.Source.{reader_of};
 ghost use Rattle.wasm_functions.specs.ModuleFunctions.{IsOwn};
@@ -9,7 +8,6 @@ use std::alloc::Global;
 use wasm_disassembly::operators::{BinaryReader, WasmFeatures};
 use wasm_functions::{Functions, find_section};
 
-/// The number of the code section.
 const CODE: u8 = 10;
 
 /// Returns the requested function if the module does not define it.
@@ -34,10 +32,10 @@ fn lacking(functions: &Functions<'_>, only: Option<u32>) -> Option<MissingFuncti
     }
 }
 
-/// Returns the functions of a module, and the contents of its code section, if it has one.
+/// Returns the functions of a module, and the contents of its code section.
 ///
-/// Fails with `Module` if the functions can't be read, and with `NoFunction` if the module does not
-/// define the requested function.
+/// Fails with `Module` if the functions can't be read, and with `NoFunction` if the requested
+/// function is not defined.
 pub fn open_module<'a>(
     alloc: Global,
     features: WasmFeatures,

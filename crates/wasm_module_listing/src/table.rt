@@ -1,4 +1,3 @@
-//! The operator counts of a module as a table.
 ghost use Rattle.std.specs.Prelude.{◌≡◌, ◌++◌, List, IfOk, IfErr, OnOk, string_bytes};
 ghost use Rattle.std.specs.Io.KnownBytes.{Appends};
 ghost use Rattle.wasm_module_listing.specs.CountTable.{Row, IsTable, row_text, table_text};
@@ -11,7 +10,7 @@ use std::cmp::Reverse;
 use std::io::Write;
 use wasm_listing::proposal_at;
 
-/// Returns the counts that are not 0, each with its place, the largest first.
+/// Returns the counts above 0, each with its index, the largest first.
 fn rows_of(alloc: Global, counts: &[u64; 19]) -> Result<Vec<(Reverse<u64>, usize)>, AllocError>
     ensures { IfOk result (λ rows. IsTable counts.now rows.items) }
 {
@@ -44,8 +43,8 @@ fn push_rows(out: &mut String, rows: &[(Reverse<u64>, usize)]) -> Result<(), All
     Ok(())
 }
 
-/// Writes a line for each proposal whose operators occur in a module: the count and the proposal's
-/// name, the largest count first. The counts are in the order of `census` of `wasm_listing`.
+/// Writes the count and the name of each proposal whose operators occur, the largest count first.
+/// The counts are in the order of `census` of `wasm_listing`.
 pub fn write_table<W: Write>(alloc: Global, counts: &[u64; 19], writer: &mut W) -> Result<(), Fault>
     ensures ok { OnOk result ((rows : List Row) × IsTable counts.now rows
         × Appends (W.contents writer.old) (W.contents writer.new) (table_text rows)) }

@@ -1,4 +1,3 @@
-//! Writing of a text.
 ghost use Rattle.std.specs.Prelude.{IfErr, OnOk};
 ghost use Rattle.std.specs.Io.KnownBytes.{Appends};
 ghost use Rattle.wasm_module_listing.specs.Listing.{IsHalt};
@@ -6,7 +5,7 @@ ghost use Rattle.wasm_module_listing.specs.Listing.{IsHalt};
 use crate::fault::Fault;
 use std::io::Write;
 
-/// Writes all bytes of a text. Fails with `Writing` if the writer fails.
+/// Writes a text. Fails with `Writing` if the writer fails.
 pub fn write_text<W: Write>(writer: &mut W, text: &str) -> Result<(), Fault>
     ensures ok { OnOk result (Appends (W.contents writer.old) (W.contents writer.new) text.now) }
     ensures err { IfErr result (λ fault. IsHalt fault) }

@@ -1,11 +1,9 @@
-//! The arguments of the program.
-
 use std::alloc::Global;
 use std::fmt;
 use wasm_module_listing::features_of;
 use wasm_module_listing::operators::WasmFeatures;
 
-/// The functions that are requested.
+/// Which functions are requested.
 #[derive(Debug, Drop)]
 pub enum Choice {
     /// All functions that the module defines.
@@ -16,7 +14,7 @@ pub enum Choice {
     Name(String),
 }
 
-/// The request that the arguments make.
+/// What the arguments request.
 #[derive(Debug, Drop)]
 pub struct Options {
     /// Whether the sections are listed.
@@ -25,11 +23,11 @@ pub struct Options {
     pub functions: bool,
     /// Whether the operators are counted, in place of both.
     pub census: bool,
-    /// The functions that are disassembled or counted.
+    /// Which functions are disassembled or counted.
     pub function: Choice,
     /// The features that the functions are read with.
     pub features: WasmFeatures,
-    /// The paths of the modules. The path `-` is standard input.
+    /// The paths of the modules; `-` is standard input.
     pub files: Vec<String>,
 }
 
@@ -72,7 +70,7 @@ pub enum Words {
     Mistake(Mistake),
 }
 
-/// What the arguments so far determine about the next one.
+/// What the next argument is; after `Help` and `Version`, it is ignored.
 #[derive(Clone, Copy, Debug, PartialEq, Eq)]
 enum Next {
     Any,
@@ -120,7 +118,7 @@ fn with_file(mut options: Options, word: String) -> Result<Options, Mistake> {
     }
 }
 
-/// Reads one argument. What was read before determines its meaning.
+/// Reads one argument, of the kind `next`. Returns the kind of the argument after it.
 fn read_word(
     alloc: Global,
     options: Options,
@@ -194,20 +192,42 @@ fn read_assigned(alloc: Global, options: Options, word: String) -> Result<Option
     }
 }
 
-/// Reads an argument that starts with one dash: the letter of an option, or the letters of several.
-fn read_short(mut options: Options, word: String) -> Result<Options, Mistake> {
-    for letter in word.as_str().chars().skip(1) {
+/// What the letters after one dash are.
+#[derive(Clone, Copy, Debug, PartialEq, Eq)]
+enum Letters {
+    Known,
+    Unsupported,
+    Unknown,
+}
+
+/// Sets the options that the letters name.
+fn set_letters(options: &mut Options, letters: &str) -> Letters {
+    for letter in letters.chars() {
         match letter {
             'd' => options.functions = true,
             'h' => options.headers = true,
-            'x' | 's' | 'j' | 'r' => return Err(Mistake::Unsupported(word)),
-            _ => return Err(Mistake::Unknown(word)),
+            'x' | 's' | 'j' | 'r' => return Letters::Unsupported,
+            _ => return Letters::Unknown,
         }
     }
-    Ok(options)
+    Letters::Known
 }
 
-/// Returns the request of the arguments, with standard input if they name no file.
+/// Reads an argument that starts with one dash: the letters of options.
+fn read_short(mut options: Options, word: String) -> Result<Options, Mistake> {
+    let letters = match word.as_str().strip_prefix('-') {
+        Some(letters) => set_letters(&mut options, letters),
+        None => Letters::Unknown,
+    };
+    match letters {
+        Letters::Known => Ok(options),
+        Letters::Unsupported => Err(Mistake::Unsupported(word)),
+        Letters::Unknown => Err(Mistake::Unknown(word)),
+    }
+}
+
+/// Completes the request: disassembly unless something else is requested, standard input if no file
+/// is named.
 fn finished(alloc: Global, mut options: Options) -> Words {
     options.functions |= !options.headers;
     if options.files.is_empty() {

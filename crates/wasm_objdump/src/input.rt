@@ -1,4 +1,3 @@
-//! The bytes of a module.
 ghost use Rattle.std.specs.Prelude.{◌≡◌, IfOk, IfSome};
 
 use std::alloc::Global;
@@ -26,7 +25,7 @@ fn read_input<R: Read>(alloc: Global, reader: &mut R) -> io::Result<Vec<u8>>
     }
 }
 
-/// Reads the file at a path, or standard input if the path is `-`.
+/// Reads a file, or standard input if the path is `-`.
 pub fn read_module<R: Files + Input + AllocGlobal>(rt: &R, path: &str) -> io::Result<Vec<u8>> {
     if path == "-" {
         return read_input(rt.alloc(), &mut rt.reader());

@@ -19,7 +19,9 @@ use std::io::{BufWriter, Write};
 use std::process::ExitCode;
 use std::{env, io};
 use wasm_module_listing::functions::Functions;
-use wasm_module_listing::{Fault, ModuleRequest, function_named, list_headers, run};
+use wasm_module_listing::{
+    Fault, ModuleRequest, before_cut, find_cut, function_named, list_headers, run,
+};
 
 const HELP: &str = "Usage: wasm_objdump [OPTION].. [FILE]..
 
@@ -50,7 +52,7 @@ const WRITTEN: usize = 0x1_0000;
 /// The exit status if an argument is wrong.
 const USAGE: u8 = 2;
 
-/// The exit status that shells report for a program that the signal SIGPIPE ends.
+/// The exit status of a program that SIGPIPE ends, in shells.
 const CLOSED_PIPE: u8 = 141;
 
 /// Standard output, with a buffer.
@@ -92,11 +94,11 @@ fn last_part(path: &str) -> &str {
 
 /// Returns the index of the requested function, if one is requested.
 ///
-/// Fails after a message if no function has the requested name; with the exit status.
+/// Fails with the exit status, after a message, if no function has the requested name.
 fn chosen_index(
     rt: &HostRuntime,
     options: &Options,
-    printed: &Printed<'_>,
+    printed: &mut Printed<'_>,
     bytes: &[u8],
 ) -> Result<Option<u32>, u8> {
     let name = match &options.function {
@@ -104,7 +106,8 @@ fn chosen_index(
         Choice::Index(index) => return Ok(Some(*index)),
         Choice::Name(name) => name,
     };
-    let functions = match Functions::new(rt.alloc(), options.features, bytes) {
+    let part = before_cut(find_cut(options.features, bytes), bytes);
+    let functions = match Functions::new(rt.alloc(), options.features, part) {
         Ok(functions) => functions,
         Err(fault) => return Err(printed.fault(Fault::Module(fault))),
     };
@@ -146,7 +149,7 @@ fn dump_functions(
     }
 }
 
-/// Writes what the options request of a module, and returns the exit status.
+/// Writes what is requested of a module, and returns the exit status.
 fn dump_module(
     rt: &HostRuntime,
     options: &Options,
@@ -159,21 +162,25 @@ fn dump_module(
     if options.census || !options.headers {
         return dump_functions(rt, options, title, bytes, writer, &mut printed);
     }
-    match list_headers(rt.alloc(), options.features, title, bytes, writer) {
-        Ok(()) => {}
+    let status = match list_headers(rt.alloc(), options.features, title, bytes, writer) {
+        Ok(()) => 0,
         Err(fault) => {
             let _ = writer.flush();
-            return printed.fault(fault);
+            let status = printed.fault(fault);
+            match fault {
+                Fault::Section(_) => status,
+                _ => return status,
+            }
         }
-    }
+    };
     if options.functions {
-        dump_functions(rt, options, None, bytes, writer, &mut printed)
+        status.max(dump_functions(rt, options, None, bytes, writer, &mut printed))
     } else {
-        0
+        status
     }
 }
 
-/// Writes what the options request of a file, and returns the exit status.
+/// Writes what is requested of a file, and returns the exit status.
 fn dump_file(rt: &HostRuntime, options: &Options, path: &str, writer: &mut Output<'_>) -> u8 {
     match read_module(rt, path) {
         Ok(bytes) => dump_module(rt, options, path, bytes.as_slice(), writer),
@@ -184,8 +191,8 @@ fn dump_file(rt: &HostRuntime, options: &Options, path: &str, writer: &mut Outpu
     }
 }
 
-/// Writes what the options request of all files, up to an error of standard output. Returns the
-/// largest exit status.
+/// Writes what the options request of all files, until standard output fails. Returns the largest
+/// exit status.
 fn dump_files(rt: &HostRuntime, options: &Options, writer: &mut Output<'_>) -> u8 {
     let mut worst: u8 = 0;
     for path in &options.files {
@@ -213,7 +220,7 @@ fn complain_output(rt: &HostRuntime, error: io::Error) -> u8 {
     OUTSIDE
 }
 
-/// Writes what the options request, and returns the exit status.
+/// Writes what is requested, and returns the exit status.
 fn dump(rt: &HostRuntime, options: &Options) -> u8 {
     let Ok(buffered) = BufWriter::with_capacity(rt.alloc(), WRITTEN, io::writer(rt)) else {
         return complain_words(rt, &Mistake::Memory);

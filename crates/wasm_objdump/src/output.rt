@@ -1,8 +1,6 @@
-//! Standard output, with the reason why it failed.
-ghost use Rattle.std.specs.Prelude.{◌≡◌};
-
 use std::io;
 use std::io::Write;
+use wasm_module_listing::FlushedWrite;
 
 /// A writer that keeps the last error of another writer.
 #[derive(Drop)]
@@ -24,19 +22,12 @@ impl<W: Write + Drop> Watched<W> {
     pub fn failure(&self) -> Option<io::Error> {
         self.failure
     }
+}
 
-    /// Keeps the error of a call, and returns the call's result.
-    fn seen<T>(&mut self, outcome: io::Result<T>) -> io::Result<T>
-        ensures result { result ≡ outcome }
-        ensures inner { self.new.inner ≡ self.old.inner }
-    {
-        match outcome {
-            Ok(value) => Ok(value),
-            Err(error) => {
-                self.failure = Some(error);
-                Err(error)
-            }
-        }
+/// Keeps the error of a call.
+fn keep_error<T>(failure: &mut Option<io::Error>, outcome: &io::Result<T>) {
+    if let Err(error) = outcome {
+        *failure = Some(*error);
     }
 }
 
@@ -45,16 +36,29 @@ impl<W: Write + Drop> Write for Watched<W> {
 
     fn write(&mut self, buf: &[u8]) -> io::Result<usize> {
         let outcome = self.inner.write(buf);
-        self.seen(outcome)
+        keep_error(&mut self.failure, &outcome);
+        outcome
     }
 
     fn flush(&mut self) -> io::Result<()> {
         let outcome = self.inner.flush();
-        self.seen(outcome)
+        keep_error(&mut self.failure, &outcome);
+        outcome
     }
 
     fn write_all(&mut self, buf: &[u8]) -> io::Result<()> {
         let outcome = self.inner.write_all(buf);
-        self.seen(outcome)
+        keep_error(&mut self.failure, &outcome);
+        outcome
+    }
+}
+
+impl<W: FlushedWrite + Drop> FlushedWrite for Watched<W> {
+    ghost is_flushed = { λ s. W.is_flushed s.inner };
+
+    fn flush_all(&mut self) -> io::Result<()> {
+        let outcome = self.inner.flush_all();
+        keep_error(&mut self.failure, &outcome);
+        outcome
     }
 }

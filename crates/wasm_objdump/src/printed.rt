@@ -1,4 +1,4 @@
-//! Messages on standard error. Each names the program and the file.
+//! Messages on standard error, each with the names of the program and the file.
 ghost use Rattle.std.specs.Prelude.{⊤};
 
 use std::alloc::Global;
@@ -9,24 +9,34 @@ use wasm_module_listing::{Complaints, Fault};
 /// The exit status if input, output or allocation fails.
 pub const OUTSIDE: u8 = 3;
 
-/// A reporter that prints on standard error.
+/// Prints on standard error.
 #[derive(Drop)]
 pub struct Printed<'a> {
     rt: &'a HostRuntime,
     file: &'a str,
+    last: Option<Fault>,
 }
 
 impl<'a> Printed<'a> {
-    /// Creates a reporter for a file with this name that prints through this runtime.
+    /// Creates a reporter for a file with this name.
     pub fn new(rt: &'a HostRuntime, file: &'a str) -> Printed<'a> {
-        Printed { rt, file }
+        Printed {
+            rt,
+            file,
+            last: None,
+        }
     }
 
-    /// Prints why the module is not listed completely, and returns the exit status. The reason why
-    /// standard output failed is printed elsewhere.
-    pub fn fault(&self, fault: Fault) -> u8 {
+    /// Prints why the module is not listed completely, once, and returns the exit status. The
+    /// failure of standard output is printed elsewhere.
+    pub fn fault(&mut self, fault: Fault) -> u8 {
         let file = self.file;
-        if fault != Fault::Writing {
+        let is_printed = match self.last {
+            Some(last) => last == fault,
+            None => false,
+        };
+        self.last = Some(fault);
+        if !is_printed && fault != Fault::Writing {
             let _ = eprintln!(self.rt; "wasm_objdump: {file}: {fault}");
         }
         fault.status()
@@ -53,7 +63,7 @@ impl<'a> Printed<'a> {
     }
 }
 
-/// Returns the text of an error of the system without the error's number.
+/// Returns an error's text without its number.
 pub fn without_number(text: &str) -> &str {
     match text.split_once(" (os error ") {
         Some((reason, _)) => reason,

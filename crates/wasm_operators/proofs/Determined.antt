@@ -1,4 +1,3 @@
--- What determines bodies, and the errors of locals.
 use Rattle.std.proofs.Common.{◌≡◌, ℕ, ◌+◌, List, [], ◌∷◌, ◌++◌, length, refl, sym, subst, ap, ◌∙◌, append_assoc, arith, inl, inr}
 use Rattle.wasm_operators_readers.specs.below.Fault.{DeterminesRefusal, ManyFault}
 use Rattle.wasm_operators_readers.specs.below.FromReader.{EncodesReader, SameReader}

@@ -1,4 +1,4 @@
--- After operators without `end`, a constant expression is read or none is encoded.
+-- A constant expression, after operators without `end`.
 use Rattle.std.proofs.Common.{◌≡◌, ℕ, ◌+◌, ◌-◌, ◌<◌, ◌≤◌, List, [], ◌∷◌, ◌++◌, length, Some}
 use Rattle.std.proofs.Common.{None, inl, inr, refl, sym, subst, ap, ◌∙◌, append_assoc, length-append, length-drop, arith}
 use Rattle.std.proofs.lemmas.Bool.{cases_lt}

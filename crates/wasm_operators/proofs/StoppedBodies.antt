@@ -25,7 +25,7 @@ use Rattle.wasm_operators.proofs.Bodies.{no_body, expression_after_locals}
 use Rattle.wasm_operators.proofs.LocalsLemmas.{one_past}
 use Rattle.wasm_operators.proofs.Determined.{locals_determine}
 
--- The state with this capacity. About its own nothing is said.
+-- The state with this capacity.
 abbrev roomy : ℕ → State → State
 roomy room s = record { reader = s.reader; frames = s.frames; room = room }
 
@@ -49,7 +49,6 @@ stops_roomy room e s (inr (some, inr (inr memory))) = inr (some, inr (inr memory
 abbrev enough : (e : Error) (body : Reader) (placed : Placed) → NoExpression e body placed → ℕ
 enough e body placed h = most_open (Some h.opened.frames) placed
 
--- The reads after the locals.
 ran_after : (e : Error) (body : Reader) (placed : Placed) (h : NoExpression e body placed) →
     TakesOperators (roomy 0 h.opened) (roomy (enough e body placed h) h.stopped) placed
 ran_after e body placed h =

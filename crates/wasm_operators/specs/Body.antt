@@ -14,7 +14,7 @@ use Rattle.wasm_operators.specs.Locals.{Declaration, EncodesLocals, RefusesLocal
 abbrev pub source_after : Source → List ℕ → List ℕ → Source
 source_after s text more = record { features = s.features; offset = s.offset + length text; bytes = more }
 
--- The bytes encode the declarations of a body's locals, and an expression with these operators.
+-- The bytes encode declarations of locals, and an expression with these operators.
 --   func ::= loc**:list(locals) e:expr ⇒ concat(loc**) e
 pub record EncodesBody (s : Source) (declarations : List Declaration) (placed : Placed) : Type 0 where
   pub locals : List ℕ
@@ -23,7 +23,7 @@ pub record EncodesBody (s : Source) (declarations : List Declaration) (placed : 
   pub encodes_locals : EncodesLocals locals declarations
   pub encodes_expression : EncodesExpression (source_after s locals expression) placed
 
--- A new reader of a body's operators is after the locals, or the locals are in error.
+-- A new reader of operators is after the locals, or these are in error.
 abbrev pub OpensBody : Result State Error → Reader → Type 0
 OpensBody (Ok s) body = ReadsPastLocals (Ok s.reader) body × IsFresh s
 OpensBody (Err e) body = RefusesLocals e body
@@ -33,21 +33,20 @@ pub record NoLocals (e : Error) (body : Reader) (placed : Placed) : Type 0 where
   pub refused : RefusesLocals e body
   pub nothing : placed ≡ []
 
--- The locals are followed by no expression. These operators are the longest list that begins one,
--- and the error describes the bytes after them.
+-- No expression follows the locals. These operators are the longest list that begins one.
 pub record NoExpression (e : Error) (body : Reader) (placed : Placed) : Type 0 where
   pub opened : State
   pub opens : OpensBody (Ok opened) body
   pub stopped : State
   pub reads : ReadsBeginning IsAny EncodesAllowed OperatorFault Anywhere [] e opened stopped placed
 
--- The bytes encode no body, and these operators were read: none if the locals are in error,
--- otherwise the longest prefix of an expression, unless allocation fails.
+-- The bytes encode no body. These operators were read: none if the locals are in error, otherwise
+-- the longest prefix of an expression, unless allocation fails.
 abbrev pub StopsBody : Error → Reader → Placed → Type 0
 StopsBody e body placed = NoLocals e body placed ⊎ NoExpression e body placed
 
--- Reading or visiting a body to its end, unless allocation fails. `Effect` says what was done with
--- the operators.
+-- On `Ok` the bytes encode a body; on an error other than `OutOfMemory`, `StopsBody` holds.
+-- `Effect` holds for the operators.
 abbrev pub ReadsBody : {X : Type 0} → OfPlaced → Result X Error → Reader → Type 0
 ReadsBody Effect (Ok x) body = (declarations : List Declaration) × (placed : Placed) × Effect placed × EncodesBody (source_of body) declarations placed
 ReadsBody Effect (Err e) body = e.message ≢ message.OutOfMemory → (placed : Placed) × Effect placed × StopsBody e body placed

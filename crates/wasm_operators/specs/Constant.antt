@@ -1,5 +1,4 @@
--- Constant expressions as readers of modules read them: up to the first `end`, which has to close
--- the expression. Specification: Binary Format, Expressions; Validation, Constant Expressions.
+-- Specification: Binary Format, Expressions; Validation, Constant Expressions.
 use Rattle.std.specs.Prelude.{◌≡◌, ◌≢◌, ℕ, List, [], ◌∷◌, ◌++◌, length}
 use Rattle.wasm_operators_readers.specs.below.bytes.features.WasmFeatures.{WasmFeatures}
 use Rattle.wasm_operators_readers.specs.below.FromReader.{IsReaderOf}
@@ -20,7 +19,6 @@ EndsOnce ops = (before : List Operator) × (ops ≡ before ++ operator.End ∷ [
 abbrev pub EncodesConstant : Source → Type 0
 EncodesConstant s = (placed : Placed) × EncodesExpression s placed × EndsOnce (operators placed)
 
--- The bytes encode an expression with exactly one `end`, and the value is a new reader of them, at
--- any offset.
+-- The bytes encode an expression with exactly one `end`; the value is a new reader of them.
 abbrev pub EncodesConstantReader : WasmFeatures → List ℕ → Reader → Type 0
 EncodesConstantReader features text r = IsReaderOf features (length text) text r × EncodesConstant (source_of r)

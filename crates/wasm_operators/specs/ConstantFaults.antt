@@ -14,8 +14,8 @@ use Rattle.wasm_operators_readers.specs.Next.{NextMayAllocate}
 use Rattle.wasm_operators_readers.specs.Reading.{State, IsFresh, TakesOperators}
 use Rattle.wasm_operators.specs.Constant.{HasNoEnd}
 
--- Between the two readers, the bytes encode operators other than `end`, which lead from the frame
--- of an expression to these frames.
+-- Between the readers are operators other than `end`, which lead from the frame of an expression to
+-- these frames.
 pub record PassesOperators (old new : Reader) (frames : List FrameKind) : Type 0 where
   pub placed : Placed
   pub no_end : HasNoEnd (operators placed)
@@ -29,18 +29,18 @@ abbrev pub IsNoOperator : Message → Reader → List FrameKind → ℕ → Type
 IsNoOperator m r frames offset =
     (kind : FrameKind) × (innermost frames ≡ Some kind) × NoPrefix (EncodesAllowed r.features kind) (rest r) × OperatorFault r.features kind m r offset
 
--- The next operator is `end`, and it leaves a frame open. The error is after it.
+-- The next operator is an `end` that leaves a frame open. The error is after it.
 abbrev pub EndsInside : Message → Reader → List FrameKind → ℕ → Type 0
 EndsInside m r frames offset =
     BeginsWith 0x0b (rest r) × (without_innermost frames ≢ []) × (m ≡ message.FramesRemainConst) × (offset ≡ offset_of r + 1)
 
--- After operators other than `end`, no operator is encoded, or an `end` that is inside another
--- construct.
+-- After operators other than `end`, no operator is encoded, or an `end` that leaves a frame open.
 abbrev pub ConstantFault : Message → Reader → ℕ → Type 0
 ConstantFault m r offset =
     (after : Reader) × (frames : List FrameKind) × PassesOperators r after frames × (IsNoOperator m after frames offset ⊎ EndsInside m after frames offset)
 
--- After operators other than `end`, the next operator may allocate: it owns a list, or opens more frames than were open before, for which no capacity is left.
+-- After operators other than `end`, the next owns a list, or opens more frames than were open
+-- before.
 abbrev pub ConstantMayAllocate : Reader → Type 0
 ConstantMayAllocate r =
     (opened after : State) × (placed : Placed) × (opened.reader ≡ r) × IsFresh opened × TakesOperators opened after placed ×

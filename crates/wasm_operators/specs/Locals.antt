@@ -12,7 +12,7 @@ use Rattle.wasm_operators_readers.specs.below.Source.{Reader, offset_of, Takes, 
 use Rattle.wasm_operators_readers.specs.below.TypeEncoding.{EncodesValType, ValTypeFault}
 use Rattle.wasm_operators_readers.specs.imm.Lists.{EncodesMany}
 
--- A declaration: this many locals of this type.
+-- A declaration: the number of locals, and their type.
 abbrev pub Declaration : Type 0
 Declaration = ℕ × ValType
 
@@ -21,20 +21,20 @@ Declaration = ℕ × ValType
 abbrev pub EncodesDeclaration : List ℕ → Declaration → Type 0
 EncodesDeclaration text d = (number ty : List ℕ) × (text ≡ number ++ ty) × EncodesUnsigned 32 number d.0 × EncodesValType ty d.1
 
--- The number of these declarations, and each of them. The total is not checked.
+-- The bytes encode the number of these declarations, and each of them.
 --   func ::= loc**:list(locals) e:expr ⇒ concat(loc**) e
 abbrev pub EncodesLocals : List ℕ → List Declaration → Type 0
 EncodesLocals = Then (EncodesUnsigned 32) (EncodesMany EncodesDeclaration)
 
--- The error of the number, or of the type.
+-- The error of a declaration: of the number of locals, or of their type.
 abbrev pub DeclarationFault : Message → Reader → ℕ → Type 0
 DeclarationFault = ThenFault (EncodesUnsigned 32) U32Fault (λ number. ValTypeFault)
 
--- The error of the count, or of the first declaration that has one.
+-- The error of the count, or of the first declaration in error.
 abbrev pub LocalsFault : Message → Reader → ℕ → Type 0
 LocalsFault = ThenFault (EncodesUnsigned 32) U32Fault (ManyFault EncodesDeclaration DeclarationFault)
 
--- The reader's bytes do not begin with declarations of locals, with this error.
+-- The body's locals have this error.
 pub record RefusesLocals (e : Error) (body : Reader) : Type 0 where
   pub refusal : IsRefusal EncodesLocals e body
   pub fault : LocalsFault e.message body e.offset
@@ -43,7 +43,7 @@ pub record RefusesLocals (e : Error) (body : Reader) : Type 0 where
 abbrev pub IsPastLocals : List Declaration → Reader → Reader → Type 0
 IsPastLocals declarations body r = (text : List ℕ) × EncodesLocals text declarations × Takes body r text
 
--- Skipping the locals of a body: a reader after them, or their error.
+-- A reader after the locals of a body, or their error.
 abbrev pub ReadsPastLocals : Result Reader Error → Reader → Type 0
 ReadsPastLocals (Ok r) body = (declarations : List Declaration) × IsPastLocals declarations body r
 ReadsPastLocals (Err e) body = RefusesLocals e body
@@ -53,45 +53,44 @@ ReadsPastLocals (Err e) body = RefusesLocals e body
 abbrev pub max_locals : ℕ
 max_locals = 4294967295
 
--- A reader of locals: the reader of the bytes, the number of declarations, and the locals declared
--- so far.
+-- A reader of locals, and the numbers of all declarations and of the locals declared so far.
 pub record Locals : Type 0 where
   pub reader : Reader
   pub count : ℕ
   pub total : ℕ
 
--- Locals of which only the count was read.
+-- A reader of a body's locals after their count, or its error.
 abbrev pub OpensLocals : Result Locals Error → Reader → Type 0
 OpensLocals (Ok l) body = (text : List ℕ) × EncodesUnsigned 32 text l.count × Takes body l.reader text × (l.total ≡ 0)
 OpensLocals (Err e) body = IsRefusal (EncodesUnsigned 32) e body × U32Fault e.message body e.offset
 
--- The bytes encode a declaration that does not make the total number of locals too large.
+-- The bytes encode a declaration that keeps the total within the limit.
 abbrev pub EncodesNext : ℕ → List ℕ → Declaration → Type 0
 EncodesNext total text d = EncodesDeclaration text d × (total + d.0 ≤ max_locals)
 
--- Too many locals, or the error of the type.
+-- After the number of locals: too many, or the error of the type.
 abbrev pub NumberedFault : ℕ → ℕ → Message → Reader → ℕ → Type 0
 NumberedFault total number m r offset = ((max_locals < total + number) × (m ≡ message.TooManyLocals) × (offset ≡ offset_of r)) ⊎
     ((total + number ≤ max_locals) × ValTypeFault m r offset)
 
--- The error of the number; then too many locals, or the error of the type.
+-- The error of the next declaration: of the number; then too many locals; then of the type.
 abbrev pub NextFault : ℕ → Message → Reader → ℕ → Type 0
 NextFault total = ThenFault (EncodesUnsigned 32) U32Fault (NumberedFault total)
 
--- One read: it adds the locals to the total, or changes nothing.
+-- The next declaration is read and adds to the total; or reading fails, and nothing changes.
 abbrev pub ReadsDeclaration : Result Declaration Error → Locals → Locals → Type 0
 ReadsDeclaration (Ok d) old new =
     ReadsValue (EncodesNext old.total) false (Ok d) old.reader new.reader × (new.count ≡ old.count) × (new.total ≡ old.total + d.0)
 ReadsDeclaration (Err e) old new =
     (new ≡ old) × ReadsValue (EncodesNext old.total) false (Err e) old.reader new.reader × NextFault old.total e.message old.reader e.offset
 
--- An iterator over declarations: the reader of locals, and how many items are left.
+-- An iterator: the reader of locals, and how many items are left.
 pub record LocalsLeft : Type 0 where
   pub locals : Locals
   pub left : ℕ
 
--- A step of the iterator: a declaration is read, if an item is left. Then one less is left; after
--- an error none.
+-- A step of the iterator: if an item is left, a declaration is read, and one less is left; after an
+-- error none.
 abbrev pub StepsLocals : Option (Result Declaration Error) → LocalsLeft → LocalsLeft → Type 0
 StepsLocals None old new = (old.left ≡ 0) × (new ≡ old)
 StepsLocals (Some (Ok d)) old new = (old.left ≡ new.left + 1) × ReadsDeclaration (Ok d) old.locals new.locals
@@ -105,10 +104,10 @@ abbrev pub StepsAlong : List Declaration → LocalsLeft → LocalsLeft → Type 
 StepsAlong [] old new = new ≡ old
 StepsAlong (d ∷ ds) old new = (mid : LocalsLeft) × StepsLocals (Some (Ok d)) old mid × StepsAlong ds mid new
 
--- Steps from a body's unread locals to this iterator returned these declarations.
+-- Steps from unread locals to this iterator returned these declarations.
 abbrev pub HasStepped : List Declaration → Reader → LocalsLeft → Type 0
 HasStepped declarations body items = (unread : Locals) × OpensLocals (Ok unread) body × StepsAlong declarations (all_left unread) items
 
--- The result of skipping the locals of a body is this reader.
+-- Skipping the locals of a body results in this reader.
 abbrev pub IsResultPastLocals : Reader → Reader → Type 0
 IsResultPastLocals r body = (outcome : Result Reader Error) → ReadsPastLocals outcome body → outcome ≡ Ok r

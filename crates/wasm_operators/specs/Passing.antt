@@ -1,4 +1,3 @@
--- One step towards the first `end`.
 use Rattle.std.specs.Prelude.{◌≡◌, ◌↔◌, IsTrue, Bool, Result, Ok, Err}
 use Rattle.wasm_operators_readers.specs.below.bytes.error.Error.{Error}
 use Rattle.wasm_operators_readers.specs.instr.declared.operator.Operator.{Operator}

@@ -37,8 +37,7 @@ StopsSection Encodes Fault takes_memory e s =
     ((0 < s.remaining) × IsRefused Encodes takes_memory e s.reader × HasFault Fault e s.reader) ⊎
     ((s.remaining ≡ 0) × IsDataLeft e s.reader)
 
--- A step: an item was read, where its type requires; or an error was returned, once, and nothing
--- consumed; or no item follows.
+-- A step: an item was read; or an error was returned, once, and nothing consumed; or none follows.
 abbrev pub StepsSection : {X : Type 0} → (List ℕ → X → Type 0) → (Message → Reader → ℕ → Type 0) → (Reader → X → Reader → Type 0) → Bool →
     Option (Result X Error) → SectionItems → SectionItems → Type 0
 StepsSection Encodes Fault Placed takes_memory None old new = (new ≡ old) × IsDone old

@@ -7,10 +7,10 @@ use Rattle.wasm_operators_readers.specs.grammar.declared.frame_kind.FrameKind.{F
 use Rattle.wasm_operators_readers.specs.instr.declared.operator.Operator.{Operator}
 use Rattle.wasm_operators_readers.specs.Reading.{EndsExpression}
 
--- The result of reading an operator here, in this innermost frame.
+-- The result of reading the next operator; `frame` is the innermost, if one is open.
 abbrev pub PeeksOperator : Option FrameKind → Result Operator Error → Reader → Type 0
 PeeksOperator frame result r = (after : Reader) × DecodesOperatorIn frame result r after
 
--- `Ok` if and only if no frame is open and no data is left; otherwise the error is at the position.
+-- As `Finishes`; `frame` is the innermost frame, or `None` if all are closed.
 abbrev pub FinishesExpression : {X : Type 0} → Result X Error → Option FrameKind → Reader → Type 0
 FinishesExpression result frame r = EndsExpression result (frame ≡ None) r

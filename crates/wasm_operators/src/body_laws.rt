@@ -15,27 +15,26 @@ ghost use Rattle.wasm_operators.specs.Locals.{Declaration, EncodesDeclaration, E
 
 use wasm_operators_readers::below::{Message, WasmFeatures};
 
-/// States that no encoding of a declaration, or of a body's locals, is a proper prefix of another,
-/// and that each has one value.
+/// States that no encoding of a declaration, or of locals, is a proper prefix of another, and each
+/// has one value.
 pub fn declarations()
     ensures one { PrefixCode EncodesDeclaration }
     ensures locals { PrefixCode EncodesLocals }
 {}
 
-/// States that the errors of declarations and of a body's locals are determined.
+/// States that the errors of declarations and of locals are determined.
 pub fn refusals()
     ensures one { DeterminesRefusal DeclarationFault }
     ensures next { (total : ℕ) → DeterminesRefusal (NextFault total) }
     ensures locals { DeterminesRefusal LocalsFault }
 {}
 
-/// States that no encoding of a body with its length is a proper prefix of another, and that each
-/// has one body, except for its offset.
+/// States that no body with its length is a proper prefix of another.
 pub fn lengths(features: WasmFeatures)
     ensures { PrefixCodeUpTo SameReader (EncodesReader features) }
 {}
 
-/// States that bytes encode at most one body: one list of declarations and one of operators.
+/// States that bytes encode at most one body.
 pub fn one_body()
     ensures { (s : Source) (declarations others : List Declaration) (first second : Placed)
         → EncodesBody s declarations first → EncodesBody s others second
@@ -52,8 +51,8 @@ pub fn past_locals()
         → (others ≡ declarations) × EncodesExpression (source_of r) placed }
 {}
 
-/// States that reading or visiting an opened body to its end reads a body. At an error it stopped
-/// as `StopsBody` says.
+/// States that if a body that `OpensBody` opens is read or visited to its end, its bytes encode a
+/// body, and if that stops at an error, `StopsBody` holds.
 pub fn opened_bodies()
     ensures whole { (body : Reader) (opened new : State) (placed : Placed)
         → OpensBody (Ok opened) body → ReadsTree [] opened new placed
@@ -69,14 +68,14 @@ pub fn opened_bodies()
         → StopsBody e body placed }
 {}
 
-/// States that if the locals are in error, the bytes encode no body, and no operator was read.
+/// States that if the locals are in error, the bytes encode no body.
 pub fn refused_locals()
     ensures none { (e : Error) (body : Reader) (declarations : List Declaration) (placed : Placed)
         → RefusesLocals e body → ¬ EncodesBody (source_of body) declarations placed }
     ensures stopped { (e : Error) (body : Reader) → RefusesLocals e body → StopsBody e body [] }
 {}
 
-/// States how steps of an iterator over locals follow one another, from the first.
+/// States how steps of an iterator over locals follow one another.
 pub fn steps_of_locals()
     ensures first { (body : Reader) (unread : Locals) → OpensLocals (Ok unread) body → HasStepped [] body (all_left unread) }
     ensures next { (declarations : List Declaration) (d : Declaration) (body : Reader) (old new : LocalsLeft)
@@ -84,8 +83,8 @@ pub fn steps_of_locals()
         → HasStepped (declarations ++ d ∷ []) body new }
 {}
 
-/// States that bytes with an error encode no body, and determine the operators that were read, the
-/// message and the offset, unless allocation fails.
+/// States that bytes in error encode no body, and determine the operators read and the error,
+/// unless allocation fails.
 pub fn stopped_bodies()
     ensures none { (e : Error) (body : Reader) (placed whole : Placed) (declarations : List Declaration)
         → e.message ≢ Message.OutOfMemory → StopsBody e body placed

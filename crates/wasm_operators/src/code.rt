@@ -1,4 +1,3 @@
-//! The body of a function.
 ghost use Rattle.std.specs.Prelude.{◌≡◌, ⊤, [], false, IfOk, IfErr};
 ghost use Rattle.wasm_operators_readers.specs.below.bytes.features.WasmFeatures.{WasmFeatures};
 ghost use Rattle.wasm_operators_readers.specs.below.Fault.{HasFault, NeedsMemory, DeterminesRefusal};
@@ -53,8 +52,8 @@ impl<'a> FunctionBody<'a> {
         FunctionBody { reader }
     }
 
-    /// Reads a number of 32 bits and that many bytes, which are the body. Specification: Code
-    /// Section. Fails as `read_reader` does.
+    /// Reads a length of 32 bits and the body. Specification: Code Section. Fails as `read_reader`
+    /// does.
     pub fn read(reader: &mut BinaryReader<'a>) -> Result<FunctionBody<'a>>
         ensures reads { Reads (EncodesReader reader.old.features) result reader.old reader.new }
         ensures placed { IfOk result (λ body. end_of body ≡ offset_of reader.new) }
@@ -81,18 +80,15 @@ impl<'a> FunctionBody<'a> {
         self.reader.clone()
     }
 
-    /// Reads the count of declarations and returns a reader of the locals. Fails as `read_var_u32`
-    /// does.
+    /// Returns a reader of the locals. Fails as `read_var_u32` does.
     pub fn get_locals_reader(&self) -> Result<LocalsReader<'a>>
         ensures { OpensLocals result self.now }
     {
         LocalsReader::new(self.reader.clone())
     }
 
-    /// Skips the locals and returns a reader of the bytes after them. Does not check the total
-    /// number of locals.
-    ///
-    /// Fails as `read_var_u32` or `ValType::read` does.
+    /// Returns a reader of the bytes after the locals, whose total is not checked. Fails as
+    /// `read_var_u32` or `ValType::read` does.
     pub fn get_binary_reader_for_operators(&self) -> Result<BinaryReader<'a>>
         ensures { ReadsPastLocals result self.now }
     {
@@ -110,7 +106,7 @@ impl<'a> FunctionBody<'a> {
         Ok(reader)
     }
 
-    /// Skips the locals and returns a reader of the operators. Fails as
+    /// Returns a reader of the operators after the locals. Fails as
     /// `get_binary_reader_for_operators` does.
     ///
     /// # Examples
@@ -129,8 +125,7 @@ impl<'a> FunctionBody<'a> {
         }
     }
 
-    /// Returns the offsets of all data of the reader that the body was made from. They may start
-    /// before the body.
+    /// Returns the offsets of all data of the body's reader. They may start before the body.
     pub fn range(&self) -> Range<u64>
         ensures start { result.start ≡ self.now.start }
         ensures end { result.end ≡ end_of self.now }

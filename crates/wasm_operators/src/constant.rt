@@ -17,9 +17,7 @@ use wasm_operators_readers::below::{
     BinaryReader, FromReader, May, MemoryUse, Message, Result, UsesMemory,
 };
 
-/// A constant expression: a reader of its bytes.
-///
-/// Two are equal if the bytes that are left are, at any offsets and with any features.
+/// A constant expression: a reader of its bytes. Two are equal if the bytes that are left are.
 #[derive(Debug, Drop)]
 pub struct ConstExpr<'a> {
     reader: BinaryReader<'a>,
@@ -44,8 +42,8 @@ impl<'a> ConstExpr<'a> {
     /// Reads the operators up to the first `end`, which has to close the expression. Specification:
     /// Binary Format, Expressions.
     ///
-    /// Fails with `FramesRemainConst` after that `end` if a frame is open; otherwise as the first
-    /// operator in error does. Fails with `OutOfMemory` at the start of the expression.
+    /// Fails with `FramesRemainConst` after that `end` if a frame is open, otherwise as the first
+    /// operator in error does; with `OutOfMemory` at the start.
     ///
     /// # Examples
     ///
@@ -80,7 +78,6 @@ impl<'a> ConstExpr<'a> {
         self.reader.clone()
     }
 
-    /// Returns a new reader of the operators.
     pub fn get_operators_reader(&self, alloc: Global) -> OperatorsReader<'a>
         ensures reader { result.reader ≡ self.now }
         ensures fresh { IsFresh result }

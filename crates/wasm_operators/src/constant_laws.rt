@@ -6,13 +6,12 @@ ghost use Rattle.wasm_operators.specs.ConstantFaults.{ConstantFault};
 
 use wasm_operators_readers::below::WasmFeatures;
 
-/// States that no encoding of a constant expression is a proper prefix of another, and that each
-/// has one expression, except for its offset.
+/// States that no constant expression is a proper prefix of another.
 pub fn constant_expressions(features: WasmFeatures)
     ensures { PrefixCodeUpTo SameReader (EncodesConstantReader features) }
 {}
 
-/// States that the message and the offset of a constant expression's error are determined.
+/// States that the error of a constant expression is determined.
 pub fn constant_refusals()
     ensures { DeterminesRefusal ConstantFault }
 {}

@@ -4,8 +4,7 @@ ghost use Rattle.wasm_operators.specs.Locals.{EncodesDeclaration, DeclarationFau
 
 use wasm_operators_readers::below::{BinaryReader, Result, ValType};
 
-/// Reads the number of locals, and their type. Specification: Code Section. Fails as `read_var_u32`
-/// or `ValType::read` does.
+/// Reads the number of locals and their type. Fails as `read_var_u32` or `ValType::read` does.
 #[inline(always)]
 pub fn read_declaration(reader: &mut BinaryReader<'_>) -> Result<(u32, ValType)>
     ensures reads { Reads EncodesDeclaration result reader.old reader.new }

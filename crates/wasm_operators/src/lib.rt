@@ -1,12 +1,11 @@
-//! The operators of WebAssembly expressions, read or visited from borrowed bytes; function bodies,
-//! constant expressions and sections that hold them; and single operators.
+//! The operators of WebAssembly expressions, bodies and constant expressions, read or visited from
+//! borrowed bytes. Callers list only this crate.
 //!
-//! The contract of [`OperatorsReader::read_all`] is the main theorem. With a new reader, it returns
-//! `Ok` if and only if the bytes encode an expression of the recursive grammar. The list is then
-//! the walk of the expression's one tree. Callers list only this crate.
+//! The contract of [`OperatorsReader::read_all`] is the main theorem. A new reader returns `Ok` if
+//! and only if the bytes encode an expression, and then the walk of its one tree.
 //!
-//! Every call that allocates may fail with `OutOfMemory`. A call that reads one operator or item
-//! then consumes nothing; a call that reads to the end keeps what it read before.
+//! Every call that allocates may fail with `OutOfMemory`. A call for one operator or item then
+//! consumes nothing; a call that reads to the end keeps what it read before.
 #![tactic(auto)]
 
 pub mod body_laws;

@@ -11,7 +11,7 @@ use std::marker::Model;
 use wasm_operators_readers::OperatorsReader;
 use wasm_operators_readers::below::{BinaryReader, Error, Message, Result, ValType};
 
-/// A reader of the declarations of a body's locals. It adds up how many locals they declare.
+/// A reader of the declarations of a body's locals, which it counts.
 #[derive(Debug, Drop)]
 pub struct LocalsReader<'a> {
     reader: BinaryReader<'a>,
@@ -28,8 +28,7 @@ impl<'a> Model for LocalsReader<'a> {
 }
 
 impl<'a> LocalsReader<'a> {
-    /// Reads the count of the declarations and creates a reader of the locals. Fails as
-    /// `read_var_u32` does.
+    /// Reads the count of the declarations. Fails as `read_var_u32` does.
     ///
     /// # Examples
     ///
@@ -52,25 +51,23 @@ impl<'a> LocalsReader<'a> {
         }
     }
 
-    /// Returns the declared number of declarations, which reading does not change.
     pub fn get_count(&self) -> u32
         ensures { result ≡ self.now.count }
     {
         self.count
     }
 
-    /// Returns the offset of the next declaration.
     pub fn original_position(&self) -> u64
         ensures { result ≡ offset_of self.now.reader }
     {
         self.reader.original_position()
     }
 
-    /// Reads the number and the type of the next locals. Specification: Code Section. A call after
-    /// `get_count` declarations reads on.
+    /// Reads the number and the type of the next locals, also after `get_count` declarations.
+    /// Specification: Code Section.
     ///
     /// Fails as `read_var_u32` does; with `TooManyLocals` after the number if the total were more
-    /// than 4294967295; then as `ValType::read` does. Only success changes the total.
+    /// than 4294967295; then as `ValType::read` does.
     pub fn read(&mut self) -> Result<(u32, ValType)>
         ensures { ReadsDeclaration result self.old self.new }
     {
@@ -110,8 +107,8 @@ impl<'a> IntoIterator for LocalsReader<'a> {
 
     ghost into_iter_gives = { λ locals items. items ≡ all_left locals };
 
-    /// Converts the reader into an iterator over as many declarations as were declared, from the
-    /// current position, even if some were read before.
+    /// Converts the reader into an iterator over `get_count` declarations from the current
+    /// position, even if some were read before.
     fn into_iter(self) -> LocalsIterator<'a> {
         let left = self.count;
         LocalsIterator { locals: self, left }
@@ -166,9 +163,8 @@ impl<'a> Iterator for LocalsIterator<'a> {
 }
 
 impl<'a> LocalsIterator<'a> {
-    /// Returns the reader after the locals, once no item is left. If no item failed, it is the
-    /// reader of `FunctionBody::get_binary_reader_for_operators`, otherwise it is at the start of
-    /// the item that failed.
+    /// Returns a reader at the current position: after the locals, once no item is left, or at the
+    /// item that failed.
     pub fn into_binary_reader_for_operators(self) -> BinaryReader<'a>
         requires { self.left ≡ 0 }
         ensures reader { result ≡ self.entry.locals.reader }
@@ -180,8 +176,7 @@ impl<'a> LocalsIterator<'a> {
         self.locals.get_binary_reader()
     }
 
-    /// Returns a new reader of the operators at the current position: after the locals, once no
-    /// item is left and none failed.
+    /// Returns a new reader of the operators at the current position.
     pub fn into_operators_reader(self, alloc: Global) -> OperatorsReader<'a>
         ensures reader { result.reader ≡ self.entry.locals.reader }
         ensures fresh { IsFresh result }

@@ -1,4 +1,3 @@
-//! Skipping the operators of a constant expression.
 ghost use Rattle.std.specs.Prelude.{◌≡◌, ◌≢◌, [], true, IfOk, IfErr};
 ghost use Rattle.wasm_operators_readers.specs.below.Fault.{HasFault};
 ghost use Rattle.wasm_operators_readers.specs.below.FromReader.{IsRefused};
@@ -55,7 +54,7 @@ fn check_closed(operators: &OperatorsReader<'_>) -> Result<()>
     Ok(())
 }
 
-/// Returns the same error, except that an allocation failure gets this offset.
+/// Returns the error `e`, with the offset `start` if allocation failed.
 fn from_start(e: Error, start: u64) -> Error
     ensures message { result.message ≡ e.message }
     ensures memory { e.message ≡ Message.OutOfMemory → result.offset ≡ start }

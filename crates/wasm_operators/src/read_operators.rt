@@ -8,23 +8,19 @@ use wasm_operators_readers::decoder;
 use wasm_operators_readers::instr::{FrameStack, Operator};
 use wasm_operators_readers::visitors::{VisitOperator, VisitSimdOperator};
 
-/// Reading of single operators. The caller keeps the open frames: each call asks for the innermost
-/// once, and changes none.
+/// Reading of single operators, with frames that the caller keeps: each call asks once for the
+/// innermost, before anything else.
 pub trait ReadOperators<'a> {
-    // The reader of bytes of an implementing value.
+    // The value as a reader of bytes.
     ghost reader: { Self → Reader };
 
-    /// Reads the operator at the start of the rest, SIMD or not, without consuming it. The stack
-    /// supplies the innermost frame. Specification: Binary Format, Instructions.
-    ///
-    /// Fails as `visit_operator_simd` does.
+    /// Returns the next operator, SIMD or not, without consuming it. Fails as `visit_operator_simd`
+    /// does. Specification: Binary Format, Instructions.
     fn peek_operator<S: FrameStack>(&self, alloc: Global, stack: &S) -> Result<Operator<'a>>
         ensures { PeeksOperator (S.frame stack.now) result (reader self.now) };
 
-    /// Checks that no frame and no data is left. Specification: Binary Format, Expressions.
-    ///
-    /// Fails at the position, with `FramesRemain` if a frame is open, otherwise with
-    /// `UnexpectedData`.
+    /// Checks that all frames are closed and all data was read. Fails as `OperatorsReader::finish`
+    /// does. Specification: Binary Format, Expressions.
     fn finish_expression<S: FrameStack>(&self, stack: &S) -> Result<()>
         ensures { FinishesExpression result (S.frame stack.now) (reader self.now) };
 }
@@ -50,16 +46,14 @@ impl<'a> ReadOperators<'a> for BinaryReader<'a> {
     }
 }
 
-/// Visiting of single operators by the visitor `V`, which keeps the open frames. Each call asks for
-/// the innermost once, before anything else, and changes none.
+/// Visiting of single operators by a visitor that keeps the open frames.
 pub trait ReadVisits<'a, V: VisitOperator<'a> + FrameStack>: ReadOperators<'a> {
-    /// Visits the operator at the start of the rest, if the visitor's innermost frame allows it.
-    /// Specification: Binary Format, Instructions.
+    /// Visits the next operator, which the innermost frame must allow. Specification: Binary
+    /// Format, Instructions.
     ///
-    /// Fails with `OperatorsRemaining` at the position if no frame is open; with `UnexpectedSimd`
-    /// at the byte 0xfd, whatever follows; otherwise as `docs/ERRORS-AND-FEATURES.md` says for
-    /// operators. Fails with `OutOfMemory` only if the operator owns a list. Then the reader and
-    /// the visitor are unchanged.
+    /// Fails with `OperatorsRemaining` if no frame is open, with `UnexpectedSimd` at the byte 0xfd,
+    /// otherwise as `docs/ERRORS-AND-FEATURES.md` says for operators; with `OutOfMemory` only if
+    /// the operator owns a list.
     fn visit_operator(&mut self, alloc: Global, v: &mut V) -> Result<V::Output>
         ensures { DecodesScalarIn V.visits (V.frame v.old) result (Self.reader self.old) (Self.reader self.new) v.old v.new };
 }
@@ -76,8 +70,8 @@ impl<'a, V: VisitOperator<'a> + FrameStack> ReadVisits<'a, V> for BinaryReader<'
 pub trait ReadSimdVisits<'a, V: VisitOperator<'a> + VisitSimdOperator + FrameStack>: ReadOperators<
     'a,
 > {
-    /// Visits the operator at the start of the rest, SIMD or not. Fails as `visit_operator` does,
-    /// except with `UnexpectedSimd`.
+    /// Visits the next operator, SIMD or not. Fails as `visit_operator` does, but never with
+    /// `UnexpectedSimd`.
     fn visit_operator_simd(&mut self, alloc: Global, v: &mut V) -> Result<V::Output>
         ensures { DecodesIn V.visits (V.frame v.old) result (Self.reader self.old) (Self.reader self.new) v.old v.new };
 }

@@ -8,7 +8,7 @@ use std::alloc::Global;
 use std::marker::{Model, PhantomData};
 use wasm_operators_readers::below::{BinaryReader, Error, FromReader, Message, Result};
 
-/// A section of items of one type, with their number before them.
+/// A section: a number, and that many items of one type.
 #[derive(Drop)]
 pub struct SectionLimited<'a, T> {
     alloc: Global,
@@ -26,8 +26,7 @@ impl<'a, T> Model for SectionLimited<'a, T> {
 }
 
 impl<'a, T: FromReader<'a>> SectionLimited<'a, T> {
-    /// Reads the number of items, and creates the section. The items are read with this allocator.
-    /// Fails as `read_var_u32` does.
+    /// Reads the number of items, which are read with this allocator. Fails as `read_var_u32` does.
     pub fn new(alloc: Global, mut reader: BinaryReader<'a>) -> Result<SectionLimited<'a, T>>
         ensures count { IfOk result (λ s. Reads (EncodesUnsigned 32) (Ok s.count) reader.entry s.reader) }
         ensures refused { IfErr result (λ e. IsRefusal (EncodesUnsigned 32) e reader.entry) }
@@ -75,8 +74,7 @@ impl<'a, T: FromReader<'a>> IntoIterator for SectionLimited<'a, T> {
     }
 }
 
-/// An iterator over the items of a section, which ends after an error. After the last item it
-/// returns `DataAfterSection` once, if data is left.
+/// An iterator over the items of a section, which ends after an error.
 #[derive(Drop)]
 pub struct SectionLimitedIntoIter<'a, T> {
     alloc: Global,
@@ -102,8 +100,8 @@ impl<'a, T: FromReader<'a>> Iterator for SectionLimitedIntoIter<'a, T> {
 
     ghost remaining = { λ s. at_most (cond s.refused 0 (s.remaining + 1)) };
 
-    /// Reads the next item. Returns the item's error, or `DataAfterSection` at the start of the
-    /// data that is left after all items. An error consumes nothing.
+    /// Reads the next item. Returns its error, or once `DataAfterSection` at data that is left
+    /// after all items. An error consumes nothing.
     fn next(&mut self) -> Option<Result<T>> {
         if self.refused {
             return None;

@@ -1,4 +1,4 @@
--- How an operator starts: the calls before its immediates do one of three things.
+-- What precedes the immediates of an operator.
 use Rattle.std.proofs.Common.{◌≡◌, ℕ, ◌+◌, ◌≤◌, List, [], ◌∷◌, ◌++◌, length, Some, None, Ok, inl, inr, refl, sym, subst, ap, ◌∙◌, arith}
 use Rattle.wasm_decode.specs.below.bytes.error.Error.{Error}
 use Rattle.wasm_decode.specs.below.bytes.message.Message.TheVariants as message

@@ -222,7 +222,6 @@ same_ends Encodes Fault Allocates determined (Err d) (Ok y) s t reader frames a 
 same_ends Encodes Fault Allocates determined (Err d) (Err e) s t reader frames a b other others =
     same_stops Encodes Fault Allocates determined d e s t reader frames a b other others
 
--- A run without the capacity.
 record RanOver (reader : Reader) (frames : List FrameKind) (new : State) (placed : Placed) : Type 0 where
   text : List ℕ
   takes : Takes reader new.reader text

@@ -51,14 +51,11 @@ few_frames f offset placed text frames next laid along =
     let twice = twice_opened_along f offset placed text laid in
     omega (arith, opened, twice)
 
--- ---- the most frames that are open at once
-
--- They are at least the first ones.
 pub most_least : (frames : List FrameKind) (placed : Placed) → length frames ≤ most_open (Some frames) placed
 most_least frames [] = omega arith
 most_least frames (p ∷ ps) = omega arith
 
--- If there is space for those of two lists, there is space for those of the joined list.
+-- Space for two lists is space for the joined list.
 pub most_both : (q : Option (List FrameKind)) (first second : Placed) (mid : List FrameKind) (n : ℕ) →
     option_and_then (λ frames. frames_along frames (roles_of (operators first))) q ≡ Some mid → most_open q first ≤ n → most_open (Some mid) second ≤ n →
     most_open q (first ++ second) ≤ n
@@ -70,7 +67,6 @@ most_both (Some frames) (p ∷ ps) second mid n along few more =
     let others = most_both (frames_after frames (role_of p.0)) ps second mid n along (omega (arith, few)) more in
     omega (arith, few, others)
 
--- Operators open few of them.
 most_after : (frames : List FrameKind) (placed : Placed) (q : Option (List FrameKind)) (more : ℕ) →
     ((next : List FrameKind) → q ≡ Some next → length next ≤ length frames + more) → most_open q placed ≤ length frames + (more + opened_along placed)
 most_after frames placed None more few = omega arith

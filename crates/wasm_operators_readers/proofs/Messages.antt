@@ -1,5 +1,4 @@
--- An operator's errors have messages of reading values. A missing feature and a wrong frame are
--- reported for guarded operators only.
+-- The messages of an operator's errors.
 use Rattle.std.proofs.Common.{◌≡◌, ◌≢◌, ℕ, zero, suc, inl, inr, List, [], ◌∷◌, Option, Some, None, true, false, sym, subst}
 use Rattle.wasm_decode.specs.below.bytes.features.WasmFeatures.{WasmFeatures}
 use Rattle.wasm_decode.specs.below.bytes.message.LeadingByteName.{LeadingByteName}

@@ -1,4 +1,4 @@
--- Encoded lists: no longer than their bytes, split in two, and the bytes of each operator.
+-- Encoded lists: their length, and their parts.
 use Rattle.std.proofs.Common.{◌≡◌, ℕ, ◌+◌, ◌≤◌, List, [], ◌∷◌, ◌++◌, length, refl, sym, subst, ap, ◌∙◌, append_assoc, length-append, arith}
 use Rattle.wasm_decode.specs.below.bytes.features.WasmFeatures.{WasmFeatures}
 use Rattle.wasm_decode.specs.below.Source.{Reader, offset_of, Takes}

@@ -1,17 +1,16 @@
--- Operators that a visitor appends to a list, each with its offset.
 use Rattle.std.specs.Prelude.{◌≡◌, ℕ, List, [], ◌∷◌, ◌++◌}
 use Rattle.wasm_decode.specs.instr.declared.operator.Operator.{Operator}
 use Rattle.wasm_operators_readers.specs.Expression.{Placed}
 
--- The new list is the old list and an item made of the operator, with this offset.
+-- An item made of the operator was appended, with this offset.
 abbrev pub CollectsOne : {T : Type 0} → (Operator → T → Type 0) → ℕ → List (T × ℕ) → Operator → List (T × ℕ) → Type 0
 CollectsOne {T} holds offset old op new = (made : T) × holds op made × (new ≡ old ++ (made, offset) ∷ [])
 
--- The items are made of the operators, in order, and have their offsets.
+-- The items are made of the operators, in order, with their offsets.
 abbrev pub AreMade : {T : Type 0} → (Operator → T → Type 0) → Placed → List (T × ℕ) → Type 0
 AreMade holds [] items = items ≡ []
 AreMade {T} holds (p ∷ ps) items = (first : T) × (others : List (T × ℕ)) × (items ≡ (first, p.1) ∷ others) × holds p.0 first × AreMade holds ps others
 
--- The new list is the old list and items made of these operators.
+-- Items made of these operators were appended.
 abbrev pub Collects : {T : Type 0} → (Operator → T → Type 0) → List (T × ℕ) → List (T × ℕ) → Placed → Type 0
 Collects {T} holds old new placed = (items : List (T × ℕ)) × AreMade holds placed items × (new ≡ old ++ items)

@@ -14,11 +14,11 @@ Placed = List (Operator × ℕ)
 abbrev pub operators : Placed → List Operator
 operators placed = map (λ p. p.0) placed
 
--- A property of such a list.
+-- A property of lists of placed operators.
 abbrev pub OfPlaced : Type 1
 OfPlaced = Placed → Type 0
 
--- The property of every list.
+-- Any list.
 abbrev pub IsAny : OfPlaced
 IsAny placed = Unit {0}
 
@@ -28,7 +28,7 @@ LaidOut f offset [] bytes = bytes ≡ []
 LaidOut f offset (p ∷ ps) bytes = (p.1 ≡ offset) × (text more : List ℕ) × (bytes ≡ text ++ more) × EncodesOperator f p.0 text ×
     LaidOut f (offset + length text) ps more
 
--- The encoding of the operator, from its offset, ends before this offset.
+-- The operator's encoding ends before this offset.
 abbrev pub EndsAt : WasmFeatures → Operator × ℕ → ℕ → Type 0
 EndsAt f p end = (text : List ℕ) × EncodesOperator f p.0 text × (end ≡ p.1 + length text)
 
@@ -41,21 +41,20 @@ abbrev pub AreEncoded : WasmFeatures → List Operator → Type 0
 AreEncoded f [] = Unit {0}
 AreEncoded f (op ∷ ops) = ((text : List ℕ) × EncodesOperator f op text) × AreEncoded f ops
 
--- The operators are a prefix of the walk of an expression, and all have encodings.
+-- The operators begin an expression, and have encodings.
 abbrev pub Begins : WasmFeatures → List Operator → Type 0
 Begins f ops = (more : List Operator) × AreWalk (ops ++ more) × AreEncoded f (ops ++ more)
 
--- All of the bytes encode these operators. The operators before and these are the walk of an
--- expression.
+-- All of the bytes encode these operators, which complete an expression after those before.
 abbrev pub EncodesRest : List Operator → Source → Placed → Type 0
 EncodesRest before s placed = LaidOut s.features s.offset placed s.bytes × AreWalk (before ++ operators placed)
 
--- The bytes encode an expression, and these are its operators.
+-- All of the bytes encode an expression with these operators.
 abbrev pub EncodesExpression : Source → Placed → Type 0
 EncodesExpression s placed = EncodesRest [] s placed
 
--- A prefix of the bytes encodes these operators, which begin an expression after the operators
--- before.
+-- A prefix of the bytes encodes the operators of `placed`, each at its offset. The operators
+-- `before` and these begin an expression.
 pub record IsPrefixAfter (before : List Operator) (s : Source) (placed : Placed) : Type 0 where
   pub beginning : List ℕ
   pub more : List ℕ
@@ -63,8 +62,7 @@ pub record IsPrefixAfter (before : List Operator) (s : Source) (placed : Placed)
   pub laid : LaidOut s.features s.offset placed beginning
   pub begins : Begins s.features (before ++ operators placed)
 
--- The longest `Kept` list that a prefix of the bytes encodes and that begins an expression after
--- the operators before.
+-- The longest `Kept` list with `IsPrefixAfter`.
 pub record IsLongestOf (Kept : OfPlaced) (before : List Operator) (s : Source) (placed : Placed) : Type 0 where
   pub beginning : IsPrefixAfter before s placed
   pub kept : Kept placed

@@ -1,6 +1,5 @@
--- Prefixes of expressions without trees: each operator is allowed by the frame that the operators
--- before it leave. Specification: Validation, Control Instructions; Appendix, Validation Algorithm.
--- Proposal legacy exception handling.
+-- Prefixes of expressions, by the frames alone. Specification: Validation, Control Instructions;
+-- Appendix, Validation Algorithm. Proposal legacy exception handling.
 use Rattle.std.specs.Prelude.{◌≡◌, ℕ, ◌≤◌, List, [], ◌∷◌, ◌++◌, length, IsSome}
 use Rattle.wasm_decode.specs.below.Source.{Source}
 use Rattle.wasm_decode.specs.grammar.declared.frame_kind.FrameKind.{FrameKind}
@@ -9,7 +8,7 @@ use Rattle.wasm_decode.specs.grammar.Frames.{frames_along}
 use Rattle.wasm_decode.specs.instr.Roles.{roles_of}
 use Rattle.wasm_operators_readers.specs.Expression.{Placed, OfPlaced, IsAny, operators, LaidOut}
 
--- A prefix of the bytes encodes these operators, and these frames allow them step by step.
+-- A prefix of the bytes encodes these operators, and the frames allow them step by step.
 pub record IsAllowedFrom (frames : List FrameKind) (s : Source) (placed : Placed) : Type 0 where
   pub beginning : List ℕ
   pub more : List ℕ
@@ -17,7 +16,7 @@ pub record IsAllowedFrom (frames : List FrameKind) (s : Source) (placed : Placed
   pub laid : LaidOut s.features s.offset placed beginning
   pub allowed : IsSome (frames_along frames (roles_of (operators placed)))
 
--- The longest `Kept` list that a prefix of the bytes encodes and that the frames allow.
+-- The longest `Kept` list that the bytes start with and the frames allow.
 pub record IsFlatOf (Kept : OfPlaced) (frames : List FrameKind) (s : Source) (placed : Placed) : Type 0 where
   pub beginning : IsAllowedFrom frames s placed
   pub kept : Kept placed

@@ -1,5 +1,4 @@
--- The operators whose feature and frame are checked before their immediates. Specification: Binary
--- Format, Control Instructions. Proposal legacy exception handling.
+-- Specification: Binary Format, Control Instructions. Proposal legacy exception handling.
 use Rattle.std.specs.Prelude.{◌≡◌, ℕ, ◌<◌, List, None}
 use Rattle.wasm_decode.specs.below.Source.{Reader, rest, BeginsWith}
 use Rattle.wasm_decode.specs.instr.Immediate.{Kind}
@@ -7,6 +6,6 @@ use Rattle.wasm_decode.specs.opcodes.declared.guard.Guard.{Guard}
 use Rattle.wasm_decode.specs.opcodes.Entry.{guarded}
 use Rattle.wasm_decode.specs.opcodes.Entries.{entry_at}
 
--- The next byte is the opcode of the operator with this guard.
+-- The opcode of the operator with this guard is next.
 abbrev pub BeginsGuarded : Guard → Reader → Type 0
 BeginsGuarded g r = (code : ℕ) × (ks : List Kind) × (code < 256) × BeginsWith code (rest r) × (entry_at None code ≡ guarded g ks)

@@ -6,7 +6,7 @@ use Rattle.wasm_decode.specs.instr.declared.operator.Operator.{Operator}
 use Rattle.wasm_operators_readers.specs.Reading.{State}
 use Rattle.wasm_operators_readers.specs.Next.{ReadsNext}
 
--- One read that also returns the offset of the operator's first byte.
+-- One read, with the operator's offset.
 abbrev pub ReadsNextPlaced : Result (Operator × ℕ) Error → State → State → Type 0
 ReadsNextPlaced (Ok placed) old new = ReadsNext (Ok placed.0) old new × (placed.1 ≡ offset_of old.reader)
 ReadsNextPlaced (Err e) old new = ReadsNext (Err e) old new
@@ -22,7 +22,7 @@ iterating_over s = record { reader = s; refused = false }
 abbrev pub HasEnded : Iterating → Type 0
 HasEnded i = (i.refused ≡ true) ⊎ (rest i.reader.reader ≡ [])
 
--- A step of an iterator that reads in this way: nothing if it has ended, otherwise one read.
+-- A step of an iterator whose items are results of `Reads`: one read, unless it has ended.
 abbrev pub StepsBy : {X : Type 0} → (Result X Error → State → State → Type 0) → Iterating → Option (Result X Error) → Iterating → Type 0
 StepsBy Reads old None new = HasEnded old × (new ≡ old)
 StepsBy Reads old (Some item) new = (HasEnded old → ⊥) × Reads item old.reader new.reader × (new.refused ≡ is_err item)

@@ -1,4 +1,4 @@
--- Statements of laws about readers, by name, so that callers' proofs can take them as arguments.
+-- Statements of laws, named so that callers' proofs can take them as arguments.
 use Rattle.std.specs.Prelude.{◌≡◌, ℕ, ◌+◌, ◌*◌, ◌<◌, ◌≤◌, List, [], ◌∷◌, ◌++◌, length}
 use Rattle.wasm_decode.specs.below.Source.{offset_of}
 use Rattle.wasm_decode.specs.below.bytes.features.WasmFeatures.{WasmFeatures}
@@ -8,7 +8,7 @@ use Rattle.wasm_operators_readers.specs.Expression.{Placed, operators, LaidOut, 
 use Rattle.wasm_operators_readers.specs.MainTheorem.{IsWithinDepth}
 use Rattle.wasm_operators_readers.specs.Reading.{State, GrowsLittle, IsUnchanged, TakesOperator, TakesOperators}
 
--- A list has at most as many operators as its encoding has bytes.
+-- A list is at most as long as its encoding.
 abbrev pub IsNoLonger : WasmFeatures → Type 0
 IsNoLonger f = (offset : ℕ) (placed : Placed) (bytes : List ℕ) → LaidOut f offset placed bytes → length placed ≤ length bytes
 
@@ -16,44 +16,43 @@ IsNoLonger f = (offset : ℕ) (placed : Placed) (bytes : List ℕ) → LaidOut f
 abbrev pub HasEncodings : WasmFeatures → Type 0
 HasEncodings f = (offset : ℕ) (placed : Placed) (bytes : List ℕ) → LaidOut f offset placed bytes → AreEncoded f (operators placed)
 
--- Two encodings in succession encode the joined list.
+-- Joined encodings encode the joined list.
 abbrev pub LaysOutBoth : WasmFeatures → Type 0
 LaysOutBoth f = (offset : ℕ) (first second : Placed) (a b : List ℕ) → LaidOut f offset first a → LaidOut f (offset + length a) second b →
     LaidOut f offset (first ++ second) (a ++ b)
 
--- Of two lists encoded at the start of the same bytes, the shorter is a prefix of the longer.
+-- Of two lists that the same bytes start with, the shorter is a prefix of the longer.
 abbrev pub BeginsLonger : WasmFeatures → Type 0
 BeginsLonger f = (offset : ℕ) (first second : Placed) (a b x y : List ℕ) → LaidOut f offset first a → LaidOut f offset second b → a ++ x ≡ b ++ y →
     length first ≤ length second → IsBeginningOf first second
 
--- Before the first read, the list of the operators is empty.
+-- Before the first read, the list is empty.
 abbrev pub TakesNone : Type 0
 TakesNone = (s : State) → TakesOperators s s []
 
--- A successful read adds its operator, with its offset.
+-- A read appends its operator, with its offset.
 abbrev pub TakesOneMore : Type 0
 TakesOneMore = (old mid new : State) (placed : Placed) (op : Operator) → TakesOperators old mid placed → TakesOperator EncodesAllowed op mid new →
     TakesOperators old new (placed ++ (op, offset_of mid.reader) ∷ [])
 
--- A failed read adds no operator.
+-- A failed read appends nothing.
 abbrev pub TakesNoMore : Type 0
 TakesNoMore = (old mid new : State) (placed : Placed) → TakesOperators old mid placed → IsUnchanged mid new → TakesOperators old new placed
 
--- The lists of two successive runs form one list.
+-- Two runs, one after the other, read the joined list.
 abbrev pub TakesBoth : Type 0
 TakesBoth = (old mid new : State) (first second : Placed) → TakesOperators old mid first → TakesOperators mid new second →
     TakesOperators old new (first ++ second)
 
--- Each successful read consumes at least one byte.
+-- A read consumes at least one byte.
 abbrev pub TakesBytes : Type 0
 TakesBytes = (op : Operator) (old new : State) → TakesOperator EncodesAllowed op old new → offset_of old.reader < offset_of new.reader
 
--- A read consumes at least two bytes for each frame that it adds.
+-- A read consumes two bytes or more for each frame that it adds.
 abbrev pub AddsFewFrames : Type 0
 AddsFewFrames = (op : Operator) (old new : State) → TakesOperator EncodesAllowed op old new → IsWithinDepth old new
 
--- The bound on memory holds over two steps, if the first added at most one frame for two of its
--- bytes.
+-- The bound on memory holds over two runs, if the first added at most one frame for two bytes.
 abbrev pub MemoryAddsUp : Type 0
 MemoryAddsUp = (first second : ℕ) (old mid new : State) → GrowsLittle first old mid → 2 * length mid.frames ≤ 2 * length old.frames + first →
     GrowsLittle second mid new → GrowsLittle (first + second) old new

@@ -15,13 +15,12 @@ use Rattle.wasm_operators_readers.specs.Expression.{Placed, OfPlaced, operators,
 use Rattle.wasm_operators_readers.specs.Flat.{IsFlatOf}
 use Rattle.wasm_operators_readers.specs.Reading.{State, Taking, Refusing, Allocating, StopsRun}
 
--- These operators were read before: they have encodings, and their open path leads to the frames.
+-- These operators were read before: they have encodings, and lead to the open frames.
 pub record ReadSoFar (before : List Operator) (s : State) : Type 0 where
   pub encodes : AreEncoded s.reader.features before
   pub path : OpenPath (roles_of before) s.frames
 
--- The operators that were read complete the one expression that the bytes encode. No byte and no
--- frame is left.
+-- The operators complete the one expression that the bytes encode. No byte and no frame is left.
 pub record ReadsTree (before : List Operator) (old new : State) (placed : Placed) : Type 0 where
   pub encodes : EncodesRest before (source_of old.reader) placed
   pub tree : Expression Operator
@@ -30,14 +29,13 @@ pub record ReadsTree (before : List Operator) (old new : State) (placed : Placed
   pub all : rest new.reader ≡ []
   pub takes : Takes old.reader new.reader (rest old.reader)
 
--- The list that was read before an error: the longest `Kept` list that begins an expression, or
--- some list if allocation failed.
+-- The longest `Kept` list that begins an expression; after `OutOfMemory`, some list that begins one.
 abbrev pub BeginningAt : OfPlaced → Message → List Operator → Reader → Placed → Type 0
 BeginningAt Kept message.OutOfMemory before r placed = IsPrefixAfter before (source_of r) placed
 BeginningAt Kept _ before r placed = IsLongestOf Kept before (source_of r) placed
 
--- The operators that were read are the longest `Kept` list that begins an expression; if allocation
--- failed, some list that begins one. The error describes the next bytes.
+-- The operators are the longest `Kept` list that begins an expression; after `OutOfMemory`, some
+-- list that begins one. The error describes the bytes after them.
 pub record ReadsBeginning (Kept : OfPlaced) (Encodes : Taking) (Fault : Refusing) (Allocates : Allocating) (before : List Operator) (e : Error) (old new : State)
     (placed : Placed) : Type 0 where
   pub at : BeginningAt Kept e.message before old.reader placed
@@ -54,18 +52,18 @@ SomeCame Effect Of = (placed : Placed) × Effect placed × Of placed
 abbrev pub IsNotOutOfMemory : {X : Type 0} → Result X Error → Type 0
 IsNotOutOfMemory result = IfErr result (λ e. e.message ≢ message.OutOfMemory)
 
--- All of the bytes encode the list, and it closes all of these frames.
+-- All of the bytes encode the list, which closes all of these frames.
 abbrev pub ClosesFrom : List FrameKind → Source → Placed → Type 0
 ClosesFrom frames s placed = LaidOut s.features s.offset placed s.bytes × (frames_along frames (roles_of (operators placed)) ≡ Some [])
 
--- Without trees, unless allocation fails: `Effect` holds for the longest `Kept` list that the
--- frames allow. `Ok` if and only if all of the bytes encode that list and it closes every frame.
+-- Unless allocation fails, `Effect` holds for the longest `Kept` list that the frames allow. `Ok`
+-- if and only if all of the bytes encode it and it closes every frame.
 abbrev pub ReadsFlat : {X : Type 0} → OfPlaced → OfPlaced → Result X Error → State → Type 0
 ReadsFlat Effect Kept result old =
     (flat : Placed) → IsFlatOf Kept old.frames (source_of old.reader) flat → IsNotOutOfMemory result → Effect flat ×
     (IsOk result ↔ ClosesFrom old.frames (source_of old.reader) flat)
 
--- Each added frame takes at least two of the bytes that were read.
+-- Each added frame took at least two bytes.
 abbrev pub IsWithinDepth : State → State → Type 0
 IsWithinDepth old new = 2 * length new.frames + old.reader.position ≤ 2 * length old.frames + new.reader.position
 
@@ -80,40 +78,36 @@ pub record IsCut (Kept : OfPlaced) (before : List Operator) (s : Source) : Type 
   pub encodes : EncodesRest before (with_after s more) whole
   pub kept : Kept whole
 
--- The error for bytes that are cut off: `FramesRemain` after the last byte, `EndOfData` within an
--- operator, or `OutOfMemory`.
+-- `FramesRemain` after the last byte, `EndOfData` within an operator, or `OutOfMemory`.
 abbrev pub CutFault : Message → List ℕ → Type 0
 CutFault message.OutOfMemory left = Unit {0}
 CutFault message.FramesRemain left = left ≡ []
 CutFault message.EndOfData left = left ≡ [] → ⊥
 CutFault _ left = ⊥
 
--- With this many bytes 0x0b after them, the bytes encode the rest of an expression.
+-- `n` bytes 0x0b complete the expression.
 abbrev pub IsCompletedByEnds : List Operator → Source → ℕ → Type 0
 IsCompletedByEnds before s n = (whole : Placed) × EncodesRest before (with_after s (replicate n 0x0b)) whole
 
--- If the error is `FramesRemain`, one byte 0x0b for each open frame completes the expression.
+-- On `FramesRemain`, one byte 0x0b for each open frame completes the expression.
 abbrev pub IsCompletedIfCut : {X : Type 0} → List Operator → Result X Error → State → State → Type 0
 IsCompletedIfCut before result old new =
     IfErr result (λ e. e.message ≡ message.FramesRemain → IsCompletedByEnds before (source_of old.reader) (length new.frames))
 
--- What reading or visiting to the end does after the operators `before`. `Effect`: the list was
--- added to another, or visited. `Kept`: all lists, or those without SIMD operators.
+-- Reading or visiting to the end, after the operators `before`. `Effect`: the list was appended, or
+-- visited. `Kept`: any list, or one without SIMD operators.
 pub record ReadsRest {X : Type 0} (Effect Kept : OfPlaced) (Encodes : Taking) (Fault : Refusing) (Allocates : Allocating) (before : List Operator)
     (result : Result X Error) (old new : State) : Type 0 where
-  -- On `Ok`, the operators are the walk of the one tree that the bytes encode.
+  -- `Ok`: the operators complete the walk of the one tree.
   pub tree : OnOk result (SomeCame Effect (ReadsTree before old new))
-  -- If the bytes encode the rest of a `Kept` expression, only allocation can fail.
+  -- For the rest of a `Kept` expression, only allocation can fail.
   pub only : (whole : Placed) → EncodesRest before (source_of old.reader) whole → Kept whole → IfErr result (λ e. e.message ≡ message.OutOfMemory)
-  -- On `Err`, the operators are the longest `Kept` list that begins an expression, and the error
-  -- describes the next bytes.
+  -- `Err`: the operators are the longest `Kept` list that begins an expression.
   pub beginning : IfErr result (λ e. SomeCame Effect (ReadsBeginning Kept Encodes Fault Allocates before e old new))
-  -- If more bytes would complete such an expression, the error is the end of the data or an
-  -- allocation failure.
+  -- If more bytes would complete a `Kept` expression, the error is a `CutFault`.
   pub cut : IsCut Kept before (source_of old.reader) → IfErr result (λ e. CutFault e.message (rest new.reader))
-  -- If all bytes were read and frames are open, one byte 0x0b for each completes the expression.
+  -- If only frames are left open, bytes 0x0b complete the expression.
   pub completed : IsCompletedIfCut before result old new
-  -- If the longest list that begins an expression is not `Kept`, an error is `UnexpectedSimd` or
-  -- `OutOfMemory`.
+  -- If the longest list is not `Kept`, the error is `UnexpectedSimd` or `OutOfMemory`.
   pub vector : (longest : Placed) → IsLongestAfter before (source_of old.reader) longest → (Kept longest → ⊥) →
       IfErr result (λ e. (e.message ≡ message.UnexpectedSimd) ⊎ (e.message ≡ message.OutOfMemory))

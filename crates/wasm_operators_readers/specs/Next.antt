@@ -1,5 +1,3 @@
--- One read or visit of a reader of operators: the bytes it consumes, its errors, and when
--- allocation may fail.
 use Rattle.std.specs.Prelude.{◌≡◌, ℕ, ◌<◌, ◌≤◌, [], Some, None, Result, ◌⊎◌}
 use Rattle.wasm_decode.specs.below.bytes.error.Error.{Error}
 use Rattle.wasm_decode.specs.grammar.declared.frame_kind.FrameKind.{FrameKind}
@@ -15,7 +13,7 @@ use Rattle.wasm_operators_readers.specs.Stack.{OpenFrames}
 use Rattle.wasm_operators_readers.specs.Step.{step_at, Opens}
 use Rattle.wasm_operators_readers.specs.Reading.{Taking, Refusing, Allocating, State, GrowsLittle, FrameMayAllocate, IsUnchanged, StopsRead, ReadsOperator, VisitsOperator}
 
--- The next operator may own a list, which allocates.
+-- The next operator may own a list.
 abbrev pub ListMayAllocate : Taking → Allocating
 ListMayAllocate Encodes s = (kind : FrameKind) × (innermost s.frames ≡ Some kind) × MayAllocate (Encodes s.reader.features kind) s.reader
 
@@ -23,13 +21,13 @@ ListMayAllocate Encodes s = (kind : FrameKind) × (innermost s.frames ≡ Some k
 abbrev pub NextMayAllocate : Taking → Allocating
 NextMayAllocate Encodes s = FrameMayAllocate s ⊎ ListMayAllocate Encodes s
 
--- `Ok` if and only if a prefix of the rest encodes an operator that the innermost frame allows,
--- unless allocation fails. On `Ok`, `TakesOperator` holds; on `Err`, `StopsNext`.
+-- `Ok`, and `TakesOperator`, if and only if an operator that the innermost frame allows is next,
+-- unless allocation fails; otherwise `StopsNext`.
 abbrev pub ReadsNext : Result Operator Error → State → State → Type 0
 ReadsNext = ReadsOperator EncodesAllowed OperatorFault (NextMayAllocate EncodesAllowed)
 
--- As `ReadsNext`, for a visit, with the visitor's relation at the operator. On `Err`, the visitor
--- is unchanged.
+-- As `ReadsNext`, and the visitor's relation holds at the operator. On `Err`, the visitor is
+-- unchanged.
 abbrev pub VisitsNext : {V A : Type 0} → (V → Operator → A → V → Type 0) → Result A Error → State → State → V → V → Type 0
 VisitsNext visits = VisitsOperator visits EncodesAllowed OperatorFault (NextMayAllocate EncodesAllowed)
 
@@ -40,7 +38,7 @@ VisitsNextScalar visits = VisitsOperator visits EncodesScalar ScalarOperatorFaul
 abbrev pub state_of : Reader → OpenFrames → State
 state_of r s = record { reader = r; frames = s.frames; room = s.room }
 
--- Nothing but the capacity may have changed, and the error describes the next bytes.
+-- Only the capacity may have changed, and the error describes the next bytes.
 abbrev pub StopsNext : Taking → Refusing → Error → State → State → Type 0
 StopsNext Encodes Fault e old new = IsUnchanged old new × StopsRead Encodes Fault (NextMayAllocate Encodes) e new
 

@@ -1,6 +1,4 @@
--- How many frames operators open, and their first bytes.
--- WebAssembly Core Specification 3.0: Binary Format, Instructions, Control Instructions.
--- The legacy exception handling proposal: try.
+-- Specification: Binary Format, Control Instructions. Proposal legacy exception handling.
 use Rattle.std.specs.Prelude.{◌≡◌, ℕ, ◌+◌, List, [], ◌∷◌, length, max, Option, Some, None, ◌⊎◌}
 use Rattle.wasm_decode.specs.grammar.declared.frame_kind.FrameKind.{FrameKind}
 use Rattle.wasm_decode.specs.grammar.Frames.{frames_after}
@@ -15,7 +13,7 @@ opened_by_role (opens_if a) = 1
 opened_by_role (opens_try a) = 1
 opened_by_role _ = 0
 
--- How many more frames are open after an operator, at most.
+-- How many frames an operator opens.
 abbrev pub opened_by : Operator → ℕ
 opened_by op = opened_by_role (role_of op)
 
@@ -23,8 +21,8 @@ abbrev pub opened_along : Placed → ℕ
 opened_along [] = 0
 opened_along (p ∷ ps) = opened_by p.0 + opened_along ps
 
--- The greatest number of frames that are open before, between and after these operators. They start with these frames, and with `None` no
--- frames are possible.
+-- The most frames that are open at once along these operators. `None`, after an operator that the
+-- frames do not allow, counts 0.
 abbrev pub most_open : Option (List FrameKind) → Placed → ℕ
 most_open None ps = 0
 most_open (Some frames) [] = length frames

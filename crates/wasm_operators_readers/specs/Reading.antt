@@ -1,6 +1,5 @@
--- A reader of operators, one read or visit, and several. Three relations are parameters: the
--- encoding of an operator that is read, the error, and when allocation may fail. So the definitions
--- serve reads, visits, and visits without SIMD operators.
+-- Parameters are the encoding, the error, and when allocation may fail. So the definitions serve
+-- reads, visits, and visits without SIMD operators.
 use Rattle.std.specs.Prelude.{◌≡◌, ℕ, ◌+◌, ◌≤◌, List, [], ◌∷◌, ◌++◌, length, Some, Result, Ok, Err, ◌⊎◌}
 use Rattle.wasm_decode.specs.below.bytes.error.Error.{Error}
 use Rattle.wasm_decode.specs.below.bytes.features.WasmFeatures.{WasmFeatures}
@@ -16,16 +15,15 @@ use Rattle.wasm_operators_readers.specs.Expression.{Placed, OfPlaced, operators,
 use Rattle.wasm_operators_readers.specs.Openings.{opened_by, opened_along, most_open, LeadsFrame}
 use Rattle.wasm_operators_readers.specs.Stack.{frame_memory, IsLittleMemory}
 
--- The bytes encode an operator that is read in a frame of this kind.
+-- Which operators are read, in a frame of this kind.
 abbrev pub Taking : Type 1
 Taking = WasmFeatures → FrameKind → List ℕ → Operator → Type 0
 
--- The message and offset of a read's error.
+-- When a read fails with which message, at which offset.
 abbrev pub Refusing : Type 1
 Refusing = WasmFeatures → FrameKind → Message → Reader → ℕ → Type 0
 
--- The reader of the bytes, the open frames from the outermost to the innermost, and how many more
--- fit without allocating.
+-- The reader of the bytes, the open frames, the outermost first, and the capacity for more.
 pub record State : Type 0 where
   pub reader : Reader
   pub frames : List FrameKind
@@ -35,12 +33,12 @@ pub record State : Type 0 where
 abbrev pub Allocating : Type 1
 Allocating = State → Type 0
 
--- Nothing was read: only the frame of the expression is open.
+-- Only the frame of the expression is open.
 abbrev pub IsFresh : State → Type 0
 IsFresh s = s.frames ≡ frame.Block ∷ []
 
--- After this many bytes, the memory is not larger than before, or has space for two for each frame
--- that was open, one for each byte, and ten.
+-- After reading `bytes` bytes, there is space for at most max(m, 2 * f + bytes + 10) frames:
+-- before, there was space for m, and f were open.
 abbrev pub GrowsLittle : ℕ → State → State → Type 0
 GrowsLittle bytes old new =
     IsLittleMemory (frame_memory old.frames old.room) (length old.frames) (bytes + 10) (frame_memory new.frames new.room)
@@ -49,20 +47,20 @@ GrowsLittle bytes old new =
 abbrev pub KeepsMemory : State → State → Type 0
 KeepsMemory old new = frame_memory old.frames old.room ≤ frame_memory new.frames new.room
 
--- The memory of the frames has space for all frames that were open at once, from this state on and along these operators.
+-- The memory has space for the most frames that were open at once along these operators.
 abbrev pub HoldsMostOpen : State → Placed → State → Type 0
 HoldsMostOpen old placed new = most_open (Some old.frames) placed ≤ frame_memory new.frames new.room + 1
 
--- Nothing changed, except that the capacity may have grown within the bound.
+-- Only the capacity may have grown, within the bound.
 abbrev pub IsUnchanged : State → State → Type 0
 IsUnchanged old new = (new.reader ≡ old.reader) × (new.frames ≡ old.frames) × (old.room ≤ new.room) × GrowsLittle 0 old new
 
--- Two readers are at one place, with the same frames. Their capacities may differ.
+-- The readers are at one place, with the same frames.
 abbrev pub SameReaderAndFrames : State → State → Type 0
 SameReaderAndFrames first second = (second.reader ≡ first.reader) × (second.frames ≡ first.frames)
 
--- A prefix of the rest, which was read, encodes an operator that the innermost frame allows. The
--- frames follow its role, and only opening a frame uses capacity, at most one.
+-- The next operator, which the innermost frame allows, was read. The frames follow its role, and
+-- only opening a frame uses capacity.
 pub record TakesOperator (Encodes : Taking) (op : Operator) (old new : State) : Type 0 where
   pub kind : FrameKind
   pub open_frame : innermost old.frames ≡ Some kind
@@ -85,7 +83,7 @@ pub record IsRefusedThere (Encodes : Taking) (Fault : Refusing) (e : Error) (s :
   pub ahead : IsAhead s.reader e.offset
   pub fault : Fault s.reader.features kind e.message s.reader e.offset
 
--- Allocation failed, which is possible in this state.
+-- Allocation failed, as it may in this state.
 abbrev pub NoMemory : Allocating → Error → State → Type 0
 NoMemory Allocates e s = (e.message ≡ message.OutOfMemory) × (e.offset ≡ offset_of s.reader) × Allocates s
 
@@ -101,17 +99,17 @@ FrameMayAllocate s = (kind : FrameKind) × (innermost s.frames ≡ Some kind) ×
 abbrev pub StopsRead : Taking → Refusing → Allocating → Error → State → Type 0
 StopsRead Encodes Fault Allocates e s = NoFrameOpen e s ⊎ (IsRefusedThere Encodes Fault e s ⊎ NoMemory Allocates e s)
 
--- One read. On an error, the reasons hold for the state after it.
+-- The call reads the next operator; or it fails, and only the capacity may have grown.
 abbrev pub ReadsOperator : Taking → Refusing → Allocating → Result Operator Error → State → State → Type 0
 ReadsOperator Encodes Fault Allocates (Ok op) old new = TakesOperator Encodes op old new
 ReadsOperator Encodes Fault Allocates (Err e) old new = IsUnchanged old new × StopsRead Encodes Fault Allocates e new
 
--- One visit. A read that fails makes no visit.
+-- As `ReadsOperator`, with a visit of the operator. On `Err` the visitor is unchanged.
 abbrev pub VisitsOperator : {V A : Type 0} → (V → Operator → A → V → Type 0) → Taking → Refusing → Allocating → Result A Error → State → State → V → V → Type 0
 VisitsOperator visits Encodes Fault Allocates (Ok a) old new before after = (op : Operator) × TakesOperator Encodes op old new × visits before op a after
 VisitsOperator visits Encodes Fault Allocates (Err e) old new before after = IsUnchanged old new × (after ≡ before) × StopsRead Encodes Fault Allocates e new
 
--- Successful reads of these operators, one after another.
+-- These operators were read, one after another.
 pub record TakesOperators (old new : State) (placed : Placed) : Type 0 where
   pub text : List ℕ
   pub takes : Takes old.reader new.reader text
@@ -133,8 +131,7 @@ abbrev pub EndsExpression : {X : Type 0} → Result X Error → Type 0 → Reade
 EndsExpression (Ok x) Closed r = Closed × (rest r ≡ [])
 EndsExpression (Err e) Closed r = (e.offset ≡ offset_of r) × StopsFinish e.message Closed r
 
--- `Ok` if and only if no frame is open and all data was read. The error, at the position, is
--- `FramesRemain` or `UnexpectedData`.
+-- `Ok` if and only if no frame is open and all data was read. An error is at the position.
 abbrev pub Finishes : {X : Type 0} → Result X Error → State → Type 0
 Finishes result s = EndsExpression result (s.frames ≡ []) s.reader
 
@@ -142,8 +139,7 @@ Finishes result s = EndsExpression result (s.frames ≡ []) s.reader
 abbrev pub FramesLeft : Error → State → Type 0
 FramesLeft e s = (rest s.reader ≡ []) × (s.frames ≡ [] → ⊥) × (e.message ≡ message.FramesRemain) × (e.offset ≡ offset_of s.reader)
 
--- Frames are open at the end of the data; or data is left, and no operator can be read or
--- allocation fails.
+-- Frames are open at the end of the data; or data is left, and a read fails.
 abbrev pub StopsRun : Taking → Refusing → Allocating → Error → State → Type 0
 StopsRun Encodes Fault Allocates e s = FramesLeft e s ⊎ ((rest s.reader ≡ [] → ⊥) × StopsRead Encodes Fault Allocates e s)
 
@@ -151,11 +147,11 @@ abbrev pub EndsRun : {X : Type 0} → Taking → Refusing → Allocating → Res
 EndsRun Encodes Fault Allocates (Ok x) s = (s.frames ≡ []) × (rest s.reader ≡ [])
 EndsRun Encodes Fault Allocates (Err e) s = StopsRun Encodes Fault Allocates e s
 
--- The new list is the old list followed by this list.
+-- `placed` was appended to `out_old`.
 abbrev pub Adds : Placed → Placed → Placed → Type 0
 Adds out_old out_new placed = out_new ≡ out_old ++ placed
 
--- Reading or visiting to the end: the operators that were read, the effect, and the end.
+-- Reading or visiting to the end: for the operators that were read, the effect holds.
 abbrev pub RunsToEnd : {X : Type 0} → OfPlaced → Taking → Refusing → Allocating → Result X Error → State → State → Type 0
 RunsToEnd Effect Encodes Fault Allocates result old new =
     (placed : Placed) × Effect placed × TakesOperators old new placed × EndsRun Encodes Fault Allocates result new

@@ -2,8 +2,7 @@
 use Rattle.std.specs.Prelude.{◌≡◌, ℕ, ◌+◌, ◌-◌, ◌*◌, ◌<◌, ◌≤◌, List, [], length, max, ◌⊎◌}
 use Rattle.wasm_decode.specs.grammar.declared.frame_kind.FrameKind.{FrameKind}
 
--- The open frames, from the outermost to the innermost, and how many more can be opened without
--- allocating.
+-- The open frames, the outermost first, and how many more can be opened without allocating.
 pub record OpenFrames : Type 0 where
   pub frames : List FrameKind
   pub room : ℕ
@@ -12,21 +11,20 @@ pub record OpenFrames : Type 0 where
 abbrev pub HasRoom : OpenFrames → Type 0
 HasRoom s = (s.frames ≡ []) ⊎ (0 < s.room)
 
--- How many frames the memory has space for. The innermost frame is stored apart.
+-- How many frames the memory has space for, apart from the innermost.
 abbrev pub frame_memory : List FrameKind → ℕ → ℕ
 frame_memory frames room = (length frames - 1) + room
 
--- There is space for at most as many frames as before, or for two for each of these and this many
--- more.
+-- There is space for at most max(before, 2 * frames + more) frames.
 abbrev pub IsLittleMemory : ℕ → ℕ → ℕ → ℕ → Type 0
 IsLittleMemory before frames more now = now ≤ max before (2 * frames + more)
 
--- The memory is not larger than before, or has space for two for each open or wanted frame, and
--- eight.
+-- There is space for at most max(m, 2 * (f + needed) + 8) frames: before, there was space for m, f
+-- were open, and `needed` more are wanted.
 abbrev pub GrowsByDoubling : ℕ → OpenFrames → OpenFrames → Type 0
 GrowsByDoubling needed old new =
     IsLittleMemory (frame_memory old.frames old.room) (length old.frames + needed) 8 (frame_memory new.frames new.room)
 
--- The memory has space for the same number of frames.
+-- Frame memory has the same size.
 abbrev pub IsSameMemory : OpenFrames → OpenFrames → Type 0
 IsSameMemory old new = frame_memory new.frames new.room ≡ frame_memory old.frames old.room

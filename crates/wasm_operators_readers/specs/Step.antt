@@ -5,7 +5,7 @@ use Rattle.wasm_decode.specs.grammar.Role.{Role, block, loop, try_table, plain, 
 use Rattle.wasm_operators_readers.specs.declared.step.FrameStep.{FrameStep}
 use Rattle.wasm_operators_readers.specs.declared.step.FrameStep.TheVariants as step
 
--- The step of a role.
+-- What an operator with this role does to the open frames.
 abbrev pub step_of : {A : Type 0} → Role A → FrameStep
 step_of (plain a) = step.Stays
 step_of (opens block a) = step.OpensBlock
@@ -19,7 +19,7 @@ step_of turns_catch_all = step.TurnsCatchAll
 step_of (delegates depth) = step.Delegates
 step_of ends = step.Ends
 
--- The role of a step, for an operator that carries nothing.
+-- The role whose step this is. It carries `tt` in place of an operator, the tag 0 or the depth 0.
 abbrev pub role_of_step : FrameStep → Role (Unit {0})
 role_of_step step.Stays = plain tt
 role_of_step step.OpensBlock = opens block tt

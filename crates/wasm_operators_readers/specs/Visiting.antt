@@ -10,7 +10,7 @@ VisitRun visits before [] outcomes after = (outcomes ≡ []) × (after ≡ befor
 VisitRun {V} {A} visits before (p ∷ ps) outcomes after =
     (first : A) × (others : List A) × (between : V) × (outcomes ≡ first ∷ others) × visits before p.0 first between × VisitRun visits between ps others after
 
--- A visitor's run along a list, with any results.
+-- The visitor's relation along the list.
 abbrev pub Visited : {V A : Type 0} → (V → Operator → A → V → Type 0) → V → V → Placed → Type 0
 Visited {V} {A} visits before after placed = (outcomes : List A) × VisitRun visits before placed outcomes after
 
@@ -18,7 +18,7 @@ abbrev pub is_vector : Operator → Bool
 is_vector (operator.Simd _) = true
 is_vector _ = false
 
--- The longest prefix of a list that has no SIMD operator.
+-- The longest prefix without SIMD operators.
 abbrev pub scalar_beginning : Placed → Placed
 scalar_beginning [] = []
 scalar_beginning (p ∷ ps) = if is_vector p.0 then [] else (p ∷ scalar_beginning ps)
@@ -27,6 +27,6 @@ scalar_beginning (p ∷ ps) = if is_vector p.0 then [] else (p ∷ scalar_beginn
 abbrev pub IsScalar : Placed → Type 0
 IsScalar placed = scalar_beginning placed ≡ placed
 
--- The visitor ran along a list without SIMD operators.
+-- As `Visited`, for a list without SIMD operators.
 abbrev pub VisitedScalar : {V A : Type 0} → (V → Operator → A → V → Type 0) → V → V → Placed → Type 0
 VisitedScalar visits before after placed = Visited visits before after placed × IsScalar placed

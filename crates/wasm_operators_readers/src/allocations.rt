@@ -6,7 +6,7 @@ use std::marker::Model;
 use wasm_decode::below::{Error, Message, Result};
 use wasm_decode::grammar::FrameKind;
 
-/// The memory of a reader of operators, for reuse. Contracts see its capacity in frames.
+/// The memory of a reader's frames, for reuse. Contracts see its capacity in frames.
 #[derive(Debug, Drop)]
 pub struct OperatorsReaderAllocations {
     frames: Vec<FrameKind>,
@@ -24,7 +24,6 @@ impl Model for OperatorsReaderAllocations {
 }
 
 impl OperatorsReaderAllocations {
-    /// Creates allocations without capacity.
     pub fn new(alloc: Global) -> OperatorsReaderAllocations
         ensures { result ≡ 0 }
     {
@@ -33,9 +32,8 @@ impl OperatorsReaderAllocations {
         }
     }
 
-    /// Reserves capacity for this many frames, and allocates no more than that.
-    ///
-    /// Fails with `OutOfMemory` at offset 0. Then nothing changes.
+    /// Raises the capacity to `frames`, unless it is greater already. Fails with `OutOfMemory` at
+    /// offset 0.
     pub fn reserve(&mut self, frames: usize) -> Result<()>
         ensures room { OnOk result (frames ≤ self.new) }
         ensures kept { self.old ≤ self.new }

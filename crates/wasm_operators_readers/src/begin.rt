@@ -1,5 +1,4 @@
-//! What precedes and follows the immediates of an operator: frame, opcode, capacity; the change of
-//! the frames.
+//! What precedes and follows the immediates of an operator.
 ghost use Rattle.std.specs.Prelude.{◌≡◌, ◌+◌, ◌≤◌, Some, IsSome, IfOk, IfErr};
 ghost use Rattle.wasm_decode.specs.grammar.Frames.{frames_after};
 ghost use Rattle.wasm_decode.specs.opcodes.Allowed.{EncodesAllowed, EncodesScalar};
@@ -21,10 +20,8 @@ pub struct OperatorStart {
     pub code: u8,
 }
 
-/// Reads the opcode of the next operator, and reserves capacity for the frame that it opens.
-///
-/// Fails with `OperatorsRemaining` if no frame is open, then with `EndOfData` or `OutOfMemory`. The
-/// reader and the frames are then unchanged.
+/// Reads the opcode of the next operator, and reserves capacity for the frame that it opens. Fails
+/// with `OperatorsRemaining` if no frame is open, then with `EndOfData` or `OutOfMemory`.
 #[inline(always)]
 pub fn begin(reader: &mut BinaryReader<'_>, control: &mut ControlStack) -> Result<OperatorStart>
     ensures begun { IfOk result
@@ -55,8 +52,8 @@ pub fn begin(reader: &mut BinaryReader<'_>, control: &mut ControlStack) -> Resul
     }
 }
 
-/// Makes the step of an operator that was read. The step is found again from the opcode, a constant
-/// where the operator is decoded; a stored step would need a branch.
+/// Makes the step of an operator that was read. It is found again from the opcode, which is a
+/// constant where the operator is decoded: a stored step would need a branch.
 #[inline(always)]
 pub fn make_step(control: &mut ControlStack, code: u8)
     requires allowed { IsSome (frames_after control.old.frames (role_of_step (step_at code))) }

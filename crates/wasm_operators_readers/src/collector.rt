@@ -8,8 +8,8 @@ use wasm_decode::visitors::{
     HoldOperator, HoldTable, VisitGroups, VisitOperator, VisitSimdOperator, Visitor,
 };
 
-/// Appends an item, made of the operator, with the offset that was set before the visit. The item
-/// is made in place: no result is copied.
+/// Appends an item made of the operator, with the offset that was set before the visit. The item is
+/// made in place.
 #[derive(Drop)]
 pub struct Collector<T> {
     pub items: Vec<(T, u64)>,
@@ -19,8 +19,7 @@ pub struct Collector<T> {
 impl<T: HoldOperator + Drop> Visitor for Collector<T> {
     type Output = ();
 
-    // If the list has capacity, a visit appends one item, which is made of the operator. The
-    // capacity does not shrink.
+    // If the list has capacity, a visit appends one item.
     ghost visits = { λ before op outcome after. vec_len before.items < vec_capacity before.items
         → CollectsOne T.holds before.offset before.items.items op after.items.items
         × (vec_capacity before.items ≤ vec_capacity after.items) };

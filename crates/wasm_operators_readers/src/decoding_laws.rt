@@ -14,16 +14,14 @@ ghost use Rattle.wasm_operators_readers.specs.Reading.{State, StopsRead, StopsRu
 use wasm_decode::below::{FrameName, InstructionName, Message, WasmFeatures};
 use wasm_decode::grammar::FrameKind;
 
-/// States that no operator has an error about frames, about data after the expression, or about
-/// allocation.
+/// States that operators have no errors about open frames, data left, or allocation.
 pub fn refusal_messages(features: WasmFeatures, frame: FrameKind)
     ensures any { (m : Message) (r : Reader) (offset : ℕ) → OperatorFault features frame m r offset → IsReadFault m }
     ensures scalar { (m : Message) (r : Reader) (offset : ℕ) → ScalarOperatorFault features frame m r offset
         → IsReadFault m }
 {}
 
-/// States that a visitor without SIMD operators fails with `UnexpectedSimd` at the byte `0xfd`, and
-/// otherwise like any visitor.
+/// States that only at the byte 0xfd a visitor without SIMD operators has another error.
 pub fn vector_refusals(features: WasmFeatures, frame: FrameKind)
     ensures there { (m : Message) (r : Reader) (offset : ℕ) → ScalarOperatorFault features frame m r offset
         → BeginsWith 0xfd (rest r) → m ≡ Message.UnexpectedSimd }
@@ -32,7 +30,7 @@ pub fn vector_refusals(features: WasmFeatures, frame: FrameKind)
 {}
 
 /// States that `FeatureRequired` is returned if and only if the next operator is `try`, `catch` or
-/// `catch_all` without its feature. The offset is that of the opcode.
+/// `catch_all` without its feature, at the opcode.
 pub fn features_required(features: WasmFeatures, frame: FrameKind)
     ensures only { (name : InstructionName) (r : Reader) (offset : ℕ)
         → OperatorFault features frame (Message.FeatureRequired name) r offset
@@ -41,9 +39,9 @@ pub fn features_required(features: WasmFeatures, frame: FrameKind)
         → OperatorFault features frame (Message.FeatureRequired (guarded_instruction g)) r (offset_of r) }
 {}
 
-/// States that `WrongFrame` is returned for `else`, `catch`, `catch_all` and `delegate` only, and
-/// if and only if the feature is enabled and the innermost frame does not allow the operator. The
-/// offset is one byte after the opcode.
+/// States that `WrongFrame` is returned if and only if the next operator is `else`, `catch`,
+/// `catch_all` or `delegate` with its feature, and the innermost frame does not allow it. The
+/// offset is after the opcode.
 pub fn wrong_frames(features: WasmFeatures, frame: FrameKind)
     ensures only { (name : InstructionName) (needed : FrameName) (r : Reader) (offset : ℕ)
         → OperatorFault features frame (Message.WrongFrame name needed) r offset
@@ -53,8 +51,8 @@ pub fn wrong_frames(features: WasmFeatures, frame: FrameKind)
         → OperatorFault features frame (Message.WrongFrame (guarded_instruction g) (needed_frame g)) r (offset_of r + 1) }
 {}
 
-/// States which error reading to the end returns, unless allocation fails: `OperatorsRemaining` if
-/// and only if no frame is open, and `FramesRemain` if and only if one is and all data was read.
+/// States that reading to the end fails with `OperatorsRemaining` if and only if no frame is open,
+/// and with `FramesRemain` if and only if one is and all data was read.
 pub fn run_messages()
     ensures closed { (e : Error) (s : State) → StopsRun EncodesAllowed OperatorFault Anywhere e s
         → (e.message ≡ Message.OutOfMemory → ⊥) → (e.message ≡ Message.OperatorsRemaining) ↔ (s.frames ≡ []) }

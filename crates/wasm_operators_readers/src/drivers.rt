@@ -37,15 +37,13 @@ impl<'a> OperatorsReader<'a> {
     }
 
     /// Reads all operators to the end of the data or to an error, and finishes. Appends them to
-    /// `out` with their offsets.
-    ///
-    /// Neither `out` nor the frames' memory shrinks, so a caller can reserve both in advance.
+    /// `out` with their offsets. Neither `out` nor the frames' memory shrinks, so a caller can
+    /// reserve both in advance.
     ///
     /// Fails as `read` and `finish` do, and with `OutOfMemory` at the position if `out` can't grow.
     /// The reader is then after the operators that were added, and the call can be repeated.
     ///
-    /// For a new reader, `before` in the clause `rest` is the empty list (`OperatorsReader::new`,
-    /// clause `read_so_far`).
+    /// For a new reader, `before` is the empty list (`OperatorsReader::new`, clause `read_so_far`).
     ///
     /// # Examples
     ///
@@ -54,19 +52,16 @@ impl<'a> OperatorsReader<'a> {
     /// OperatorsReader::new(alloc, BinaryReader::new(bytes, 0)).read_all(&mut found)?;
     /// ```
     pub fn read_all(&mut self, out: &mut Vec<(Operator<'a>, u64)>) -> Result<()>
-        // On `Ok`, the added operators are the walk of the encoded tree; otherwise the longest
-        // prefix of one.
+        // The added operators are the walk of the encoded tree, or the longest prefix of one.
         ensures rest { (before : List Operator) → ReadSoFar before self.old
             → ReadsRest (Adds out.old.items out.new.items) IsAny EncodesAllowed OperatorFault Anywhere
             before result self.old self.new }
-        // Which operators were added, where the reader is, and why reading ended.
+        // Where the reader is, and why reading ended.
         ensures runs { RunsToEnd (Adds out.old.items out.new.items) EncodesAllowed OperatorFault Anywhere
             result self.old self.new }
-        // The same without trees, by the frames alone.
+        // By the frames alone: the added operators are the longest list that they allow.
         ensures flat { ReadsFlat (Adds out.old.items out.new.items) IsAny result self.old }
-        // Each added frame takes at least two bytes.
         ensures depth { IsWithinDepth self.old self.new }
-        // The capacity of `out` does not shrink.
         ensures kept { vec_capacity out.old ≤ vec_capacity out.new }
         // Allocation fails only if one read may allocate, or if `out` is full.
         ensures memory { IfErr result
@@ -80,7 +75,7 @@ impl<'a> OperatorsReader<'a> {
     /// of the visits.
     ///
     /// Fails as `visit_operator_simd` and `finish` do. The reader is then after the visited
-    /// operators, and the call can be repeated. The clauses are those of `read_all`.
+    /// operators, and the call can be repeated.
     ///
     /// # Examples
     ///
@@ -107,17 +102,13 @@ impl<'a> OperatorsReader<'a> {
         self.visit_to_end_simd(v)
     }
 
-    /// Visits all operators to the end of the data, to a SIMD operator or to another error, and
-    /// finishes. Drops the results of the visits.
-    ///
-    /// Fails as `visit_operator` and `finish` do. The reader is then after the visited operators,
-    /// and the call can be repeated. The clauses are those of `read_all`, for lists without SIMD
-    /// operators.
+    /// Visits operators up to the end of the data, an error or a SIMD operator, and finishes. Drops
+    /// the results of the visits. Fails as `visit_operator` and `finish` do.
     pub fn visit_all<V: VisitOperator<'a>>(&mut self, v: &mut V) -> Result<()>
     where
         V::Output: Copy,
-        // The visited operators are the longest prefix of an expression without SIMD operators. The
-        // error for a SIMD operator after it is `UnexpectedSimd`.
+        // The visited operators are the walk of the encoded tree, or the longest list without SIMD
+        // operators that begins one.
         ensures rest { (before : List Operator) → ReadSoFar before self.old
             → ReadsRest (VisitedScalar V.visits v.old v.new) IsScalar EncodesScalar ScalarOperatorFault
             (NextMayAllocate EncodesScalar) before result self.old self.new }

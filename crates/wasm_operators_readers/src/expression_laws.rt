@@ -14,8 +14,7 @@ ghost use Rattle.wasm_operators_readers.specs.Visiting.{scalar_beginning, IsScal
 
 use wasm_decode::below::WasmFeatures;
 
-/// States that of two lists encoded at the start of the same bytes the shorter is a prefix of the
-/// longer, and that lists of equal length are equal, and so are their bytes.
+/// States that of two lists that the same bytes start with, the shorter is a prefix of the longer.
 pub fn one_layout(features: WasmFeatures)
     ensures beginning { BeginsLonger features }
     ensures same { (offset : ℕ) (first second : Placed) (a b x y : List ℕ)
@@ -24,8 +23,8 @@ pub fn one_layout(features: WasmFeatures)
         → (first ≡ second) × (a ≡ b) × (x ≡ y) }
 {}
 
-/// States that an encoded list is no longer than its bytes, and that its operators have encodings.
-/// Two lists in succession are encoded by their encodings in succession, and only so.
+/// States that a list is at most as long as its encoding, and that its operators have encodings.
+/// The encodings of joined lists are their joined encodings.
 pub fn layouts(features: WasmFeatures)
     ensures length { IsNoLonger features }
     ensures encoded { HasEncodings features }
@@ -34,8 +33,8 @@ pub fn layouts(features: WasmFeatures)
     ensures joined { LaysOutBoth features }
 {}
 
-/// States that each operator of an encoded list ends where the next starts, and the last at the end
-/// of the bytes. After a list was read, that is the reader's position.
+/// States that each operator of a list ends where the next starts, and the last where the bytes end
+/// and the reader is.
 pub fn ranges(features: WasmFeatures)
     ensures next { (offset : ℕ) (before after : Placed) (p q : Operator × ℕ) (bytes : List ℕ)
         → LaidOut features offset (before ++ p ∷ q ∷ after) bytes → EndsAt features p q.1 }
@@ -45,8 +44,7 @@ pub fn ranges(features: WasmFeatures)
         → LaidOut old.features (offset_of old) (before ++ p ∷ []) text → EndsAt old.features p (offset_of new) }
 {}
 
-/// States that no encoding of an expression is a proper prefix of another, and that each belongs to
-/// one list of operators.
+/// States that no encoding of an expression is a proper prefix of another, and each has one list.
 pub fn one_expression(features: WasmFeatures)
     ensures { (offset : ℕ) (first second : Placed) (a b x y : List ℕ)
         → EncodesExpression (record { features = features; offset = offset; bytes = a }) first
@@ -54,15 +52,14 @@ pub fn one_expression(features: WasmFeatures)
         → a ++ x ≡ b ++ y → (first ≡ second) × (a ≡ b) }
 {}
 
-/// States that the longest list that a prefix of the bytes encodes and that begins an expression is
-/// unique.
+/// States that bytes have at most one longest list that begins an expression.
 pub fn one_longest_beginning()
     ensures { (s : Source) (first second : Placed)
         → IsLongestBeginning s first → IsLongestBeginning s second → first ≡ second }
 {}
 
-/// States that it is impossible that no longest list exists after the operators that were read,
-/// with or without SIMD operators, by trees or by frames. `read_all` finds the list.
+/// States that it is impossible that no longest list exists, with or without SIMD operators, by
+/// trees or by frames. `read_all` finds it.
 pub fn longest_exists()
     ensures any { (before : List Operator) (s : State) → ReadSoFar before s
         → ¬ ((placed : Placed) → ¬ IsLongestAfter before (source_of s.reader) placed) }
@@ -73,19 +70,18 @@ pub fn longest_exists()
         → ¬ ((placed : Placed) → ¬ IsFlatOf IsScalar frames s placed) }
 {}
 
-/// States that a list which all of the bytes encode as the rest of an expression is the longest.
+/// States that if all bytes encode the rest of an expression, its operators are the longest list.
 pub fn whole_is_longest()
     ensures { (before : List Operator) (s : Source) (whole : Placed)
         → AreEncoded s.features before → EncodesRest before s whole → IsLongestAfter before s whole }
 {}
 
-/// States that the longest list which begins an expression is the longest that the frames allow
-/// step by step.
+/// States that the longest list by trees is the longest by frames.
 pub fn flat_beginnings()
     ensures { (s : Source) (placed : Placed) → IsFlatBeginning s placed ↔ IsLongestBeginning s placed }
 {}
 
-/// States that the scalar prefix of a list is its longest prefix without SIMD operators.
+/// States that `scalar_beginning` is the longest prefix without SIMD operators.
 pub fn scalar_beginnings()
     ensures beginning { (placed : Placed) → IsBeginningOf (scalar_beginning placed) placed }
     ensures none { (placed before after : Placed) (op : Operator) (at : ℕ)
@@ -94,10 +90,8 @@ pub fn scalar_beginnings()
         → IsBeginningOf others placed → IsScalar others → IsBeginningOf others (scalar_beginning placed) }
 {}
 
-/// States that the longest list without SIMD operators which begins an expression is the scalar
-/// prefix of the longest list, and that the other such lists are its prefixes. The same holds by
-/// frames alone. The scalar prefix is a whole expression if and only if the longest list is one and
-/// is scalar.
+/// States that the longest list without SIMD operators is the scalar prefix of the longest list, by
+/// trees and by frames. It is a whole expression if and only if the longest list is one and scalar.
 pub fn scalar_longest()
     ensures exactly { (before : List Operator) (s : Source) (longest placed : Placed) → IsLongestAfter before s longest
         → IsLongestOf IsScalar before s placed ↔ (placed ≡ scalar_beginning longest) }
@@ -109,8 +103,8 @@ pub fn scalar_longest()
         → ClosesFrom frames s (scalar_beginning flat) ↔ (ClosesFrom frames s flat × IsScalar flat) }
 {}
 
-/// States that an operator has at least two bytes for each frame that it opens. It opens one if and
-/// only if its first byte is the opcode of `block`, `loop`, `if`, `try` or `try_table`.
+/// States that an operator that opens a frame has at least two bytes, and the opcode of `block`,
+/// `loop`, `if`, `try` or `try_table`.
 pub fn frames_opened(features: WasmFeatures)
     ensures half { (op : Operator) (text : List ℕ) → EncodesOperator features op text → 2 * opened_by op ≤ length text }
     ensures leads { (op : Operator) (text : List ℕ) → EncodesOperator features op text

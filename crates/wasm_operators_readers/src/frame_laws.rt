@@ -1,4 +1,3 @@
-//! Laws about steps, for any type `T` of what operators carry.
 ghost use Rattle.std.specs.Prelude.{◌≡◌, ◌≤◌, ℕ, List};
 ghost use Rattle.wasm_decode.specs.grammar.declared.frame_kind.FrameKind.{FrameKind};
 ghost use Rattle.wasm_decode.specs.grammar.Role.{Role};
@@ -12,7 +11,7 @@ pub fn steps_are_roles<T>()
         frames_after frames role ≡ frames_after frames (role_of_step (step_of role)) }
 {}
 
-/// States that operators whose first byte is at least 0x20 leave the frames unchanged.
+/// States that operators from the byte 0x20 on keep the frames.
 pub fn high_bytes_stay()
     ensures { (byte : ℕ) → 0x20 ≤ byte → step_at byte ≡ FrameStep.Stays }
 {}

@@ -10,8 +10,7 @@ use wasm_decode::below::Result;
 use wasm_decode::instr::Operator;
 
 impl<'a> OperatorsReader<'a> {
-    /// Reads the next operator and returns it with the offset of its first byte. Fails as `read`
-    /// does.
+    /// Reads the next operator as `read` does, and returns it with the offset of its first byte.
     #[inline(always)]
     pub fn read_with_offset(&mut self) -> Result<(Operator<'a>, u64)>
         ensures { ReadsNextPlaced result self.old self.new }
@@ -23,7 +22,7 @@ impl<'a> OperatorsReader<'a> {
         }
     }
 
-    /// Converts the reader into an iterator over operators with the offsets of their first bytes.
+    /// Converts the reader into an iterator over operators with their offsets.
     pub fn into_iter_with_offsets(self) -> OperatorsIteratorWithOffsets<'a>
         ensures { result ≡ iterating_over self.entry }
     {
@@ -49,10 +48,8 @@ impl<'a> IntoIterator for OperatorsReader<'a> {
     }
 }
 
-/// An iterator over the operators of a reader.
-///
-/// Each item is one `read`. It ends at the end of the data and after an `Err`, and does not check
-/// for open frames. Contracts see the reader, and whether a read failed.
+/// An iterator, each item of which is one `read`. It ends at the end of the data and after an
+/// `Err`, and does not check for open frames.
 #[derive(Drop)]
 pub struct OperatorsIterator<'a> {
     reader: OperatorsReader<'a>,
@@ -95,7 +92,7 @@ impl<'a> Iterator for OperatorsIterator<'a> {
     }
 }
 
-/// Like `OperatorsIterator`, with the offset of each operator's first byte.
+/// Like `OperatorsIterator`, with each operator's offset.
 #[derive(Drop)]
 pub struct OperatorsIteratorWithOffsets<'a> {
     reader: OperatorsReader<'a>,

@@ -11,8 +11,7 @@ ghost use Rattle.wasm_operators_readers.specs.Visiting.{IsScalar};
 
 use wasm_decode::below::Message;
 
-/// States that repeating a read or visit that failed returns the same message and offset, unless
-/// allocation fails.
+/// States that a failed read or visit fails again with the same error, unless allocation fails.
 pub fn refused_again()
     ensures any { (d e : Error) (old mid new : State)
         → StopsNext EncodesAllowed OperatorFault d old mid → d.message ≢ Message.OutOfMemory
@@ -34,9 +33,8 @@ pub fn not_taken()
         → ¬ TakesOperator EncodesScalar op mid new }
 {}
 
-/// States that two reads or visits from the same place with the same frames return the same
-/// operator or error and end at the same place, unless allocation fails. If one reads an operator,
-/// the other can fail with `OutOfMemory` only.
+/// States that two reads or visits from one place with the same frames have the same result and end
+/// at one place, unless allocation fails.
 pub fn same_result()
     ensures taken { (op other : Operator) (old new start end : State) → SameReaderAndFrames old start
         → TakesOperator EncodesAllowed op old new → TakesOperator EncodesAllowed other start end
@@ -60,8 +58,8 @@ pub fn same_result()
         → e.message ≡ Message.OutOfMemory }
 {}
 
-/// States that if reading or visiting to the end fails, unless by allocation, the bytes and frames
-/// determine the operators, the reader's place, the open frames, the message and the offset.
+/// States that if reading or visiting to the end fails, bytes and frames determine the operators,
+/// the place, the open frames and the error, unless allocation fails.
 pub fn one_result()
     ensures reads { (before : List Operator) (d e : Error) (old new end : State) (placed others : Placed)
         → ReadsBeginning IsAny EncodesAllowed OperatorFault Anywhere before d old new placed

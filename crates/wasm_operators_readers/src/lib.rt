@@ -1,11 +1,8 @@
 //! The reader of operators and its stack of open frames: single reads and visits, drivers, and
 //! iterators.
 //!
-//! Every call that allocates may fail with `OutOfMemory`. The reader and its frames are then as
+//! Every call that allocates may fail with `OutOfMemory`, and then leaves reader and frames as
 //! after the last operator that was read.
-//!
-//! In `specs/`, `Expression` defines expressions, `Next` one read, `Reading` several, and
-//! `MainTheorem` what that means for the grammar.
 #![tactic(auto)]
 
 mod allocations;

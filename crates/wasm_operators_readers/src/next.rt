@@ -1,8 +1,7 @@
-//! Visiting the next operator of a reader with its stack of open frames, and all operators to the
-//! end of the data.
+//! Visiting the next operator, and all operators to the end of the data.
 //!
 //! The reader and the stack are borrowed separately, so that a loop can hold the reader in a local
-//! variable. That variable stays in registers as long as no call out of line borrows it.
+//! variable, which stays in registers as long as no call out of line borrows it.
 ghost use Rattle.std.specs.Prelude.{◌≡◌, ◌+◌, ◌<◌, ◌≤◌, ◌⊎◌, IfErr, vec_capacity, vec_len};
 ghost use Rattle.wasm_decode.specs.opcodes.Allowed.{EncodesAllowed, EncodesScalar};
 ghost use Rattle.wasm_decode.specs.opcodes.OperatorFaults.{OperatorFault, ScalarOperatorFault};
@@ -132,10 +131,8 @@ where
     finish(reader, control)
 }
 
-/// Visits to the end or to an error, and finishes. Each visit makes an item in place in the list;
-/// an operator that is read would be copied there.
-///
-/// Generic over the items, because the prover compares all calls of a known visitor.
+/// Visits to the end or to an error, and finishes. Each visit makes an item in place; an operator
+/// that is read would be copied. Generic, because the prover compares all calls of a known visitor.
 #[inline(always)]
 pub fn collect_rest<'a, T>(
     alloc: Global,

@@ -21,8 +21,8 @@ use wasm_decode::visitors::{VisitOperator, VisitSimdOperator};
 
 /// A reader of the operators of an expression, with its open frames.
 ///
-/// Contracts see the reader of the bytes, the frames from the outermost to the innermost, and
-/// `room`: how many more frames can be opened without allocating.
+/// Contracts see the reader of the bytes, the frames, the outermost first, and `room`: how many
+/// more frames can be opened without allocating.
 #[derive(Drop)]
 pub struct OperatorsReader<'a> {
     alloc: Global,
@@ -39,8 +39,7 @@ impl<'a> Model for OperatorsReader<'a> {
 }
 
 impl<'a> OperatorsReader<'a> {
-    /// Creates a reader of the expression that starts at the position of `reader`, with one open
-    /// frame. Does not allocate.
+    /// Creates a reader of the expression that starts at the position of `reader`.
     pub fn new(alloc: Global, reader: BinaryReader<'a>) -> OperatorsReader<'a>
         ensures reader { result.reader ≡ reader.entry }
         ensures fresh { IsFresh result }
@@ -49,7 +48,7 @@ impl<'a> OperatorsReader<'a> {
         OperatorsReader::new_with_allocs(alloc, reader, OperatorsReaderAllocations::new(alloc))
     }
 
-    /// Creates a reader like `new`, with the memory of another reader.
+    /// Creates a reader as `new` does, with the memory of another reader.
     pub fn new_with_allocs(
         alloc: Global,
         reader: BinaryReader<'a>,
@@ -81,7 +80,6 @@ impl<'a> OperatorsReader<'a> {
         self.reader.clone()
     }
 
-    /// Returns whether the reader is at the end of the data.
     #[inline(always)]
     pub fn eof(&self) -> bool
         ensures { IsTrue result ↔ (rest self.now.reader ≡ []) }
@@ -104,13 +102,11 @@ impl<'a> OperatorsReader<'a> {
         self.reader.is_end_then_eof()
     }
 
-    /// Reads the next operator, SIMD or not. Returns `Ok` if and only if a prefix of the rest
-    /// encodes an operator that the innermost frame allows, unless allocation fails.
+    /// Reads the next operator, SIMD or not, which the innermost frame must allow.
     ///
     /// Fails with `OperatorsRemaining` if no frame is open, otherwise as
     /// `docs/ERRORS-AND-FEATURES.md` says for operators; with `OutOfMemory` only if the operator
-    /// owns a list, or opens a frame without capacity for it. On an error only the capacity may
-    /// have changed.
+    /// owns a list, or opens a frame without capacity for it. Then nothing is consumed.
     ///
     /// # Examples
     ///
@@ -138,8 +134,7 @@ impl<'a> OperatorsReader<'a> {
         }
     }
 
-    /// Visits the next operator, SIMD or not, and returns the visit's result. Fails as `read` does,
-    /// before the visit.
+    /// Visits the next operator, SIMD or not. Fails as `read` does, before the visit.
     #[inline(always)]
     pub fn visit_operator_simd<V>(&mut self, v: &mut V) -> Result<V::Output>
     where
@@ -149,8 +144,8 @@ impl<'a> OperatorsReader<'a> {
         visit_next_simd(self.alloc, v, &mut self.reader, &mut self.control)
     }
 
-    /// Visits the next operator and returns the visit's result. Fails with `UnexpectedSimd` at the
-    /// position if the next byte is 0xfd, otherwise as `visit_operator_simd` does.
+    /// Visits the next operator. Fails with `UnexpectedSimd` at the position if the next byte is
+    /// 0xfd, otherwise as `visit_operator_simd` does.
     #[inline(always)]
     pub fn visit_operator<V: VisitOperator<'a>>(&mut self, v: &mut V) -> Result<V::Output>
         ensures { VisitsNextScalar V.visits result self.old self.new v.old v.new }
@@ -158,10 +153,8 @@ impl<'a> OperatorsReader<'a> {
         visit_next(self.alloc, v, &mut self.reader, &mut self.control)
     }
 
-    /// Checks that all frames are closed and all data was read.
-    ///
-    /// Fails at the position, with `FramesRemain` if a frame is open, otherwise with
-    /// `UnexpectedData`.
+    /// Checks that all frames are closed and all data was read. Fails at the position, with
+    /// `FramesRemain` if a frame is open, otherwise with `UnexpectedData`.
     ///
     /// # Examples
     ///

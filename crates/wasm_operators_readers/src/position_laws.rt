@@ -8,7 +8,7 @@ ghost use Rattle.wasm_operators_readers.specs.Reading.{State, Finishes, StopsRea
 
 use wasm_decode::below::BinaryReader;
 
-/// Shows that a reader of bytes is within its data. It only peeks at the next byte.
+/// Shows that a reader is within its data, by peeking at the next byte.
 pub fn within(reader: &BinaryReader<'_>)
     ensures { offset_of reader.now ≤ end_of reader.now }
 {
@@ -21,7 +21,7 @@ pub fn taken_within()
         → (offset_of old ≤ offset_of new) × (offset_of new ≤ end_of new) × (end_of new ≡ end_of old) }
 {}
 
-/// States that the offset of an error is within the rest, or at its end.
+/// States that an error is within the rest, or at its end.
 pub fn refusals_ahead()
     ensures read { (e : Error) (s : State) → StopsRead EncodesAllowed OperatorFault (NextMayAllocate EncodesAllowed) e s
         → offset_of s.reader ≤ end_of s.reader → IsAhead s.reader e.offset }

@@ -17,8 +17,8 @@ pub fn fresh_readers()
     ensures { (s : State) → IsFresh s → ReadSoFar [] s }
 {}
 
-/// States that a successful read adds its operator to those before the reader, and an error none.
-/// So the clauses of drivers apply after single reads and visits too.
+/// States that a read adds its operator to those before the reader. So the clauses of drivers apply
+/// after single reads and visits.
 pub fn one_operator()
     ensures any { (before : List Operator) (op : Operator) (old new : State)
         → TakesOperator EncodesAllowed op old new → ReadSoFar before old → ReadSoFar (before ++ op ∷ []) new }
@@ -35,15 +35,13 @@ pub fn one_depth()
         → IsWithinDepth old new }
 {}
 
-/// States that the bound on the memory of the frames holds over two steps, if the first opened no
-/// more frames than half of its bytes. Every read and visit does so.
+/// States that the bound on the frames' memory holds over two runs, one after the other.
 pub fn memory_adds_up()
     ensures { MemoryAddsUp }
 {}
 
-/// States that single reads, one after another, read a list. The list is empty before the first. A
-/// successful read appends its operator with its offset and consumes at least one byte. An error
-/// appends none. The lists of two runs form one.
+/// States that single reads, one after another, read a list. Each appends its operator and consumes
+/// at least one byte; an error appends none.
 pub fn single_reads()
     ensures first { TakesNone }
     ensures next { TakesOneMore }
@@ -52,9 +50,8 @@ pub fn single_reads()
     ensures progress { TakesBytes }
 {}
 
-/// States that single reads to the end or to an error read what `read_all` reads: the walk of the
-/// one tree, or the longest prefix of one. If the bytes encode the rest of an expression, only
-/// allocation can fail. At the end of the data, `finish` fails only for open frames.
+/// States that single reads to the end or to an error read what `read_all` reads. At the end of the
+/// data, `finish` fails only for open frames.
 pub fn read_to_the_end()
     ensures tree { (before : List Operator) (old new : State) (placed : Placed) → ReadSoFar before old
         → TakesOperators old new placed → new.frames ≡ [] → rest new.reader ≡ [] → ReadsTree before old new placed }
@@ -64,7 +61,7 @@ pub fn read_to_the_end()
     ensures only { (before : List Operator) (e : Error) (old new : State) (placed whole : Placed)
         → ReadSoFar before old → TakesOperators old new placed → StopsRun EncodesAllowed OperatorFault Anywhere e new
         → EncodesRest before (source_of old.reader) whole → e.message ≡ Message.OutOfMemory }
-    // The same for a read that fails.
+    // A failed read stops as the clauses above assume.
     ensures refused { (e : Error) (s : State)
         → StopsRead EncodesAllowed OperatorFault (NextMayAllocate EncodesAllowed) e s
         → StopsRead EncodesAllowed OperatorFault Anywhere e s }

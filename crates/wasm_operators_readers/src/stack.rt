@@ -14,8 +14,8 @@ use wasm_decode::grammar::FrameKind;
 
 const LEAST: usize = 8;
 
-/// The kinds of the open frames. The innermost is in the value itself, the others in a vector. So
-/// pushing onto an empty stack needs no capacity.
+/// The kinds of the open frames. The innermost is apart from the vector, so the first frame needs
+/// no capacity.
 #[derive(Debug, Drop)]
 pub struct ControlStack {
     around: Vec<FrameKind>,
@@ -36,7 +36,6 @@ impl Model for ControlStack {
 }
 
 impl ControlStack {
-    /// Creates a stack without frames and capacity.
     pub fn new(alloc: Global) -> ControlStack
         ensures frames { result.frames ≡ [] }
         ensures room { result.room ≡ 0 }
@@ -93,10 +92,8 @@ impl ControlStack {
         self.current
     }
 
-    /// Reserves capacity for this many more frames. Allocates, if at all, for at most twice as many
-    /// as needed, and eight.
-    ///
-    /// Fails with `OutOfMemory` at offset 0. Then nothing changes.
+    /// Reserves capacity for at least `frames` more frames; `GrowsByDoubling` is the upper bound.
+    /// Fails with `OutOfMemory` at offset 0.
     #[inline(always)]
     pub fn reserve(&mut self, frames: usize) -> Result<()>
         ensures frames { self.new.frames ≡ self.old.frames }
@@ -112,11 +109,8 @@ impl ControlStack {
         self.grow(frames)
     }
 
-    /// Allocates for this many more frames, for as many as are open, or for `LEAST`, whichever is
-    /// most.
-    ///
-    /// The vector is moved into a variable, which is then borrowed. So a stack in a local variable
-    /// stays in registers.
+    /// Allocates for the greatest of `frames`, the vector's length and `LEAST` more frames. Only a
+    /// variable into which the vector is moved is borrowed, so that a stack stays in registers.
     #[inline(always)]
     fn grow(&mut self, frames: usize) -> Result<()>
         ensures frames { self.new.frames ≡ self.old.frames }
@@ -136,9 +130,8 @@ impl ControlStack {
         Ok(())
     }
 
-    /// Reserves capacity for the frame that this step opens, if any.
-    ///
-    /// Fails with `OutOfMemory` at offset 0, if no capacity is left. Then nothing changes.
+    /// Reserves capacity for the frame that this step opens, if any. Fails with `OutOfMemory` at
+    /// offset 0.
     #[inline(always)]
     pub fn make_room(&mut self, step: FrameStep) -> Result<()>
         ensures frames { self.new.frames ≡ self.old.frames }
@@ -154,9 +147,8 @@ impl ControlStack {
         Ok(())
     }
 
-    /// Opens a frame inside the others. Does not fail if the stack is empty or has capacity.
-    ///
-    /// Fails with `OutOfMemory` at offset 0. Then nothing changes.
+    /// Opens a frame inside the others. Fails with `OutOfMemory` at offset 0, unless the stack is
+    /// empty or has capacity.
     pub fn push(&mut self, frame: FrameKind) -> Result<()>
         ensures frames { OnOk result (self.new.frames ≡ self.old.frames ++ frame ∷ []) }
         ensures room { self.old.room ≤ self.new.room + 1 }
@@ -172,7 +164,7 @@ impl ControlStack {
         Ok(())
     }
 
-    /// Opens a frame inside the others, with reserved capacity.
+    /// Opens a frame as `push` does, with reserved capacity.
     #[inline(always)]
     pub fn open(&mut self, frame: FrameKind)
         requires { HasRoom self.old }
@@ -196,7 +188,6 @@ impl ControlStack {
         self.current = Some(frame);
     }
 
-    /// Closes the innermost frame and returns its kind.
     #[inline(always)]
     pub fn pop(&mut self) -> Option<FrameKind>
         ensures frame { result ≡ innermost self.old.frames }
@@ -209,8 +200,7 @@ impl ControlStack {
         frame
     }
 
-    /// Changes the frames by a step that the innermost frame allows. A step that opens a frame
-    /// needs reserved capacity.
+    /// Makes a step that the innermost frame allows. Opening a frame needs reserved capacity.
     #[inline(always)]
     pub fn apply_step(&mut self, step: FrameStep)
         requires allowed { IsSome (frames_after self.old.frames (role_of_step step)) }
@@ -236,10 +226,8 @@ impl ControlStack {
         }
     }
 
-    /// Clones the frames into other memory of the same allocator. The clone has no capacity for
-    /// more frames.
-    ///
-    /// Fails with `OutOfMemory` at offset 0, and only if more than one frame is open.
+    /// Clones the frames, with no capacity for more. Fails with `OutOfMemory` at offset 0, and only
+    /// if more than one frame is open.
     pub fn clone(&self) -> Result<ControlStack>
         ensures frames { IfOk result (λ copy. copy.frames ≡ self.now.frames) }
         ensures room { IfOk result (λ copy. copy.room ≡ 0) }

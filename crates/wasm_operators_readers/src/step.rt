@@ -1,10 +1,7 @@
 ghost use Rattle.std.specs.Prelude.{◌≡◌, ◌↔◌, ◌≤◌, IsTrue};
 ghost use Rattle.wasm_operators_readers.specs.Step.{Opens, step_at};
 
-/// The change that an operator makes to the open frames: its role, without what it carries.
-///
-/// Specification: Control Instructions. The last five variants belong to `if`, to legacy exceptions
-/// and to every construct.
+/// The change that an operator makes to the open frames. Specification: Control Instructions.
 #[derive(Clone, Copy, Debug, PartialEq, Eq)]
 pub enum FrameStep {
     Stays,
@@ -13,7 +10,7 @@ pub enum FrameStep {
     OpensTryTable,
     OpensIf,
     OpensTry,
-    /// The operator is `else`.
+    /// An `if` becomes an `else`.
     TurnsElse,
     /// A legacy `try`, or one of its handlers, becomes a `catch`.
     TurnsCatch,
@@ -24,8 +21,7 @@ pub enum FrameStep {
 }
 
 impl FrameStep {
-    /// Returns the step of the operators that start with this byte, an opcode or a prefix byte. All
-    /// other operators keep the frames.
+    /// Returns the step of the operators that start with this byte.
     #[inline(always)]
     pub fn at(byte: u8) -> FrameStep
         ensures { result ≡ step_at byte }
@@ -65,7 +61,7 @@ impl FrameStep {
     }
 }
 
-/// Returns whether the opcode is at least 0x20. No operator with such an opcode changes the frames.
+/// Returns whether the opcode is at least 0x20: such operators keep the frames.
 #[inline(always)]
 pub fn keeps_frames(opcode: u8) -> bool
     ensures { IsTrue result ↔ (0x20 ≤ opcode) }

@@ -20,7 +20,6 @@ enum Call {
     List(lists::List),
 }
 
-/// Makes the calls of a row, and writes the results with `; ` between them.
 pub fn write_calls(alloc: Global, text: &mut String, row: &Row<'_>) -> Written {
     let input = Input::parse(alloc, row.input)?;
     let mut reader = input.reader()?;
@@ -35,7 +34,7 @@ pub fn write_calls(alloc: Global, text: &mut String, row: &Row<'_>) -> Written {
     Ok(())
 }
 
-/// Makes a call, such as `read_u8` or `read_bytes(2)`, and writes its result.
+/// Makes a call, such as `read_bytes(2)`, and writes its result.
 fn write_call(
     alloc: Global,
     text: &mut String,

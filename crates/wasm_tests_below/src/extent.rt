@@ -1,7 +1,7 @@
 #[derive(Clone, Copy)]
 pub enum Extent {
     Full,
-    /// So few that they end within seconds under the checks of `rt try`.
+    /// Ends within seconds under the checks of `rt try`.
     Short,
 }
 

@@ -1,6 +1,5 @@
-//! Evaluates the rows on standard input. Compares the readers of numbers, types and memory
-//! arguments with slow functions written from the definitions: on all short strings and on boundary
-//! values, with all feature sets.
+//! Evaluates the rows on standard input. Compares readers with slow functions written from the
+//! definitions: on all short strings and on boundary values, with all feature sets.
 #![tactic(auto)]
 
 use crate::extent::Extent;
@@ -46,7 +45,6 @@ fn read_input<R: Env + Input + AllocGlobal>(rt: &R) -> io::Result<(Extent, Strin
     Ok((extent, table))
 }
 
-/// Prints how many texts were read and how many results differ from the slow functions.
 fn print_comparisons<R: Print>(rt: &R, extent: Extent) -> io::Result<()> {
     let short = numbers::short_strings(extent);
     println!(rt;

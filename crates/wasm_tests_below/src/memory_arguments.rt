@@ -9,7 +9,6 @@ use std::io::{self, Print};
 use wasm_imm::below::{BinaryReader, WasmFeatures};
 use wasm_imm::{MemArg, MemArgKind};
 
-/// What may follow the flags number.
 const TAILS: [[u8; 6]; 4] = [
     [0x05, 0x00, 0x00, 0x00, 0x00, 0x00],
     [0x01, 0x01, 0x08, 0x00, 0x00, 0x00],
@@ -17,7 +16,7 @@ const TAILS: [[u8; 6]; 4] = [
     [0x80, 0x80, 0x80, 0x80, 0x80, 0x00],
 ];
 
-/// How many results of each sort: at 0 what was read, then by the number of the refusal.
+/// The number of reads that succeeded, at index 0, and that failed with error N, at index N.
 #[derive(Drop)]
 struct Counts {
     outcomes: [u64; 26],

@@ -50,8 +50,7 @@ const MESSAGES: [Message; 38] = [
     Message::DataAfterSection,
 ];
 
-/// Writes what an error at offset 26 with the message of this name says of itself: number, offset,
-/// kind and text.
+/// Writes the number, offset, kind and text of an error at offset 26 with this message.
 pub fn write_message(text: &mut String, name: &str) -> Written {
     for message in MESSAGES {
         write!(text, "{message:?}")?;

@@ -22,7 +22,7 @@ impl Tally {
     }
 }
 
-/// A width, whether its numbers have a sign, and the name in its errors.
+/// A kind of number: its width, whether it has a sign, and its name in errors.
 #[derive(Clone, Copy)]
 struct Kind {
     bits: u32,
@@ -128,7 +128,6 @@ fn compare_all(tally: &mut Tally, bytes: &[u8]) {
     }
 }
 
-/// Compares every string of up to two bytes; in a short run, of one byte.
 pub fn short_strings(extent: Extent) -> Tally {
     let mut tally = Tally::new();
     compare_all(&mut tally, &[]);
@@ -143,7 +142,7 @@ pub fn short_strings(extent: Extent) -> Tally {
     tally
 }
 
-/// Returns this number in `length` bytes, as far as they suffice.
+/// Returns a LEB128 encoding of the number in `length` bytes, without the bits that do not fit.
 fn encodes(number: i64, length: usize) -> [u8; 11] {
     let mut bytes = [0u8; 11];
     let mut left = number;
@@ -155,8 +154,8 @@ fn encodes(number: i64, length: usize) -> [u8; 11] {
     bytes
 }
 
-/// Compares the boundary values of each width, and those next to them, in every length of up to
-/// eleven bytes.
+/// Compares the reading calls with slow functions, on boundary values of each width and their
+/// neighbours, in 1 to 11 bytes.
 pub fn boundaries() -> Tally {
     let mut tally = Tally::new();
     for power in [0u32, 6, 7, 13, 14, 20, 21, 27, 28, 31, 32, 33, 62, 63] {

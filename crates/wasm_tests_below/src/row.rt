@@ -1,11 +1,8 @@
-//! The rows of the table: cells with a tab between them.
-
 use crate::failure::Failure;
 use bitflags::Flags;
 use std::alloc::Global;
 use wasm_imm::below::{BinaryReader, WasmFeatures};
 
-/// A row: what is called, with which input, and the expected text.
 #[derive(Clone, Copy)]
 pub struct Row<'r> {
     /// Calls with spaces between them, or `message` or `scenario`.
@@ -25,7 +22,7 @@ impl<'r> Row<'r> {
         })
     }
 
-    /// Returns whether the row has to give its text whichever allocation fails.
+    /// Returns whether the row must print its expected text whichever allocation fails.
     pub fn is_of_memory(&self) -> bool {
         self.calls.starts_with("memory")
     }

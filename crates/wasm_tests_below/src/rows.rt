@@ -13,7 +13,6 @@ struct Rows {
     out_of_memory: u32,
 }
 
-/// Evaluates each row. Prints each that differs, and how many there were.
 pub fn print_rows<R: Print>(rt: &R, alloc: Global, table: &str) -> io::Result<()> {
     let mut counts = Rows {
         rows: 0,
@@ -55,8 +54,8 @@ impl Rows {
     }
 }
 
-/// Writes the text of a row. A row of `memory` is repeated if allocation failed outside the calls
-/// that it tests.
+/// Writes the text of a row. A row of `memory` is repeated if allocation failed outside the tested
+/// calls.
 fn evaluate(alloc: Global, row: &Row<'_>, text: &mut String) -> Written {
     match evaluate_once(alloc, row, text) {
         Err(Failure::OutOfMemory) if row.is_of_memory() => {

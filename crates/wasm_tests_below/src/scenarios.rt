@@ -36,8 +36,6 @@ struct Held<'a> {
     reader: BinaryReader<'a>,
 }
 
-/// Writes a branch on a feature, a copy of a reader inside a struct, other features, and their
-/// bits.
 fn write_features(text: &mut String) -> Written {
     let mut reader = BinaryReader::new(&[1, 2], 0);
     write!(text, "index bits {}", index_bits(&reader))?;
@@ -60,7 +58,6 @@ fn write_features(text: &mut String) -> Written {
     Ok(())
 }
 
-/// Writes what `Debug` prints of private fields, and how many bytes a reader may have.
 fn write_debug(alloc: Global, text: &mut String) -> Written {
     let mut reader = BinaryReader::new(&[1, 1, 0], 0);
     let printed = format!(in alloc; "{reader:?} {:?}", WasmFeatures::all())?;
@@ -76,7 +73,6 @@ fn write_debug(alloc: Global, text: &mut String) -> Written {
     Ok(())
 }
 
-/// Writes whether branch tables are equal: by their bytes.
 fn write_branch_tables(text: &mut String) -> Written {
     let mut reader = BinaryReader::new(&[0x01, 0x01, 0x00], 0);
     let short = BrTable::read(&mut reader)?;

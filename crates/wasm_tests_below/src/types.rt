@@ -98,7 +98,6 @@ fn compare(tally: &mut Tally, bytes: &[u8]) {
     tally.count(value_type.is_some(), value_type == slow_value_type(bytes));
 }
 
-/// Compares every string of up to three bytes; in a short run, of two.
 pub fn short_strings(extent: Extent) -> Tally {
     let mut tally = Tally::new();
     compare(&mut tally, &[]);

@@ -4,8 +4,8 @@ use std::alloc::Global;
 use wasm_listing::operators::{FunctionBody, LocalsReader};
 use wasm_tests_texts::{Written, write_value_type};
 
-/// Writes the number of a body's declarations, as many of them as the argument says, and where its
-/// operators start.
+/// Writes the number of a body's declarations, then as many of them as the row's argument says, and
+/// where its operators start.
 pub fn write_locals(given: Given<'_>, out: &mut String) -> Written {
     let body = FunctionBody::new(given.reader());
     match body.get_locals_reader() {
@@ -39,7 +39,7 @@ fn write_declarations(reads: u32, mut locals: LocalsReader<'_>, out: &mut String
 }
 
 /// Writes the declarations of the iterator over locals, each after its `size_hint`, and whether one
-/// `end` follows them.
+/// `end` follows.
 pub fn write_locals_items(alloc: Global, given: Given<'_>, out: &mut String) -> Written {
     let mut items = match FunctionBody::new(given.reader()).get_locals_reader() {
         Ok(locals) => locals.into_iter(),

@@ -4,8 +4,8 @@ use std::alloc::{AllocError, Global};
 use wasm_listing::operators::{BinaryReader, ConstExpr, Result, SectionLimited};
 use wasm_tests_texts::Written;
 
-/// Writes the bytes of a constant expression and the position after it. Reads again if allocation
-/// failed and nothing was consumed.
+/// Writes a constant expression and the position after it. If allocation failed and nothing was
+/// consumed, reads once more.
 pub fn write_constant(alloc: Global, given: Given<'_>, out: &mut String) -> Written {
     let mut reader = given.reader();
     let start = reader.original_position();
@@ -26,7 +26,7 @@ pub fn write_constant(alloc: Global, given: Given<'_>, out: &mut String) -> Writ
 }
 
 /// Writes the range of the only item of a section of constant expressions. Reads again if
-/// allocation failed in the item, which starts after the one byte of the count.
+/// allocation failed in the item.
 pub fn write_only_constant(alloc: Global, given: Given<'_>, out: &mut String) -> Written {
     let item = u64::from(given.offset).saturating_add(1);
     let mut only = only_constant(alloc, given);

@@ -1,5 +1,3 @@
-//! The text of an operator, and of a function.
-
 use crate::row::Given;
 use crate::single::Under;
 use crate::words::{write_error, write_lines};
@@ -9,7 +7,6 @@ use wasm_disassembly::{DisassemblyFault, disassemble};
 use wasm_listing::operators::{FunctionBody, ReadOperators};
 use wasm_tests_texts::Written;
 
-/// Writes the text of the operator at the start of the bytes, under the argument's frame.
 pub fn write_text(alloc: Global, given: Given<'_>, out: &mut String) -> Written {
     let reader = given.reader();
     match reader.peek_operator(alloc, &Under(given.frame())) {
@@ -18,7 +15,6 @@ pub fn write_text(alloc: Global, given: Given<'_>, out: &mut String) -> Written 
     }
 }
 
-/// Returns the names of four functions: only the last has one.
 fn four_names(alloc: Global) -> Result<Vec<String>, AllocError> {
     let mut names = Vec::new(alloc);
     for _unnamed in 0..3 {
@@ -28,8 +24,8 @@ fn four_names(alloc: Global) -> Result<Vec<String>, AllocError> {
     Ok(names)
 }
 
-/// Writes how the disassembly of a function with index 3 and name `f` ended, and its text. The argument is
-/// the number of its parameters.
+/// Writes how the disassembly of the function 3, `f`, ended, and its text. The argument is the
+/// number of parameters.
 pub fn write_disassembly(alloc: Global, given: Given<'_>, out: &mut String) -> Written {
     let body = FunctionBody::new(given.reader());
     let mut written = Vec::new(alloc);

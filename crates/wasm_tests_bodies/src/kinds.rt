@@ -11,10 +11,10 @@ use crate::single::{Visits, write_clones, write_finish, write_next, write_peek, 
 use std::alloc::Global;
 use wasm_tests_texts::Written;
 
-/// Makes the calls of this kind of row, and writes what they return. Fails if allocation failed.
+/// Makes the calls of this kind of row, and writes their results. Fails if allocation failed.
 ///
-/// A kind that starts with `memory_` repeats such a call. It fails if the second call does, or if
-/// the first changed anything.
+/// A kind that starts with `memory_` repeats such a call, which must succeed then; the first must
+/// change nothing.
 pub fn write_found(
     alloc: Global,
     kind: &str,

@@ -37,8 +37,8 @@ fn write_fault(fault: DumpFault, out: &mut String) -> Written {
     write!(out, "{fault}, status {status}")
 }
 
-/// Lists a body of as many `nop` as the argument says and no `end`, and writes the error and the
-/// length of the lines. The time is linear.
+/// Lists a body of the argument's number of `nop` and no `end`, and writes the error and the
+/// length. The time is linear.
 pub fn write_nops(alloc: Global, given: Given<'_>, out: &mut String) -> Written {
     let nops = vec![in alloc; 0x01; given.number() as usize]?;
     let mut body = Vec::new(alloc);

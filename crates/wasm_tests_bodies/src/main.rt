@@ -1,5 +1,5 @@
-//! Evaluates the rows of a table: each calls one entry point of the crates below and compares the
-//! result, as text, with the expected one.
+//! Evaluates the rows of a table. Each calls one entry point of the lower crates, and the result is
+//! compared as text.
 #![tactic(auto)]
 
 mod bodies;

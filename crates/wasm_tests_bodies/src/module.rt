@@ -8,10 +8,9 @@ use wasm_module::{
 };
 use wasm_tests_texts::Written;
 
-/// At most so many items are written.
 const ITEMS: u32 = 8;
 
-/// Writes the sort of the module, and the number and the range of each section.
+/// Writes the kind of module, and each section's number and range.
 pub fn write_sections(given: Given<'_>, out: &mut String) -> Written {
     let mut reader = given.reader();
     match read_preamble(&mut reader) {
@@ -112,7 +111,7 @@ fn write_type(contents: &mut BinaryReader<'_>, out: &mut String) -> Written {
     }
 }
 
-/// Writes as many recursive types as the argument says: the number of sub types, and these.
+/// Writes the argument's number of recursive types: how many sub types each has, and these.
 pub fn write_rec_types(given: Given<'_>, out: &mut String) -> Written {
     let mut reader = given.reader();
     for _ in 0..given.number() {
@@ -164,7 +163,7 @@ fn write_exports(contents: &mut BinaryReader<'_>, out: &mut String) -> Written {
     write_left(contents, out)
 }
 
-/// Writes the name of a custom section, the number of its first part, and the names in that.
+/// Writes a custom section's name, the number of its first part, and the names in that part.
 fn write_custom(contents: BinaryReader<'_>, out: &mut String) -> Written {
     match CustomSection::new(contents) {
         Ok(custom) => {

@@ -4,33 +4,76 @@ use wasm_listing::operators::{BinaryReader, FrameKind, WasmFeatures};
 #[derive(Clone, Copy, Debug)]
 pub struct Row<'r> {
     pub kind: &'r str,
-    /// A frame, features, a number or a name.
+    /// The argument of the row's kind: a frame, features, a number or a name.
     pub argument: &'r str,
-    /// The bytes in hexadecimal, after the offset of the first byte and a colon if that is not 0.
-    pub input: &'r str,
+    /// The offset of the first byte.
+    pub offset: u32,
+    /// The bytes in hexadecimal.
+    pub digits: &'r str,
     pub expected: &'r str,
 }
 
+/// Returns the row of a line, if it has four cells and its kind takes the argument. The third cell
+/// is the bytes in hexadecimal, after the offset of the first byte and a colon if that is not 0.
 pub fn row_of<'r>(line: &'r str) -> Option<Row<'r>> {
     let mut cells = line.split('\t');
-    let row = Row {
-        kind: cells.next()?,
-        argument: cells.next()?,
-        input: cells.next()?,
-        expected: cells.next()?,
-    };
+    let kind = cells.next()?;
+    let argument = cells.next()?;
+    let input = cells.next()?;
+    let expected = cells.next()?;
     if cells.next().is_some() {
+        return None;
+    }
+    let (offset, digits) = input.split_once(':').unwrap_or(("0", input));
+    let row = Row {
+        kind,
+        argument,
+        offset: offset.parse::<u32>().ok()?,
+        digits,
+        expected,
+    };
+    if !row.has_suitable_argument() {
         return None;
     }
     Some(row)
 }
 
-/// What a row passes to its call.
 #[derive(Clone, Copy, Debug)]
 pub struct Given<'g> {
     pub argument: &'g str,
     pub offset: u32,
     pub bytes: &'g [u8],
+}
+
+impl<'r> Row<'r> {
+    /// Returns whether the argument is one that this kind of row takes. A misspelled word would
+    /// be read as another number or set of features.
+    fn has_suitable_argument(&self) -> bool {
+        match self.kind {
+            "features" | "scenario" => true,
+            "memory_listing" | "memory_census" => features_of(Some(self.argument)).is_some(),
+            "disassembly"
+            | "failing_read"
+            | "failing_write"
+            | "locals"
+            | "nops"
+            | "long_nops"
+            | "rec_types"
+            | "section" => self.argument.parse::<u32>().is_ok(),
+            _ => self.argument == "-" || frame_named(self.argument).is_some(),
+        }
+    }
+}
+
+fn frame_named(name: &str) -> Option<FrameKind> {
+    match name {
+        "Block" => Some(FrameKind::Block),
+        "If" => Some(FrameKind::If),
+        "LegacyTry" => Some(FrameKind::LegacyTry),
+        "LegacyCatch" => Some(FrameKind::LegacyCatch),
+        "LegacyCatchAll" => Some(FrameKind::LegacyCatchAll),
+        _ => None,
+    }
 }
 
 impl<'g> Given<'g> {
@@ -46,15 +89,7 @@ impl<'g> Given<'g> {
         features_of(Some(self.argument)).unwrap_or(WasmFeatures::all())
     }
 
-    /// Returns the frame that the argument names, if any.
     pub fn frame(&self) -> Option<FrameKind> {
-        match self.argument {
-            "Block" => Some(FrameKind::Block),
-            "If" => Some(FrameKind::If),
-            "LegacyTry" => Some(FrameKind::LegacyTry),
-            "LegacyCatch" => Some(FrameKind::LegacyCatch),
-            "LegacyCatchAll" => Some(FrameKind::LegacyCatchAll),
-            _ => None,
-        }
+        frame_named(self.argument)
     }
 }

@@ -8,10 +8,10 @@ use wasm_listing::operators::{
 };
 use wasm_tests_texts::{Written, write_operator};
 
-/// `None` is a branch table, which borrows from the bytes.
+/// The operator visited; `None` for a branch table, which borrows from the bytes.
 type Visited = Option<Operator<'static>>;
 
-/// Returns the operator, in a frame that does not change, or in none.
+/// A visitor that returns the operator. The innermost frame is always this one, or none is open.
 #[derive(Clone, Copy)]
 pub struct Under(pub Option<FrameKind>);
 
@@ -45,7 +45,7 @@ impl VisitSimdOperator for Under {}
 
 #[derive(Clone, Copy, Debug)]
 pub enum Visits {
-    /// Those that are no SIMD operators.
+    /// The operators that are not SIMD operators.
     Scalar,
     All,
 }
@@ -118,8 +118,8 @@ fn write_visited(out: &mut String, visited: Visited) -> Written {
     }
 }
 
-/// Clones the operator, visits it borrowed, and clones its resume table; repeats each if allocation
-/// failed, which the error reports at offset 0.
+/// Clones the operator, visits it borrowed, and clones its resume table; each again if allocation
+/// failed, with an error at offset 0.
 pub fn write_clones(alloc: Global, given: Given<'_>, out: &mut String) -> Written {
     let reader = given.reader();
     let mut under = Under(given.frame());

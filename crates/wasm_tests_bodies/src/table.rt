@@ -4,8 +4,8 @@ use std::alloc::{AllocError, Global};
 use std::io::{self, Print};
 use wasm_tests_texts::{Written, read_hex};
 
-/// How many bytes a row and its result may have. They are allocated once, so that a row whose kind
-/// starts with `memory_` allocates only what its calls do.
+/// How many bytes a row and its result may have. They are allocated once: a `memory_` row then
+/// allocates only in its calls.
 const CAPACITY: usize = 4096;
 
 #[derive(Drop)]
@@ -17,9 +17,9 @@ pub struct Table {
     lacking: u64,
     bytes: Vec<u8>,
     written: Vec<u8>,
-    /// The result of a row whose kind starts with `memory_`.
+    /// The result of a `memory_` row.
     reserved: String,
-    /// The result of another row. It grows, and each growth may fail.
+    /// The result of another row, whose growth may fail.
     grown: String,
 }
 
@@ -38,8 +38,8 @@ impl Table {
         })
     }
 
-    /// Evaluates the row of a line, and prints it if it differs. An empty line, or one that starts
-    /// with `#`, is no row. A short run omits rows that start with `long_`.
+    /// Evaluates the row of a line, and prints it if it differs. Skips empty lines, lines that
+    /// start with `#` and, in a short run, rows that start with `long_`.
     pub fn line<R: Print>(&mut self, rt: &R, line: &str) -> io::Result<()> {
         if line.is_empty() || line.starts_with('#') {
             return Ok(());
@@ -50,7 +50,7 @@ impl Table {
         self.rows = self.rows.saturating_add(1);
         let Some(row) = row_of(line) else {
             self.differ = self.differ.saturating_add(1);
-            return println!(rt; "not four cells: {line}");
+            return println!(rt; "not a row: {line}");
         };
         let is_memory = row.kind.starts_with("memory_");
         let end = self.evaluate(&row, is_memory);
@@ -74,11 +74,10 @@ impl Table {
     }
 
     fn evaluate(&mut self, row: &Row<'_>, is_memory: bool) -> Written {
-        let (offset, digits) = row.input.split_once(':').unwrap_or(("0", row.input));
-        read_hex(&mut self.bytes, digits)?;
+        read_hex(&mut self.bytes, row.digits)?;
         let given = Given {
             argument: row.argument,
-            offset: offset.parse::<u32>().unwrap_or(0),
+            offset: row.offset,
             bytes: self.bytes.as_slice(),
         };
         self.written.clear();

@@ -1,5 +1,3 @@
-//! The form in which rows expect errors, positions, bytes and lines.
-
 use std::alloc::AllocError;
 use wasm_listing::operators::{BinaryReader, Error, Message, Result};
 use wasm_tests_texts::Written;

@@ -8,10 +8,8 @@ use wasm_c::{
 };
 use wasm_tests_texts::Written;
 
-/// All features.
 const ALL: u32 = 63;
 
-/// Writes the targets of the `br_table` at an offset.
 pub fn write_targets(alloc: Global, out: &mut String, bytes: &[u8], at: u64) -> Written {
     let mut targets = [0u32; 8];
     let (mut count, mut end) = (0, UNWRITTEN);
@@ -34,7 +32,6 @@ pub fn write_targets(alloc: Global, out: &mut String, bytes: &[u8], at: u64) -> 
     Ok(())
 }
 
-/// Writes the types of the `select` at an offset.
 pub fn write_types(alloc: Global, out: &mut String, bytes: &[u8], at: u64) -> Written {
     let mut types = [WasmType { kind: 0, index: 0 }; 8];
     let (mut count, mut end) = (0, UNWRITTEN);
@@ -50,7 +47,6 @@ pub fn write_types(alloc: Global, out: &mut String, bytes: &[u8], at: u64) -> Wr
     Ok(())
 }
 
-/// Writes the catches of the `try_table` at an offset.
 pub fn write_catches(alloc: Global, out: &mut String, bytes: &[u8], at: u64) -> Written {
     let mut catches = [NONE; 8];
     let (mut count, mut end) = (0, UNWRITTEN);
@@ -68,7 +64,6 @@ pub fn write_catches(alloc: Global, out: &mut String, bytes: &[u8], at: u64) -> 
     write_handlers(out, end.number, count, &catches)
 }
 
-/// Writes the clauses of the operator at an offset that resumes a continuation.
 pub fn write_clauses(alloc: Global, out: &mut String, bytes: &[u8], at: u64) -> Written {
     let mut clauses = [NONE; 8];
     let (mut count, mut end) = (0, UNWRITTEN);
@@ -86,7 +81,6 @@ pub fn write_clauses(alloc: Global, out: &mut String, bytes: &[u8], at: u64) -> 
     write_handlers(out, end.number, count, &clauses)
 }
 
-/// A handler that no call wrote.
 const NONE: WasmHandler = WasmHandler {
     kind: 0,
     tag: 0,

@@ -1,5 +1,5 @@
-//! Replays answers of wasmparser by the calls that C programs make, and prints how many of each call's
-//! cases differ.
+//! Replays wasmparser's results by the calls of C programs, and prints how many cases of each call
+//! differ.
 #![tactic(auto)]
 
 mod lists;

@@ -1,4 +1,4 @@
-//! The functions of a module by the calls that C programs make, and the texts of operators.
+//! The functions of a module, and the texts of operators, by the calls of C programs.
 
 use crate::reading::UNWRITTEN;
 use std::alloc::Global;
@@ -8,13 +8,10 @@ use wasm_c::{
 };
 use wasm_tests_texts::Written;
 
-/// All features.
 const ALL: u32 = 63;
 
-/// The number of the error after the last body.
 const NO_BODY: u32 = 111;
 
-/// The number of the error for an array that is too short.
 const NO_ROOM: u32 = 102;
 
 fn write_error(out: &mut String, refusal: &WasmRefusal) -> Written {
@@ -22,7 +19,6 @@ fn write_error(out: &mut String, refusal: &WasmRefusal) -> Written {
     write!(out, "E{number}@{offset}")
 }
 
-/// Writes a text of this length at the start of an array.
 fn write_start(out: &mut String, text: &[u8], length: usize) -> Written {
     match text.get(..length) {
         Some(bytes) => out.push_str(str::from_utf8(bytes).unwrap_or("no text")),
@@ -50,7 +46,6 @@ fn write_name(alloc: Global, out: &mut String, bytes: &[u8], index: u32) -> Writ
     write_short(out, &short, length, needed, end.number)
 }
 
-/// Writes what is wrong with a call whose array was too short.
 fn write_short(
     out: &mut String,
     array: &[u8],
@@ -67,7 +62,7 @@ fn write_short(
     Ok(())
 }
 
-/// Writes a body: the index, the offset, the length and the type if they are known, and the name.
+/// Writes a body's index and offset, its length and type if they are known, and its name.
 fn write_body(
     alloc: Global,
     out: &mut String,
@@ -89,7 +84,6 @@ fn write_body(
     out.push_str(";")
 }
 
-/// Writes the functions of a module.
 pub fn write_functions(alloc: Global, out: &mut String, bytes: &[u8], is_whole: bool) -> Written {
     let mut bodies = WasmBodies {
         code: 0,
@@ -123,7 +117,6 @@ pub fn write_functions(alloc: Global, out: &mut String, bytes: &[u8], is_whole: 
     }
 }
 
-/// Writes the text of an operator, or its name.
 pub fn write_text(alloc: Global, out: &mut String, bytes: &[u8], is_name: bool) -> Written {
     let mut text = [0u8; 128];
     let (length, end) = text_at(alloc, bytes, &mut text, is_name);

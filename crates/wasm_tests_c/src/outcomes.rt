@@ -1,18 +1,15 @@
-//! Results in the words of the input.
-
 use crate::reading::Found;
 use std::alloc::{AllocError, Global};
 use wasm_c::{WasmOperator, WasmRefusal, wasm_operator_name, wasm_refusal_text};
 use wasm_tests_texts::Written;
 
-/// Writes how reading ended: the number of the error or 0, the offset, and how many operators there are.
+/// Writes how reading ended: the error's number or 0, the offset, and the number of operators.
 pub fn write_end(out: &mut String, found: &Found) -> Written {
     let WasmRefusal { offset, number, .. } = found.end;
     let count = found.count;
     write!(out, "{number} {offset} {count}")
 }
 
-/// Writes how many operators there are, and `Ok` or the number and the offset of the error.
 pub fn write_outcome(out: &mut String, found: &Found) -> Written {
     let WasmRefusal { offset, number, .. } = found.end;
     let count = found.count;
@@ -22,7 +19,7 @@ pub fn write_outcome(out: &mut String, found: &Found) -> Written {
     write!(out, "{count} E{number}@{offset}")
 }
 
-/// Writes the fingerprint of the operators' lines, of which each has an offset and a name.
+/// Writes the fingerprint of the operators' lines, each an offset and a name.
 pub fn write_lines(alloc: Global, out: &mut String, operators: &[WasmOperator]) -> Written {
     let mut lines = String::new(alloc);
     for operator in operators {
@@ -40,14 +37,12 @@ fn write_line(out: &mut String, operator: &WasmOperator) -> Written {
     write!(out, "{offset} {name}\n")
 }
 
-/// Writes the text of an error.
 pub fn write_text(out: &mut String, refusal: &WasmRefusal) -> Written {
     let mut text = [0u8; 128];
     let length = wasm_refusal_text(refusal, &mut text);
     out.push_str(text_of(&text, length))
 }
 
-/// Returns the text of this length at the start of an array.
 fn text_of<'t>(array: &'t [u8], length: usize) -> &'t str {
     match array.get(..length) {
         Some(bytes) => str::from_utf8(bytes).unwrap_or("no text"),

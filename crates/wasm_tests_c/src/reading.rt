@@ -1,15 +1,13 @@
-//! The ways in which a C program reads the operators of a body.
-
 use std::alloc::{AllocError, Global};
 use wasm_c::{
     WasmOperator, WasmReader, WasmRefusal, wasm_finish, wasm_frames_needed, wasm_next,
     wasm_next_plain, wasm_open, wasm_open_body, wasm_read, wasm_read_body,
 };
 
-/// How many operators a batch has at most.
+/// The most operators of a batch.
 const BATCH: usize = 5;
 
-/// No refusal, as a call finds it that writes one: with a number that no call writes.
+/// A refusal before a call writes it, with a number that no call writes.
 pub const UNWRITTEN: WasmRefusal = WasmRefusal {
     offset: 0,
     number: 77,
@@ -22,13 +20,12 @@ pub const UNWRITTEN: WasmRefusal = WasmRefusal {
 #[derive(Clone, Copy)]
 pub struct Source<'b> {
     pub bytes: &'b [u8],
-    /// The offset of the first byte.
     pub offset: u64,
     pub features: u32,
     pub is_body: bool,
 }
 
-/// The operators that were read, how many there are, and how reading them ended.
+/// The operators read, how many there are, and how reading ended.
 #[derive(Drop)]
 pub struct Found {
     pub operators: Vec<WasmOperator>,
@@ -36,7 +33,6 @@ pub struct Found {
     pub end: WasmRefusal,
 }
 
-/// A reader of a source, and the array of its frames.
 #[derive(Drop)]
 struct Opened {
     frames: Vec<u8>,
@@ -44,7 +40,6 @@ struct Opened {
     end: WasmRefusal,
 }
 
-/// Opens a source by `wasm_open_body` or `wasm_open`.
 fn open(alloc: Global, source: &Source<'_>) -> Result<Opened, AllocError> {
     let Source {
         bytes,
@@ -92,7 +87,6 @@ fn finished(opened: Opened, bytes: &[u8], operators: Vec<WasmOperator>) -> Found
     }
 }
 
-/// Reads a body by `wasm_read_body`, into an array of this many operators.
 pub fn whole(alloc: Global, source: &Source<'_>, room: usize) -> Result<Found, AllocError> {
     let mut operators = vec![in alloc; WasmOperator::bare(0, 0, 0); room]?;
     let mut count = 0;
@@ -114,7 +108,7 @@ pub fn whole(alloc: Global, source: &Source<'_>, room: usize) -> Result<Found, A
     })
 }
 
-/// Reads a source by one call of `wasm_next` an operator, or of `wasm_next_plain`.
+/// Reads operator by operator, by `wasm_next_plain` if `is_plain`, otherwise by `wasm_next`.
 pub fn step_by_step(
     alloc: Global,
     source: &Source<'_>,
@@ -154,7 +148,6 @@ pub fn step_by_step(
     Ok(finished(opened, bytes, operators))
 }
 
-/// Reads a source by calls of `wasm_read`.
 pub fn by_batches(alloc: Global, source: &Source<'_>) -> Result<Found, AllocError> {
     let bytes = source.bytes;
     let mut opened = open(alloc, source)?;

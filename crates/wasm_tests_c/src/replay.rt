@@ -1,5 +1,3 @@
-//! Compares the results of each call with those of wasmparser.
-
 use crate::lists::{write_catches, write_clauses, write_targets, write_types};
 use crate::modules::{self, write_functions};
 use crate::outcomes::{write_end, write_lines, write_outcome, write_text};
@@ -31,12 +29,10 @@ pub struct Replay {
     operator_text: Tally,
     value: Tally,
     module: Tally,
-    /// Lines of the input that are of no known sort.
     unread: Tally,
 }
 
 impl Replay {
-    /// No case yet.
     pub fn new(alloc: Global) -> Replay {
         Replay {
             alloc,
@@ -60,7 +56,6 @@ impl Replay {
         }
     }
 
-    /// Replays one line of the input.
     pub fn line<R: Print>(&mut self, rt: &R, line: &str) -> io::Result<()> {
         if let Some(body) = body_of(line) {
             self.body(rt, &body)
@@ -77,7 +72,7 @@ impl Replay {
         }
     }
 
-    /// Compares the text and the name of an operator. The name is the text up to its first space.
+    /// Compares an operator's text, and its name: the text up to its first space.
     fn text<R: Print>(&mut self, rt: &R, text: &Text<'_>) -> io::Result<()> {
         let alloc = self.alloc;
         let mut bytes = Vec::new(alloc);
@@ -93,7 +88,6 @@ impl Replay {
             .compare(rt, found.as_str(), expected.as_str())
     }
 
-    /// Compares a value.
     fn value<R: Print>(&mut self, rt: &R, value: &Value<'_>) -> io::Result<()> {
         let alloc = self.alloc;
         let mut bytes = Vec::new(alloc);
@@ -109,7 +103,6 @@ impl Replay {
         self.value.compare(rt, found.as_str(), value.outcome)
     }
 
-    /// Compares the functions of a module.
     fn module<R: Print>(&mut self, rt: &R, module: &Module<'_>) -> io::Result<()> {
         let alloc = self.alloc;
         let mut bytes = Vec::new(alloc);
@@ -119,7 +112,8 @@ impl Replay {
         self.module.compare(rt, found.as_str(), module.functions)
     }
 
-    /// Compares the calls that read a body. If it has no locals, the bytes after the first are an expression.
+    /// Compares the calls that read a body. Without locals, the bytes after the first are an
+    /// expression.
     fn body<R: Print>(&mut self, rt: &R, body: &Body<'_>) -> io::Result<()> {
         let alloc = self.alloc;
         let mut bytes = Vec::new(alloc);
@@ -152,8 +146,8 @@ impl Replay {
         compare(alloc, rt, &mut self.open, &found, body)
     }
 
-    /// Compares how a body is read without SIMD operators, and the same bytes as a constant
-    /// expression and as locals.
+    /// Compares reading a body without SIMD operators, and its bytes as a constant expression and
+    /// as locals.
     fn other_ways<R: Print>(
         &mut self,
         rt: &R,
@@ -172,8 +166,8 @@ impl Replay {
         self.locals.compare(rt, text.as_str(), body.locals)
     }
 
-    /// Compares the call that reads a body at once, the names of its operators and the text of the error; and
-    /// the same call with places for half of the operators.
+    /// Compares the call that reads a body at once, the operators' names and the error's text; then
+    /// that call with an array for half of the operators.
     fn whole<R: Print>(&mut self, rt: &R, body: &Body<'_>, source: &Source<'_>) -> io::Result<()> {
         let alloc = self.alloc;
         let found = whole(alloc, source, source.bytes.len())?;
@@ -192,7 +186,6 @@ impl Replay {
         self.read_body.compare(rt, text.as_str(), body.end)
     }
 
-    /// Compares the members of a list.
     fn list<R: Print>(&mut self, rt: &R, list: &List<'_>) -> io::Result<()> {
         let alloc = self.alloc;
         let mut bytes = Vec::new(alloc);
@@ -218,7 +211,6 @@ impl Replay {
         }
     }
 
-    /// Prints how many cases of each call there were, and how many of them differ.
     pub fn print<R: Print>(&self, rt: &R) -> io::Result<()> {
         self.read_body.print(rt)?;
         self.name.print(rt)?;
@@ -240,7 +232,6 @@ impl Replay {
     }
 }
 
-/// Compares the operators that a way of reading gave, and how it ended.
 fn compare<R: Print>(
     alloc: Global,
     rt: &R,

@@ -1,11 +1,7 @@
-//! What is counted of a call.
-
 use std::io::{self, Print};
 
-/// Cases of a call that are printed, of those that differ.
 const PRINTED: u64 = 3;
 
-/// How many cases of a call there were, and how many of them differ.
 #[derive(Clone, Copy)]
 pub struct Tally {
     call: &'static str,
@@ -14,7 +10,6 @@ pub struct Tally {
 }
 
 impl Tally {
-    /// No case yet.
     pub fn new(call: &'static str) -> Tally {
         Tally {
             call,
@@ -23,7 +18,6 @@ impl Tally {
         }
     }
 
-    /// Compares a result with the expected one. Prints the first that differ.
     pub fn compare<R: Print>(&mut self, rt: &R, found: &str, expected: &str) -> io::Result<()> {
         self.cases = self.cases.saturating_add(1);
         if found == expected {
@@ -36,7 +30,6 @@ impl Tally {
         println!(rt; "{}: {found}, and not {expected}", self.call)
     }
 
-    /// Prints both numbers.
     pub fn print<R: Print>(&self, rt: &R) -> io::Result<()> {
         println!(rt;
             "{}: {} cases, {} differ",

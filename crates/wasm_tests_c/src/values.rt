@@ -1,4 +1,4 @@
-//! Values by `wasm_read_value`: each as its numbers, or as the number and the offset of the error.
+//! Values read by `wasm_read_value`: as numbers, or as an error's number and offset.
 
 use crate::reading::UNWRITTEN;
 use std::alloc::Global;
@@ -12,17 +12,14 @@ const CONSTANT: u32 = 12;
 
 const LOCAL: u32 = 17;
 
-/// How many declarations of locals are written.
 const DECLARATIONS: u64 = 5;
 
-/// A value that no call wrote.
 const NONE: WasmValue = WasmValue {
     number: 0,
     kind: 0,
     index: 0,
 };
 
-/// A reader without frames at the start of the bytes.
 fn reader_of(features: u32) -> WasmReader {
     WasmReader {
         offset: 0,
@@ -38,7 +35,6 @@ fn write_error(out: &mut String, refusal: &WasmRefusal) -> Written {
     write!(out, "E{number}@{offset}")
 }
 
-/// Writes the value of a kind at the start of the bytes, and the position after it.
 pub fn write_value(
     alloc: Global,
     out: &mut String,
@@ -69,7 +65,6 @@ pub fn write_value(
     write!(out, "{number} {kind} {index} at {position}")
 }
 
-/// Writes the position after a constant expression.
 pub fn write_constant(alloc: Global, out: &mut String, bytes: &[u8], features: u32) -> Written {
     let mut reader = reader_of(features);
     let (mut value, mut end) = (NONE, UNWRITTEN);
@@ -81,7 +76,6 @@ pub fn write_constant(alloc: Global, out: &mut String, bytes: &[u8], features: u
     write!(out, "Ok@{position}")
 }
 
-/// Writes the number of declarations of locals, the first five of them, and the error.
 pub fn write_locals(alloc: Global, out: &mut String, bytes: &[u8], features: u32) -> Written {
     let mut reader = reader_of(features);
     let (mut value, mut end) = (NONE, UNWRITTEN);

@@ -1,4 +1,3 @@
--- The position of a reader after a prefix byte and a subopcode.
 use Rattle.std.proofs.Common.{◌≡◌, ℕ, suc, ◌+◌, List, [], ◌∷◌, length, Ok, Some, refl, sym, subst, ap, ◌∙◌, arith}
 use Rattle.wasm_decode.specs.below.Number.{EncodesUnsigned}
 use Rattle.wasm_decode.specs.below.Source.{Reader, at_position, Takes, Reads, IsByte}

@@ -58,8 +58,8 @@ fn write_reported(texts: &mut Texts, outcome: Reported) -> Written {
     }
 }
 
-/// Writes the result of the reading call, whether each other call has the same result, and the
-/// errors on cut data.
+/// Writes the result of `read_operator`, whether each other call has that result, and the errors on
+/// cut data.
 pub fn write_each(alloc: Global, texts: &mut Texts, task: Task, bytes: &[u8]) -> Written {
     let (outcome, end) = run_read(alloc, task, bytes);
     write_outcome(&mut texts.read, &outcome)?;
@@ -117,7 +117,7 @@ fn compare_factory(
     }
 }
 
-/// Writes whether a visit is of the operator that was read, and by which call of the visitor.
+/// Writes whether a visit is of the operator that was read, and by which call.
 fn compare_visit(texts: &mut Texts, reported: (Reported, usize), end: usize) -> Written {
     let is_same = texts.teller.text == texts.read && reported.1 == end;
     match reported.0 {
@@ -128,8 +128,8 @@ fn compare_visit(texts: &mut Texts, reported: (Reported, usize), end: usize) -> 
     Ok(())
 }
 
-/// Writes whether a visitor receives the same visit through a reference, in a `Box`, and through a
-/// reference to the `Box`. `other` has the text of the direct visit.
+/// Writes whether a visitor receives the same visit by reference, in a `Box`, and by reference to
+/// the `Box`. `other` is the text of the direct visit.
 fn compare_ways(
     alloc: Global,
     texts: &mut Texts,
@@ -152,8 +152,8 @@ fn compare_ways(
     write_way(line, direct, reported, other, &mut boxed.text)
 }
 
-/// Writes whether `decode_simd_low` or `decode_simd_high` alone visits the same SIMD operator, in
-/// the same four ways. Writes nothing for other operators.
+/// Writes whether `decode_simd_low` or `decode_simd_high` alone visits that SIMD operator, in the
+/// four ways of `compare_ways`. Writes nothing for other operators.
 fn compare_halves(
     texts: &mut Texts,
     task: Task,
@@ -190,8 +190,8 @@ fn is_same_visit(a: (Reported, usize), b: (Reported, usize)) -> bool {
     is_same && a.1 == b.1
 }
 
-/// Writes that a visit equals the direct one, whose text is `other`; else what it visited, and the
-/// position. Clears the text of the visit.
+/// Writes whether a visit equals the direct visit, whose text is `other`; if not, the visit and the
+/// position. Clears the visit's text.
 fn write_way(
     line: &mut String,
     direct: (Reported, usize),
@@ -222,7 +222,7 @@ fn write_half(
     write_way(line, direct, reported, other, text)
 }
 
-/// Writes the offset of `EndOfData` on cut data; or more, if the result is anything else.
+/// Writes the offset of `EndOfData` if reading and visiting cut data fail with it; otherwise more.
 fn write_cut(alloc: Global, texts: &mut Texts, task: Task, bytes: &[u8]) -> Written {
     let (outcome, position) = run_read(alloc, task, bytes);
     let reported = run_simd(alloc, &mut texts.teller, task, bytes);

@@ -1,5 +1,5 @@
-//! A SIMD operator, visited by the visitor's call for its half of the subopcodes: below 0x80, or
-//! from 0x80 on. A visit from bytes makes that call only for operators with immediates.
+//! Visits a SIMD operator by the call for its half of the subopcodes: below 0x80, or from 0x80 on.
+//! A visit from bytes makes that call only for operators with immediates.
 ghost use Rattle.std.specs.Prelude.{◌≡◌, Some, IfSome};
 ghost use Rattle.wasm_decode.specs.opcodes.Decoding.{IsAfterCode};
 
@@ -9,8 +9,7 @@ use crate::teller::Teller;
 use wasm_decode::below::{BinaryReader, Result};
 use wasm_decode::visitors::{VisitSimdOperator, Visitor};
 
-/// Returns the result of the call, and the position. Returns `None` unless the data has the byte
-/// 0xfd and a subopcode.
+/// Returns the result of the call and the position; `None` without the byte 0xfd and a subopcode.
 fn run_half<V: VisitSimdOperator>(
     v: &mut V,
     task: Task,
@@ -27,7 +26,6 @@ fn run_half<V: VisitSimdOperator>(
     Some((outcome, reader.current_position()))
 }
 
-/// Reads the byte 0xfd and a subopcode. Returns the subopcode, or `None` if one is missing.
 fn read_vector_subopcode(reader: &mut BinaryReader<'_>, start: usize) -> Option<u32>
     requires { start ≡ reader.old.position }
     ensures { IfSome result (λ code. IsAfterCode start (Some 0xfd) code reader.new) }

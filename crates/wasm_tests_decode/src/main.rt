@@ -28,7 +28,6 @@ fn main(rt: HostRuntime) -> io::Result<()> {
     Ok(())
 }
 
-/// Runs one line of the input: the fields of a task, and bytes in hexadecimal.
 fn run_line<R: Print>(
     rt: &R,
     alloc: Global,

@@ -1,5 +1,4 @@
-//! The visits that `Teller` overrides: some of each group, among them its first and its last
-//! operator.
+//! The visits that `Teller` overrides: some of each group, with its first and its last operator.
 
 use crate::teller::Teller;
 use wasm_decode::imm::{MemArg, Ordering};

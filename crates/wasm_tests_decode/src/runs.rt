@@ -10,7 +10,7 @@ use wasm_decode::visitors::OperatorFactory;
 use wasm_decode::{read_operator, visit_operator, visit_operator_simd};
 use wasm_tests_texts::{Written, write_operator};
 
-/// Creates a reader at the operator of a task, or at the end of the data if it is too short.
+/// Creates a reader at a task's operator, or at the end of data that is too short.
 pub fn reader_at<'a>(task: Task, bytes: &'a [u8]) -> BinaryReader<'a> {
     let mut reader = BinaryReader::new_features(bytes, 0, task.features);
     let _ = reader.read_bytes(task.before);
@@ -70,7 +70,6 @@ pub fn run_boxed(
     (outcome, reader.current_position())
 }
 
-/// Visits through a reference to the `Box`.
 pub fn run_both(
     alloc: Global,
     boxed: &mut Box<Teller>,

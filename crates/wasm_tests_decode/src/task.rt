@@ -9,8 +9,7 @@ pub struct Task {
     pub before: usize,
 }
 
-/// Parses the fields of a line: the features as a number, the frame, and the number of bytes before
-/// the operator.
+/// Parses the features as a number, the frame, and the number of bytes before the operator.
 pub fn task_of(features: &str, frame: &str, before: &str) -> Option<Task> {
     Some(Task {
         features: WasmFeatures::from_bits_retain(features.parse::<u32>().ok()?),
@@ -19,7 +18,8 @@ pub fn task_of(features: &str, frame: &str, before: &str) -> Option<Task> {
     })
 }
 
-/// Returns the frame kind with this name; `None` means that no frame is open.
+/// Returns `Some(None)` for the word `None` (no frame is open), the frame kind of another name, or
+/// `None` for any other word.
 fn frame_of(word: &str) -> Option<Option<FrameKind>> {
     Some(Some(match word {
         "None" => return Some(None),

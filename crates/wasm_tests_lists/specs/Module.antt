@@ -1,4 +1,3 @@
--- The results of the queries of the modules in which arities are printed.
 use Rattle.std.specs.Prelude.{ℕ, ◌==◌, if◌then◌else◌, Option, Some, None}
 use Rattle.wasm_visit.specs.grammar.declared.frame_kind.FrameKind.TheVariants as frame
 use Rattle.wasm_visit.specs.imm.control.block_type.BlockType.TheVariants as block
@@ -23,7 +22,7 @@ facts_of_module = record {
   label_block = at_index 0 (block.FuncType 0, frame.Loop) (at_index 1 (block.Empty, frame.Block) nowhere);
 }
 
--- The results of a module whose queries have the same result at all indices.
+-- The results of a module in which each method returns one result at all indices.
 abbrev pub facts_of_uniform : Uniform → ModuleFacts
 facts_of_uniform m = record {
   func_type_arity = λ _. m.function;

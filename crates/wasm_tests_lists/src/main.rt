@@ -1,6 +1,6 @@
 //! Prints each operator: its row, its arity in one module, whether it is a SIMD operator, whether
 //! its clone is equal, whether a visitor takes it for an `end`, whether `OperatorFactory` returns
-//! it, and its `Debug` text. Then prints which calls several visitors receive.
+//! it, and its `Debug` text. Then prints the calls that several visitors receive.
 #![tactic(auto)]
 
 mod made;

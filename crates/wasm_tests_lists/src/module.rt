@@ -1,7 +1,7 @@
 use wasm_visit::imm::BlockType;
 use wasm_visit::instr::{FrameKind, ModuleArity};
 
-/// Each query has a result for the index 0, or for the indices below.
+/// A module whose methods return `Some` only for the index 0, or for the indices listed here.
 ///
 /// Type 0 is a function type with two parameters and one result, whose last parameter refers to
 /// type 3; type 1 a structure type with three fields; types 2 and 3 continuations of types 0 and 4;

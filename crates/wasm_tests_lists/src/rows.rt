@@ -4,8 +4,8 @@ use std::io::{self, Print};
 use wasm_visit::imm::{BlockType, MemArg, MemArgTarget};
 use wasm_visit::instr::{AtomicOperator, GcOperator, ModuleArity, Operator, SimdOperator};
 
-/// Prints arities in edge cases: a query without a result, numbers that are too large or too small,
-/// and targets that are arrays.
+/// Prints arities in edge cases: queries without a result, numbers out of range, and targets that
+/// are arrays.
 pub fn print_rows<R: Print>(rt: &R) -> io::Result<()> {
     print_elsewhere(rt)?;
     print_unanswered(rt)?;

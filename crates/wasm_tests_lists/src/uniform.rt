@@ -1,4 +1,3 @@
-//! A module whose queries have the same result at all indices.
 use wasm_visit::imm::BlockType;
 use wasm_visit::instr::{FrameKind, ModuleArity};
 

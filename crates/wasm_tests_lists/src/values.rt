@@ -5,7 +5,6 @@ use wasm_visit::instr::{
     AtomicOperator, GcOperator, MiscOperator, NumericOperator, Operator, SimdOperator,
 };
 
-/// The memory argument of all operators that have one.
 const MEMARG: MemArg = MemArg {
     align: 1,
     max_align: 2,
@@ -14,7 +13,6 @@ const MEMARG: MemArg = MemArg {
     ordering: None,
 };
 
-/// The lanes of the shuffle.
 const LANES: [u8; 16] = [0, 1, 2, 3, 4, 5, 6, 7, 8, 9, 10, 11, 12, 13, 14, 15];
 
 pub fn numeric() -> [NumericOperator; 128] {

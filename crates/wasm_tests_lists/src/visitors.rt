@@ -1,5 +1,5 @@
-//! Which of its calls each of several visitors receives: directly, through a reference, through a
-//! `Box`, and through both. Also the results of the factory, a large result, and visits of copies.
+//! The calls that several visitors receive: directly, through a reference, through a `Box`, and
+//! through both. Also the factory's results, a large result, and visits of copies.
 mod counter;
 mod hand_over;
 mod interp;
@@ -123,7 +123,6 @@ fn print_factory<R: Print>(rt: &R) -> io::Result<()> {
     println!(rt; "factory: {outcomes:?}")
 }
 
-/// Visits copies of an operator that owns a list of two types, by each of the two calls.
 fn visit_list(alloc: Global) -> (&'static str, Counter) {
     let mut counter = Counter::new(alloc);
     let Ok(tys) = Vec::from_array(alloc, [ValType::I32, ValType::I64]) else {

@@ -29,7 +29,6 @@ impl Features {
     }
 }
 
-/// Reads to the end of the data, or until the buffer is full. Returns the number of bytes.
 pub fn read_input<R: Read>(reader: &mut R, room: &mut [u8]) -> io::Result<usize> {
     let mut size = 0;
     for _ in 0..u64::MAX {
@@ -45,8 +44,7 @@ pub fn read_input<R: Read>(reader: &mut R, room: &mut [u8]) -> io::Result<usize>
     Ok(size)
 }
 
-/// Writes the bytes of a row's expression into `room`. Returns the features and the number of
-/// bytes.
+/// Writes the bytes of a row into `room`. Returns the features and the number of bytes.
 pub fn row_of(room: &mut [u8], line: &str) -> Option<(Features, usize)> {
     let mut words = line.split_whitespace();
     let features = features_of(words.next()?)?;
@@ -74,8 +72,8 @@ fn features_of(word: &str) -> Option<Features> {
     Some(Features::These(word.parse::<u32>().ok()?))
 }
 
-/// Appends bytes in hexadecimal to the first `size` bytes, and returns the new size. A character
-/// that is not a digit counts as 0.
+/// Appends hexadecimal bytes after the first `size`, and returns the new size. A character that is
+/// no digit counts as 0.
 fn write_bytes(room: &mut [u8], size: usize, digits: &str) -> usize {
     let mut end = size;
     let mut high = None;

@@ -1,5 +1,5 @@
-//! Reads and visits the expressions in the rows of its input by each call of `OperatorsReader`.
-//! Prints what was read, and whether the calls agree.
+//! Reads and visits the expressions of its input by each call of `OperatorsReader`. Prints what was
+//! read, and whether the calls agree.
 #![tactic(auto)]
 
 mod input;

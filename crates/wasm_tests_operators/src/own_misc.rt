@@ -1,4 +1,4 @@
-//! Overridden visits of the operators with the prefix byte 0xfc. Written by tools/lists.py from tools/operators.tsv.
+//! Overridden visits. Written by tools/lists.py from tools/operators.tsv.
 use crate::prints::OwnPrints;
 use wasm_operators::{MiscOperator, VisitMisc};
 

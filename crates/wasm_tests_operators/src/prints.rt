@@ -20,7 +20,6 @@ impl Prints {
         }
     }
 
-    /// Hashes the first operators of a list.
     pub fn of(list: Listed<'_, '_>, operators: usize) -> Prints {
         let mut prints = Prints::new();
         for (op, _) in list.get(..operators).unwrap_or(&[]).iter() {
@@ -92,7 +91,7 @@ impl<'a> VisitOperator<'a> for LargePrints {
 
 impl VisitSimdOperator for LargePrints {}
 
-/// Overrides the visit of each operator with the prefix byte 0xfc, and counts these.
+/// Overrides and counts the visits of operators with the prefix byte 0xfc.
 #[derive(Clone, Copy, Debug, PartialEq, Eq)]
 pub struct OwnPrints {
     pub prints: Prints,

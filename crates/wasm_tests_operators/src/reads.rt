@@ -1,7 +1,7 @@
 use crate::reported::{Listed, Reported, is_memory};
 use wasm_operators::{FrameStack, Operator, OperatorsReader, Result};
 
-/// Reads an expression by `read_all`. A second call must add nothing, and end in the same way.
+/// Reads an expression by `read_all`. A second call must add nothing, and return the same result.
 pub fn read_all<'a>(
     operators: &mut OperatorsReader<'a>,
     list: &mut Vec<(Operator<'a>, u64)>,
@@ -18,7 +18,7 @@ pub fn read_all<'a>(
     reported
 }
 
-/// Calls `read_all`, again after what was read if allocation fails.
+/// Repeats `read_all` as long as allocation fails.
 fn read_to_end<'a>(
     operators: &mut OperatorsReader<'a>,
     list: &mut Vec<(Operator<'a>, u64)>,
@@ -33,7 +33,7 @@ fn read_to_end<'a>(
     }
 }
 
-/// Reads the operators one by one, and calls `finish` at the end of the data.
+/// Reads operator by operator, and calls `finish` at the end of the data.
 pub fn read_each<'a>(operators: &mut OperatorsReader<'a>, list: Listed<'_, 'a>) -> Reported {
     let mut reported = Reported::new();
     let count = list.len() as u64;
@@ -53,7 +53,7 @@ pub fn read_each<'a>(operators: &mut OperatorsReader<'a>, list: Listed<'_, 'a>) 
     reported
 }
 
-/// Reads one operator. If that fails, a second read must fail with the same error.
+/// Reads one operator. After an error, a second read must fail with the same error.
 fn read_twice<'a>(
     operators: &mut OperatorsReader<'a>,
     reported: &mut Reported,
@@ -66,7 +66,7 @@ fn read_twice<'a>(
     outcome
 }
 
-/// Reads one operator, again if allocation failed. A failed read changes nothing. Allocation may
+/// Reads one operator, again if allocation failed. A failed read changes nothing; allocation may
 /// fail only for operators that open a frame or own a list.
 fn read_with_memory<'a>(
     operators: &mut OperatorsReader<'a>,

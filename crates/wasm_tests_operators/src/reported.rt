@@ -7,7 +7,7 @@ pub type Listed<'l, 'a> = &'l [(Operator<'a>, u64)];
 pub struct Reported {
     pub operators: usize,
     pub refusal: Option<Error>,
-    /// Whether each operator equals that of the list at its index, and an error changed nothing.
+    /// Whether each operator equals the list's at its index, and an error changed nothing.
     pub is_right: bool,
 }
 
@@ -20,7 +20,6 @@ impl Reported {
         }
     }
 
-    /// Adds one operator, which should be the next of the list.
     pub fn give(&mut self, list: Listed<'_, '_>, op: &Operator<'_>) {
         let is_listed = match list.get(self.operators) {
             Some((listed, _)) => *listed == *op,

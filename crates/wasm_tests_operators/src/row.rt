@@ -24,7 +24,7 @@ struct Outcomes {
     agree: Agree,
 }
 
-/// Whether each call has the same result as `read_all`.
+/// For each call, whether its result is that of `read_all`.
 #[derive(Clone, Copy, Debug, PartialEq, Eq)]
 struct Agree {
     reads: bool,
@@ -46,8 +46,8 @@ const ALL_AGREE: Agree = Agree {
     own: true,
 };
 
-/// Prints the operators that are read, and the results of the calls; also, with how many feature
-/// sets `read_all` has another result than with the first.
+/// Prints the operators, the results of the calls, and for how many feature sets `read_all` has
+/// another result than for the first.
 pub fn run_row<R: Print>(
     rt: &R,
     alloc: Global,
@@ -91,7 +91,6 @@ fn is_read(
     reported == expected
 }
 
-/// Returns the results of the calls. `list` is what `read_all` reads.
 fn outcomes_of<'a>(
     alloc: Global,
     bits: u32,

@@ -20,8 +20,8 @@ pub fn print_stacks<R: Print>(rt: &R, alloc: Global) -> io::Result<()> {
     print_rests(rt, alloc)
 }
 
-/// Opens and closes two frames. If allocation fails the stack is unchanged, and the second call
-/// succeeds. The first frame does not allocate.
+/// Opens and closes two frames. A failed allocation changes nothing, and the second call succeeds.
+/// The first frame does not allocate.
 fn print_stack<R: Print>(rt: &R, alloc: Global) -> io::Result<()> {
     let mut stack = ControlStack::new(alloc);
     let first = stack.push(FrameKind::Block);
@@ -79,7 +79,6 @@ fn print_handed_on<R: Print>(rt: &R, alloc: Global) -> io::Result<()> {
     println!(rt; ", then in {:?}", operators.current_frame())
 }
 
-/// Opens frames within the reserved capacity, which does not allocate.
 fn print_reserved<R: Print>(rt: &R, alloc: Global) -> io::Result<()> {
     let mut allocations = OperatorsReaderAllocations::new(alloc);
     let mut room = allocations.reserve(4);

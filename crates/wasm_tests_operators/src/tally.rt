@@ -11,11 +11,11 @@ static DATA_DROPS: [u8; 8] = [0xfc, 0x09, 0x07, 0xfc, 0x09, 0x07, 0x1a, 0x0b];
 /// `nop` twice, then `drop` and `end`: only opcodes below 0x20.
 static NOPS: [u8; 4] = [0x01, 0x01, 0x1a, 0x0b];
 
-/// `i32.const 5`, `local.get 3`, `drop` and `end`: the visit of one opcode from 0x20 on is
+/// `i32.const 5`, `local.get 3`, `drop` and `end`: one visit of an opcode from 0x20 on is
 /// overridden.
 static CONSTANT: [u8; 6] = [0x41, 0x05, 0x20, 0x03, 0x1a, 0x0b];
 
-/// Counts visits, and overrides those of `Nop`, `LocalGet` and `DataDrop`.
+/// Counts visits. Overrides `Nop`, `LocalGet` and `DataDrop`.
 #[derive(Debug, Drop)]
 pub struct Tally {
     pub own: u32,
@@ -97,8 +97,8 @@ impl<'a> VisitOperator<'a> for Tally {
 
 impl VisitSimdOperator for Tally {}
 
-/// Prints how often each visit ran, by both drivers: directly, through a reference, in a `Box`, and
-/// through a reference to a `Box`.
+/// Prints how often each visit ran, by both drivers: directly, by reference, in a `Box`, and by
+/// reference to a `Box`.
 pub fn print_tallies<R: Print>(rt: &R, alloc: Global) -> io::Result<()> {
     print_visits(rt, alloc, "data drops", &DATA_DROPS)?;
     print_visits(rt, alloc, "nops", &NOPS)?;

@@ -3,7 +3,7 @@ use crate::reported::{Listed, Reported, is_memory, offset_at};
 use std::alloc::Global;
 use wasm_operators::{BinaryReader, Error, Message, Operator, OperatorsReader, Result};
 
-/// Visits by `visit_all_simd`. A second call must make no visit, and end in the same way.
+/// Visits by `visit_all_simd`. A second call must visit nothing, and return the same result.
 pub fn visit_all_simd<'a>(operators: &mut OperatorsReader<'a>, list: Listed<'_, 'a>) -> Reported {
     let mut prints = Prints::new();
     let mut reported = Reported::new();
@@ -64,8 +64,7 @@ pub fn visit_large<'a>(operators: &mut OperatorsReader<'a>, list: Listed<'_, 'a>
     end(reported, list, large.prints, outcome)
 }
 
-/// Visits with a visitor that overrides each operator with the prefix byte 0xfc, and counts these
-/// visits.
+/// Visits with `OwnPrints`, which overrides operators with the prefix byte 0xfc.
 pub fn visit_own<'a>(operators: &mut OperatorsReader<'a>, list: Listed<'_, 'a>) -> Reported {
     let mut own = OwnPrints {
         prints: Prints::new(),
@@ -87,7 +86,6 @@ pub fn visit_own<'a>(operators: &mut OperatorsReader<'a>, list: Listed<'_, 'a>) 
     end(reported, list, own.prints, outcome)
 }
 
-/// Visits with a visitor in a `Box`, through a reference to it; again if allocation failed.
 pub fn visit_boxed<'a>(alloc: Global, reader: &BinaryReader<'a>, list: Listed<'_, 'a>) -> Reported {
     let reported = boxed_once(alloc, reader, list);
     if reported.lacked_memory() {
@@ -133,7 +131,6 @@ fn check_stop(
     reported.check(next == Some(position) || next.is_none());
 }
 
-/// Checks that the visited operators are the first of the list.
 fn end(reported: Reported, list: Listed<'_, '_>, prints: Prints, outcome: Result<()>) -> Reported {
     let mut reported = reported;
     reported.operators = prints.operators;

@@ -18,7 +18,7 @@ impl Listing {
         Listing { text, end }
     }
 
-    /// Returns the lines, or an empty text if they are not UTF-8.
+    /// Returns the lines of the listing, or an empty text if the listing is not UTF-8.
     pub fn lines(&self) -> &str {
         str::from_utf8(self.text.as_slice()).unwrap_or("")
     }
@@ -78,7 +78,7 @@ impl Listing {
         write!(out, "{print:016x}")
     }
 
-    /// Writes the lines, separated by semicolons; or `*` if there are more than six.
+    /// Writes the lines with semicolons between them, or `*` for more than six.
     pub fn write_lines(&self, out: &mut String) -> Written {
         if self.lines().lines().count() > 6 {
             return out.push_str("*");

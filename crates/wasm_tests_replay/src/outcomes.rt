@@ -1,5 +1,3 @@
-//! Results in the format of the input.
-
 use wasm_listing::operators::{Error, Result};
 use wasm_tests_texts::Written;
 

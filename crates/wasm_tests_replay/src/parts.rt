@@ -1,5 +1,3 @@
-//! Bytes read as a constant expression, as locals and as a code section.
-
 use crate::outcomes::write_refusal;
 use std::alloc::Global;
 use wasm_listing::operators::{
@@ -23,7 +21,6 @@ pub fn write_constant(
     }
 }
 
-/// Writes the number of local declarations, the first five, and the error.
 pub fn write_locals(features: WasmFeatures, bytes: &[u8], out: &mut String) -> Written {
     let reader = BinaryReader::new_features(bytes, 0, features);
     match LocalsReader::new(reader) {
@@ -50,8 +47,6 @@ fn write_declarations(locals: LocalsReader<'_>, out: &mut String) -> Written {
     Ok(())
 }
 
-/// Writes how many bodies are read from a code section, the ranges of the first four, and the
-/// error.
 pub fn write_section(
     alloc: Global,
     features: WasmFeatures,

@@ -2,7 +2,6 @@ use std::alloc::{AllocError, Global};
 use wasm_listing::operators::{BinaryReader, FunctionBody, Operator, Result, WasmFeatures};
 use wasm_tests_texts::{Written, write_operator};
 
-/// Writes a line for each operator of a body: its offset, its name and its fields.
 pub fn write_fields(
     alloc: Global,
     features: WasmFeatures,

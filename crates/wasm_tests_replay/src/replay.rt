@@ -30,7 +30,7 @@ impl Replay {
         }
     }
 
-    /// Runs one line of the input. If it differs, prints the line after its differences.
+    /// Runs one line. If it differs, prints it after its differences.
     pub fn line<R: Print>(&mut self, rt: &R, line: &str) -> io::Result<()> {
         if is_heading(line) {
             return Ok(());
@@ -108,7 +108,6 @@ impl Replay {
         self.compare(rt, "code section", row.section)
     }
 
-    /// Compares the number of operators and the end with those of wasmparser.
     fn compare_end<R: Print>(&mut self, rt: &R, what: &str, row: &Row<'_>) -> io::Result<()> {
         let mut expected = String::new(self.alloc);
         match row.status {
@@ -127,7 +126,6 @@ impl Replay {
         Ok(())
     }
 
-    /// Compares the two lines of one operator in a body: of the listing, and with all fields.
     fn sample<R: Print>(&mut self, rt: &R, sample: &Sample<'_>) -> io::Result<()> {
         let hexadecimal = format!(in self.alloc;
             "{}{}{}",

@@ -7,20 +7,20 @@ use wasm_listing::operators::WasmFeatures;
 pub struct Row<'r> {
     pub features: WasmFeatures,
     pub body: &'r str,
-    /// The exit status, and the number, the offset and the text of the error.
+    /// The exit status, and the error's number, offset and text.
     pub status: &'r str,
     pub number: &'r str,
     pub offset: &'r str,
     pub text: &'r str,
     pub operators: &'r str,
-    /// The hashes of the listing, and of the listing with all fields.
+    /// The hashes of the listing, without and with all fields.
     pub listing: &'r str,
     pub fields: &'r str,
     /// The lines of the listing, or `*`.
     pub lines: &'r str,
     /// How many visits a visitor without SIMD operators receives, and how they end.
     pub plain: &'r str,
-    /// The results for the same bytes as a constant expression, locals and a code section.
+    /// The results for the bytes as a constant expression, locals and a code section.
     pub constant: &'r str,
     pub locals: &'r str,
     pub section: &'r str,

@@ -29,7 +29,6 @@ impl<'a> VisitOperator<'a> for Plain {
     }
 }
 
-/// Counts visits, also of SIMD operators.
 #[derive(Debug, Drop)]
 struct All {
     visits: u64,

@@ -1,5 +1,4 @@
-//! Code that test programs share: their input, bytes in hexadecimal, and operators as text with all
-//! fields.
+//! What test programs share: input, bytes in hexadecimal, operators as text with all fields.
 #![tactic(auto)]
 
 mod bytes;

@@ -1,4 +1,4 @@
-//! The values of fields, in the format of `tools/original/samples.tsv`.
+//! Values of fields, as in `tools/original/samples.tsv`.
 
 use std::alloc::AllocError;
 use wasm_instr::below::{HeapType, RefType, ValType};
@@ -39,7 +39,6 @@ pub fn vector(out: &mut String, name: &str, value: &V128) -> Written {
     lanes(out, name, value.bytes())
 }
 
-/// Writes bytes in hexadecimal, the first byte first.
 pub fn lanes(out: &mut String, name: &str, value: &[u8; 16]) -> Written {
     write!(out, " {name}=")?;
     for byte in value {

@@ -1,14 +1,13 @@
--- Floating-point numbers as text, in hexadecimal. Specification: Text Format, Values,
--- Floating-Point; Numerics, Representations.
+-- Specification: Text Format, Values, Floating-Point; Numerics, Representations.
 use Rattle.std.specs.Prelude.{◌==◌, ℕ, ◌-◌, ◌*◌, ◌/◌, ◌%◌, ◌^◌, ltb, false, List, [], ◌∷◌, ◌++◌, codes, decimal, if◌then◌else◌, zero, suc}
 use Rattle.std.specs.Fmt.{digit_glyph, radix_digits}
 
--- The hexadecimal digits of a fraction of 52 bits, at most 13, without the zeros at the end.
+-- The hexadecimal digits of a fraction of 52 bits, without the zeros at the end.
 abbrev pub fraction_digits : ℕ → ℕ → List ℕ
 fraction_digits zero fraction = []
 fraction_digits (suc n) fraction = if fraction == 0 then [] else digit_glyph false (fraction / 2 ^ 48) ∷ fraction_digits n (fraction % 2 ^ 48 * 16)
 
--- A point and the digits of a fraction of 52 bits; nothing if it is 0.
+-- A point and these digits; nothing for the fraction 0.
 abbrev pub fraction_text : ℕ → List ℕ
 fraction_text fraction = if fraction == 0 then [] else 46 ∷ fraction_digits 13 fraction
 
@@ -16,8 +15,8 @@ fraction_text fraction = if fraction == 0 then [] else 46 ∷ fraction_digits 13
 abbrev pub exponent_text : ℕ → ℕ → List ℕ
 exponent_text biased bias = if ltb biased bias then codes "p-" ++ decimal (bias - biased) else codes "p+" ++ decimal (biased - bias)
 
--- A finite number by its biased exponent and its fraction of 52 bits. With the biased exponent 0,
--- the integer part is 0 instead of 1, and the exponent counts as 1.
+-- A finite number by its biased exponent and its fraction of 52 bits. The biased exponent 0 counts
+-- as 1, with the integer part 0.
 abbrev pub finite_text : ℕ → ℕ → ℕ → List ℕ
 finite_text bias biased fraction =
     if biased == 0
@@ -28,7 +27,7 @@ finite_text bias biased fraction =
 abbrev pub nan_text : ℕ → ℕ → List ℕ
 nan_text canonical payload = if payload == canonical then codes "nan" else codes "nan:0x" ++ radix_digits 16 false payload
 
--- A number with the largest exponent: infinity if the payload is 0, else a NaN.
+-- Infinity if the payload is 0, otherwise a NaN.
 abbrev pub special_text : ℕ → ℕ → List ℕ
 special_text canonical payload = if payload == 0 then codes "inf" else nan_text canonical payload
 
@@ -39,6 +38,5 @@ sign_text sign = if sign == 0 then codes " " else codes " -"
 abbrev pub float_32_text : ℕ → List ℕ
 float_32_text bits = sign_text (bits / 2 ^ 31) ++ (if bits / 2 ^ 23 % 2 ^ 8 == 255 then special_text (2 ^ 22) (bits % 2 ^ 23) else finite_text 127 (bits / 2 ^ 23 % 2 ^ 8) (bits % 2 ^ 23 * 2 ^ 29))
 
--- The sign, 11 bits of the exponent and 52 bits of the fraction.
 abbrev pub float_64_text : ℕ → List ℕ
 float_64_text bits = sign_text (bits / 2 ^ 63) ++ (if bits / 2 ^ 52 % 2 ^ 11 == 2047 then special_text (2 ^ 51) (bits % 2 ^ 52) else finite_text 1023 (bits / 2 ^ 52 % 2 ^ 11) (bits % 2 ^ 52))

@@ -45,12 +45,12 @@ immediate_text (resume_clauses t) = resume_table_text t
 abbrev pub immediates_text : List Immediate → List ℕ
 immediates_text is = flat_map immediate_text is
 
--- The table of an indirect call, and then the type of the called function.
+-- The table of an indirect call, and then the function type.
 abbrev pub indirect_text : ℕ → ℕ → List ℕ
 indirect_text ty table = number_text table ++ (codes " (type " ++ (decimal ty ++ codes ")"))
 
--- The operands of an operator with the prefix byte 0xfb. A test of, or a cast to, one type shows a
--- reference type.
+-- The operands after the prefix byte 0xfb. A test or a cast shows a reference type for its heap
+-- type.
 abbrev pub gc_operands : GcOperator → List ℕ
 gc_operands (gc.RefTestNonNull hty) = reference_text false hty
 gc_operands (gc.RefTestNullable hty) = reference_text true hty
@@ -67,6 +67,6 @@ operands_of (operator.ReturnCallIndirect type_index table_index) = indirect_text
 operands_of (operator.Gc op) = gc_operands op
 operands_of op = immediates_text (immediates_of op)
 
--- The text of an operator: its name and its operands.
+-- An operator's name and operands.
 abbrev pub text_of : Operator → List ℕ
 text_of op = text_name op ++ operands_of op

@@ -36,7 +36,7 @@ signed_text n = codes " " ++ signed_decimal n
 abbrev pub byte_text : ℕ → List ℕ
 byte_text byte = digit_glyph false (byte / 16) ∷ digit_glyph false (byte % 16) ∷ []
 
--- A space and a byte as two hexadecimal digits.
+-- A space and `byte_text`.
 abbrev pub spaced_byte : ℕ → List ℕ
 spaced_byte byte = 32 ∷ byte_text byte
 
@@ -75,7 +75,7 @@ abbrev pub reference_words : Bool → HeapType → List ℕ
 reference_words true heap = codes " (ref null" ++ (heap_type_text heap ++ codes ")")
 reference_words false heap = codes " (ref" ++ (heap_type_text heap ++ codes ")")
 
--- A reference type, as `funcref` or `externref` if it has that short form.
+-- A reference type: `funcref`, `externref`, or in full.
 abbrev pub reference_text : Bool → HeapType → List ℕ
 reference_text true (heap.Abstract false ty.Func) = codes " funcref"
 reference_text true (heap.Abstract false ty.Extern) = codes " externref"
@@ -89,8 +89,8 @@ value_type_text value.F64 = codes " f64"
 value_type_text value.V128 = codes " v128"
 value_type_text (value.Ref r) = reference_text r.nullable r.heap_type
 
--- Nothing, the one result type, or the index of a function type. (The text format: `(result i32)`,
--- `(type 1)`.)
+-- Nothing, the result type, or a function type's index. (The text format: `(result i32)`, `(type
+-- 1)`.)
 abbrev pub block_type_text : BlockType → List ℕ
 block_type_text block.Empty = []
 block_type_text (block.Value ty) = value_type_text ty
@@ -108,7 +108,6 @@ catch_text (clause.AllRef label) = codes " (catch_all_ref" ++ (number_text label
 abbrev pub try_table_text : TryTable → List ℕ
 try_table_text t = block_type_text t.ty ++ flat_map catch_text t.catches
 
--- A clause of a resume table.
 abbrev pub handle_text : Handle → List ℕ
 handle_text (handle.OnLabel tag label) = codes " (on" ++ (number_text tag ++ (number_text label ++ codes ")"))
 handle_text (handle.OnSwitch tag) = codes " (on" ++ (number_text tag ++ codes " switch)")
@@ -121,12 +120,12 @@ abbrev pub order_text : Ordering → List ℕ
 order_text SeqCst = codes " seq_cst"
 order_text AcqRel = codes " acq_rel"
 
--- The ordering of a fence: 0 for that of the proposal threads. (The text format writes nothing.)
+-- The ordering of a fence: 0 for `SeqCst`. (The text format writes nothing.)
 abbrev pub fence_text : Ordering → List ℕ
 fence_text SeqCst = codes " 0"
 fence_text AcqRel = codes " acq_rel"
 
--- The index of the memory that is accessed, unless it is 0, or the type of the array.
+-- The index of the memory, unless it is 0, or the type of the array.
 abbrev pub target_text : MemArgTarget → List ℕ
 target_text (target.Memory index) = cond (eqb index 0) [] (number_text index)
 target_text (target.Array index) = codes " (type " ++ (decimal index ++ codes ")")
@@ -136,7 +135,7 @@ announced_text None = []
 announced_text (Some (ordering.Op o)) = order_text o
 announced_text (Some (ordering.Rmw o)) = order_text o
 
--- Alignment as an exponent of two, what is accessed, offset in bytes, ordering. (The text format:
--- `offset=`, `align=`, and the alignment.)
+-- Alignment exponent, target, offset and ordering. (The text format: `offset=`, `align=`, and the
+-- alignment.)
 abbrev pub memory_argument_text : MemArg → List ℕ
 memory_argument_text m = number_text m.align ++ (target_text m.target ++ (number_text m.offset ++ announced_text m.ordering))

@@ -23,7 +23,6 @@ pub fn write_digit(out: &mut String, value: u8) -> Written
     out.push_str(digit_of(value))
 }
 
-/// Writes a space, `0x` and the four bytes from index `at` on, the highest byte first.
 fn write_word(out: &mut String, bytes: &[u8; 16], at: usize) -> Written
     requires { at < 13 }
     ensures { OnOk result (string_bytes out.new ≡ string_bytes out.old ++ word_text bytes.now at) }
@@ -35,7 +34,6 @@ fn write_word(out: &mut String, bytes: &[u8; 16], at: usize) -> Written
     write_byte(out, bytes[at])
 }
 
-/// Writes sixteen bytes as four words, the lowest word first.
 pub fn write_words(out: &mut String, bytes: &[u8; 16]) -> Written
     ensures { OnOk result (string_bytes out.new ≡ string_bytes out.old ++ words_text bytes.now) }
 {

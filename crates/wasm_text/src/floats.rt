@@ -8,7 +8,6 @@ use wasm_instr::{Ieee32, Ieee64};
 /// The weight of the first hexadecimal digit of a fraction of 52 bits.
 const FIRST_DIGIT: u64 = 0x1_0000_0000_0000;
 
-/// Writes the hexadecimal digits of a fraction of 52 bits, up to its last digit that is not 0.
 fn write_digits(out: &mut String, fraction: u64) -> Written
     requires { fraction < 2 ^ 52 }
     ensures { OnOk result (string_bytes out.new ≡ string_bytes out.old ++ fraction_digits 13 fraction) }

@@ -1,9 +1,8 @@
-//! Operators in the text format: their names and operands, as a disassembly shows them.
+//! Operators in the text format: names and operands, as a disassembly shows them.
 //!
 //! The main theorem is the contract of [`write_operator`].
 //!
-//! A call that writes fails with `AllocError` if allocation fails. `out` may then end with a part
-//! of the text.
+//! A call that writes may fail with `AllocError`. `out` may then end with a part of the text.
 #![tactic(auto)]
 
 mod bytes;

@@ -6,7 +6,6 @@ use crate::values::{Written, write_number};
 use wasm_instr::below::ValType;
 use wasm_instr::{BrTable, Catch, Handle};
 
-/// Writes the targets of a branch table, and then the default target.
 pub fn write_branch_table(out: &mut String, table: &BrTable<'_>) -> Written
     ensures { OnOk result (string_bytes out.new ≡ string_bytes out.old ++ branch_table_text table.now) }
 {

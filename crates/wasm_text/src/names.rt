@@ -1,4 +1,4 @@
-//! The names of the operators in the text format. Written by tools/lists.py from tools/operators.tsv.
+//! Written by tools/lists.py from tools/operators.tsv.
 ghost use Rattle.std.specs.Prelude.{◌≡◌};
 ghost use Rattle.wasm_text.specs.Names.{text_name, numeric_text_name, gc_text_name, misc_text_name, simd_text_name, atomic_text_name};
 

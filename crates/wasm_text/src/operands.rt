@@ -1,4 +1,4 @@
-//! Operands by the kinds of their immediates, each after a space.
+//! Writes operands by the kinds of their immediates, each after a space.
 ghost use Rattle.std.specs.Prelude.{◌≡◌, ◌++◌, ◌∷◌, [], true, false, OnOk, string_bytes};
 ghost use Rattle.wasm_instr.specs.Immediate.{unsigned_32, signed_32, signed_64, float_32, float_64, vector, one_lane, sixteen_lanes, order, fence_order, heap_type, cast, block_type, branch_table, select_types, try_clauses, resume_clauses};
 ghost use Rattle.wasm_instr.specs.imm.control.select.Select.TheVariants as select;
@@ -73,7 +73,6 @@ pub fn lane(out: &mut String, lane: &u8) -> Written
     write_number(out, u32::from(*lane))
 }
 
-/// Writes the lane indices of a shuffle as four words.
 pub fn lanes(out: &mut String, lanes: &[u8; 16]) -> Written
     ensures { OnOk result (string_bytes out.new ≡ string_bytes out.old ++ (immediates_text (sixteen_lanes lanes.now ∷ []))) }
 {

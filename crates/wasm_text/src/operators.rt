@@ -1,5 +1,3 @@
-//! The operands of the operators, one module per enum.
-
 mod atomic;
 mod gc;
 mod misc;

@@ -1,4 +1,4 @@
-//! Types, each after a space.
+//! Writes types, each after a space.
 ghost use Rattle.std.specs.Prelude.{◌≡◌, ◌++◌, OnOk, string_bytes};
 ghost use Rattle.wasm_text.specs.Values.{abstract_name, heap_type_text, reference_words, reference_text, value_type_text, block_type_text};
 
@@ -57,7 +57,6 @@ fn write_reference_words(out: &mut String, nullable: bool, heap_type: HeapType) 
     out.push_str(")")
 }
 
-/// Writes a reference type, in its short form if it has one.
 pub fn write_reference(out: &mut String, nullable: bool, heap_type: HeapType) -> Written
     ensures { OnOk result (string_bytes out.new ≡ string_bytes out.old ++ reference_text nullable heap_type) }
 {

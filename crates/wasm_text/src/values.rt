@@ -1,4 +1,4 @@
-//! Numbers, orderings and memory arguments, each after a space.
+//! Writes numbers, orderings and memory arguments, each after a space.
 ghost use Rattle.std.specs.Prelude.{◌≡◌, ◌++◌, OnOk, string_bytes};
 ghost use Rattle.wasm_text.specs.Values.{number_text, signed_text, order_text, fence_text, target_text, announced_text, memory_argument_text};
 
@@ -35,7 +35,6 @@ pub fn write_order(out: &mut String, value: Ordering) -> Written
     }
 }
 
-/// Writes the ordering of a fence: `0` for `seq_cst`.
 pub fn write_fence(out: &mut String, value: Ordering) -> Written
     ensures { OnOk result (string_bytes out.new ≡ string_bytes out.old ++ fence_text value) }
 {
@@ -70,7 +69,6 @@ fn write_announced(out: &mut String, ordering: Option<MemArgOrdering>) -> Writte
     }
 }
 
-/// Writes the alignment's exponent, what is accessed, the offset and the ordering, if there is one.
 pub fn write_memory_argument(out: &mut String, value: &MemArg) -> Written
     ensures { OnOk result (string_bytes out.new ≡ string_bytes out.old ++ memory_argument_text value.now) }
 {

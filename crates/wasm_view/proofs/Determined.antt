@@ -1,4 +1,3 @@
--- What the C struct of an operator determines.
 use Rattle.std.proofs.Common.{◌≡◌, ◌⊎◌, ℕ, inl, inr, refl, sym, ap, ◌∙◌, arith}
 use Rattle.wasm_instr.specs.Gc.{gc_immediates}
 use Rattle.wasm_instr.specs.Misc.{misc_immediates}

@@ -319,7 +319,7 @@ argument_again m t o target ordering =
     ap (λ (s : MemArgTarget). (let same : MemArg = record { align = m.align; max_align = m.max_align; offset = m.offset; target = s; ordering = o } in same)) target ∙
     ap (λ (s : Option MemArgOrdering). (let same : MemArg = record { align = m.align; max_align = m.max_align; offset = m.offset; target = m.target; ordering = s } in same)) ordering
 
--- The immediates of these kinds that the fields of the struct hold.
+-- The immediates in the fields of the struct.
 abbrev read_back : List Kind → WasmOperator → List Immediate
 read_back (is_unsigned_32 ∷ []) v = unsigned_32 v.first ∷ []
 read_back (is_memory_index ∷ []) v = memory_index v.first ∷ []

@@ -1,4 +1,3 @@
--- Lists whose members are copied to an array, one after another.
 use Rattle.std.proofs.Common.{◌≡◌, ℕ, ◌-◌, ◌≤◌, ◌<◌, List, [], ◌∷◌, ◌++◌, length, map, drop, set, get_or, take, zero, suc, refl, sym, ap, subst, ◌∙◌, arith, length-append, Some}
 use Rattle.wasm_instr.specs.below.declared.types.ValType.{ValType}
 use Rattle.wasm_instr.specs.declared.operator.Operator.{Operator}

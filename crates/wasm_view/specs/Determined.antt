@@ -1,4 +1,3 @@
--- Operators that their C structs determine.
 use Rattle.std.specs.Prelude.{FitsSigned}
 use Rattle.std.specs.Int.{w64}
 use Rattle.wasm_instr.specs.declared.operator.Operator.{Operator}

@@ -7,7 +7,7 @@ use Rattle.wasm_view.specs.Members.{type_of, catch_of, handle_of}
 use Rattle.wasm_view.specs.declared.members.WasmType.{WasmType}
 use Rattle.wasm_view.specs.declared.members.WasmHandler.{WasmHandler}
 
--- The second list, with its start replaced by as much of the first as fits.
+-- The second list, its start replaced by as much of the first as fits.
 abbrev pub written : {X : Type 0} → List X → List X → List X
 written items [] = []
 written [] (old ∷ olds) = old ∷ olds
@@ -18,7 +18,7 @@ abbrev pub targets_of : Operator → Option (List ℕ)
 targets_of (operator.BrTable t) = Some (numbers_of t.targets)
 targets_of _ = None
 
--- The types of a `select` that has types.
+-- The types of a `select`.
 abbrev pub types_of : Operator → Option (List WasmType)
 types_of (operator.TypedSelect ty) = Some (type_of ty ∷ [])
 types_of (operator.TypedSelectMulti tys) = Some (map type_of tys)
@@ -29,19 +29,20 @@ abbrev pub catches_of : Operator → Option (List WasmHandler)
 catches_of (operator.TryTable t) = Some (map catch_of t.catches)
 catches_of _ = None
 
--- The clauses of a `resume`, a `resume_throw` or a `resume_throw_ref`.
+-- The clauses of a resume operator.
 abbrev pub handles_of : Operator → Option (List WasmHandler)
 handles_of (operator.Resume ty t) = Some (map handle_of t.handlers)
 handles_of (operator.ResumeThrow ty tag t) = Some (map handle_of t.handlers)
 handles_of (operator.ResumeThrowRef ty t) = Some (map handle_of t.handlers)
 handles_of _ = None
 
--- The members from index `from` on are at the start of the array, as far as they fit; the rest is
--- unchanged. `count` is the number of all members.
+-- The array starts with the members from index `from` on, as far as they fit; the rest is
+-- unchanged. `count` is the number of all.
 abbrev pub PlacesMembers : {X : Type 0} → List X → ℕ → List X → ℕ → List X → Type 0
 PlacesMembers members from old count new = (count ≡ length members) × (new ≡ written (drop from members) old)
 
--- As `PlacesMembers`, for the list of an operator; if it has none, nothing changes.
+-- As `PlacesMembers`, for an operator's list. Without one, the result is `None`, and nothing
+-- changes.
 abbrev pub ReturnsMembers : {X : Type 0} → Option (List X) → ℕ → List X → Option ℕ → List X → Type 0
 ReturnsMembers None from old result new = (result ≡ None) × (new ≡ old)
 ReturnsMembers (Some members) from old result new = (count : ℕ) × (result ≡ Some count) × PlacesMembers members from old count new

@@ -22,7 +22,6 @@ heap_kind (heap.Abstract true ty) = heap_type_byte ty + 256
 heap_kind (heap.Concrete index) = 1
 heap_kind (heap.Exact index) = 2
 
--- The type index of a heap type, or 0.
 abbrev pub heap_index : HeapType → ℕ
 heap_index (heap.Abstract shared ty) = 0
 heap_index (heap.Concrete index) = index
@@ -31,7 +30,7 @@ heap_index (heap.Exact index) = index
 abbrev pub reference_kind : Reference → ℕ
 reference_kind r = heap_kind r.heap_type + (if r.nullable then 512 else 0)
 
--- The byte of a number or vector type; for a reference type, its kind plus 1024.
+-- The type's byte; for a reference type, its kind plus 1024.
 abbrev pub value_kind : ValType → ℕ
 value_kind value.I32 = 0x7f
 value_kind value.I64 = 0x7e
@@ -44,7 +43,6 @@ abbrev pub value_index : ValType → ℕ
 value_index (value.Ref r) = heap_index r.heap_type
 value_index _ = 0
 
--- 0x40 for an empty block type, the kind of its value type, or 0 for a type index.
 abbrev pub block_kind : BlockType → ℕ
 block_kind block.Empty = 0x40
 block_kind (block.Value ty) = value_kind ty
@@ -64,11 +62,11 @@ abbrev pub target_index : MemArgTarget → ℕ
 target_index (target.Memory index) = index
 target_index (target.Array index) = index
 
--- 1 for `seq_cst`, 2 for `acq_rel`.
 abbrev pub order_number : Ordering → ℕ
 order_number o = 1 + ordering_byte o
 
--- 0 without an ordering, 1 or 2 for an atomic operator, 3 or 4 for a read-modify-write.
+-- 0 without an ordering, 1 for `seq_cst`, 2 for `acq_rel`; 3 and 4 for these of a
+-- read-modify-write.
 abbrev pub ordering_number : Option MemArgOrdering → ℕ
 ordering_number None = 0
 ordering_number (Some (ordering.Op o)) = 1 + ordering_byte o

@@ -13,7 +13,7 @@ abbrev pub opcode_number : Option ℕ → ℕ → ℕ
 opcode_number None code = code
 opcode_number (Some prefix) code = 65536 * prefix + code
 
--- An operator of this shape, with 0 in all other fields.
+-- The C struct with this offset, opcode and shape, and 0 in all other fields.
 abbrev pub bare : ℕ → ℕ → ℕ → WasmOperator
 bare offset opcode shape = record {
   offset = offset;
@@ -33,7 +33,7 @@ bare offset opcode shape = record {
   bytes = replicate 16 0;
 }
 
--- An operator with these immediates, whose kinds determine the shape.
+-- The kinds of the immediates determine the shape.
 abbrev pub view : ℕ → ℕ → List Immediate → WasmOperator
 view offset opcode [] = bare offset opcode 0
 view offset opcode (unsigned_32 a ∷ []) = record (bare offset opcode 1) { first = a }
@@ -84,7 +84,7 @@ view offset opcode (unsigned_32 a ∷ resume_clauses t ∷ []) = record (bare of
 view offset opcode (unsigned_32 a ∷ unsigned_32 b ∷ resume_clauses t ∷ []) = record (bare offset opcode 23) { first = a; second = b; third = count t.handlers }
 view offset opcode _ = bare offset opcode 255
 
--- The C struct of an operator whose first byte has this offset.
+-- The C struct of an operator at this offset.
 abbrev pub view_of : Operator × ℕ → WasmOperator
 view_of p = view p.1 (opcode_number (prefix_of p.0) (opcode_of p.0)) (immediates_of p.0)
 

@@ -1,4 +1,4 @@
-//! The C struct of an operator, made inline for frequent operators. Written by tools/lists.py from tools/operators.tsv.
+//! Written by tools/lists.py from tools/operators.tsv.
 ghost use Rattle.std.specs.Prelude.{◌≡◌};
 ghost use Rattle.wasm_instr.specs.Row.{immediates_of};
 ghost use Rattle.wasm_view.specs.View.{view, view_of};
@@ -17,7 +17,7 @@ pub fn view_of(op: &Operator<'_>, offset: u64) -> WasmOperator
     common(offset, opcode_of(op), op)
 }
 
-/// Converts frequent operators here, and the others by a call.
+/// Converts frequent operators inline.
 #[inline(always)]
 fn common(offset: u64, opcode: u32, op: &Operator<'_>) -> WasmOperator
     ensures { result ≡ view offset opcode (immediates_of op.now) }

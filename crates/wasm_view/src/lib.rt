@@ -1,5 +1,4 @@
-//! Operators as C structs of fixed size, without references, for callers in other languages. No
-//! call allocates.
+//! Operators as C structs without references. No call allocates.
 #![tactic(auto)]
 
 mod common;

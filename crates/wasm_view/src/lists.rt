@@ -7,8 +7,7 @@ use crate::members::{WasmHandler, WasmType, catch_of, handle_of, type_of};
 use wasm_instr::below::ValType;
 use wasm_instr::{BrTable, Catch, Handle, Operator};
 
-/// Writes `member`, which has this index in the list, to `out[index - from]`, if there is such an
-/// element.
+/// Writes the member with this index to `out[index - from]`, if that exists.
 fn place<T: Copy>(member: T, index: usize, from: usize, out: &mut [T])
     ensures { PlacesOne member index from out.old out.new }
 {
@@ -61,9 +60,8 @@ fn place_handles(handles: &[Handle], from: usize, out: &mut [WasmHandler]) -> us
     count
 }
 
-/// Writes the targets of a `br_table` from index `from` on, without the default target, as far as
-/// `out` has space. Returns how many targets the operator has. Returns `None` for any other
-/// operator, with `out` unchanged.
+/// Writes the targets of a `br_table`, without the default target: those from index `from` on that
+/// fit. Returns the number of all, or `None` for any other operator.
 pub fn targets_of(op: &Operator<'_>, from: usize, out: &mut [u32]) -> Option<usize>
     ensures { ReturnsMembers (targets_of op.now) from out.old result out.new }
 {
@@ -73,7 +71,8 @@ pub fn targets_of(op: &Operator<'_>, from: usize, out: &mut [u32]) -> Option<usi
     }
 }
 
-/// Writes the types of a `select` that has types, as [`targets_of`] does.
+/// Writes the types of a `select` that has types, from index `from` on, as far as `out` has space.
+/// Returns the number of all types; for any other operator `None`, with `out` unchanged.
 pub fn types_of(op: &Operator<'_>, from: usize, out: &mut [WasmType]) -> Option<usize>
     ensures { ReturnsMembers (types_of op.now) from out.old result out.new }
 {
@@ -87,7 +86,8 @@ pub fn types_of(op: &Operator<'_>, from: usize, out: &mut [WasmType]) -> Option<
     }
 }
 
-/// Writes the clauses of a `try_table`, as [`targets_of`] does.
+/// Writes the clauses of a `try_table` from index `from` on, as far as `out` has space. Returns the
+/// number of all clauses; for any other operator `None`, with `out` unchanged.
 pub fn catches_of(op: &Operator<'_>, from: usize, out: &mut [WasmHandler]) -> Option<usize>
     ensures { ReturnsMembers (catches_of op.now) from out.old result out.new }
 {
@@ -99,7 +99,9 @@ pub fn catches_of(op: &Operator<'_>, from: usize, out: &mut [WasmHandler]) -> Op
     }
 }
 
-/// Writes the clauses of a `resume`, `resume_throw` or `resume_throw_ref`, as [`targets_of`] does.
+/// Writes the clauses of a `resume`, `resume_throw` or `resume_throw_ref` from index `from` on, as
+/// far as `out` has space. Returns the number of all clauses; for any other operator `None`, with
+/// `out` unchanged.
 pub fn handles_of(op: &Operator<'_>, from: usize, out: &mut [WasmHandler]) -> Option<usize>
     ensures { ReturnsMembers (handles_of op.now) from out.old result out.new }
 {

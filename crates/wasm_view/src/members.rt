@@ -5,25 +5,23 @@ use crate::numbers::{value_index, value_kind};
 use wasm_instr::below::ValType;
 use wasm_instr::{Catch, Handle};
 
-/// A value type as a C struct of 8 bytes without padding.
+/// A value type as a C struct of 8 bytes.
 #[repr(C)]
 #[derive(Clone, Copy, Debug, PartialEq, Eq)]
 pub struct WasmType {
-    /// The byte of a number or vector type; for a reference type, its kind plus 1024.
+    /// The type's byte; for a reference type, its kind plus 1024.
     pub kind: u32,
     /// The type index of a reference type, else 0.
     pub index: u32,
 }
 
-/// A clause of a `try_table` or resume table as a C struct of 12 bytes without padding.
+/// A clause of a `try_table` or resume table as a C struct of 12 bytes.
 #[repr(C)]
 #[derive(Clone, Copy, Debug, PartialEq, Eq)]
 pub struct WasmHandler {
-    /// The first byte of the clause: 0 to 3 in a `try_table`, 0 or 1 in a resume table.
+    /// The clause's first byte.
     pub kind: u32,
-    /// The tag index, or 0.
     pub tag: u32,
-    /// The label, or 0.
     pub label: u32,
 }
 

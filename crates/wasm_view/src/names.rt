@@ -1,9 +1,8 @@
-//! The name of each operator, by its number. Written by tools/lists.py from tools/operators.tsv.
+//! Written by tools/lists.py from tools/operators.tsv.
 ghost use Rattle.std.specs.Prelude.{◌≡◌};
 ghost use Rattle.wasm_view.specs.Names.{atomic_names_0, atomic_names_1, atomic_names_2, gc_names_0, misc_names_0, numeric_names_0, numeric_names_1, numeric_names_2, own_names_0, own_names_1, simd_names_0, simd_names_1, simd_names_2, simd_names_3, simd_names_4, simd_names_5, name_at};
 
-/// Returns the name of the operator with this number and shape, or an empty name.
-/// The number is the opcode, or the subopcode plus 65536 times the prefix byte.
+/// Returns the name of the operator with this number (`opcode_of`) and shape, or an empty name.
 pub fn name_at(number: u32, shape: u8) -> &'static str
     ensures { result.now ≡ name_at number shape }
 {

@@ -146,7 +146,7 @@ pub fn ordering_number(ordering: Option<MemArgOrdering>) -> u16
     }
 }
 
-/// Returns a length as 32 bits. A longer one becomes the largest `u32`.
+/// Returns a length, at most the largest `u32`.
 pub fn length_32(length: usize) -> u32
     ensures { result ≡ min length 4294967295 }
 {

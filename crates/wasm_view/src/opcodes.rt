@@ -1,4 +1,4 @@
-//! The number of each operator. Written by tools/lists.py from tools/operators.tsv.
+//! Written by tools/lists.py from tools/operators.tsv.
 ghost use Rattle.std.specs.Prelude.{◌≡◌, Some};
 ghost use Rattle.wasm_instr.specs.Numeric.{numeric_opcode};
 ghost use Rattle.wasm_instr.specs.Gc.{gc_subopcode};
@@ -12,7 +12,7 @@ use wasm_instr::{
     AtomicOperator, GcOperator, MiscOperator, NumericOperator, Operator, SimdOperator,
 };
 
-/// Returns the opcode of an operator, or its subopcode plus 65536 times the prefix byte.
+/// Returns an operator's number, the `opcode` of its C struct.
 #[inline(always)]
 pub fn opcode_of(op: &Operator<'_>) -> u32
     ensures { result ≡ opcode_number (prefix_of op.now) (opcode_of op.now) }

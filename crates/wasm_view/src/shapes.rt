@@ -1,5 +1,4 @@
-//! Constructors of the C struct, one per shape. Operators of a shape have immediates of the same
-//! kinds.
+//! Constructors of the C struct, one per shape.
 ghost use Rattle.std.specs.Prelude.{◌≡◌, [], ◌∷◌};
 ghost use Rattle.wasm_instr.specs.Immediate.{unsigned_32, signed_32, signed_64, float_32, float_64, vector, one_lane, sixteen_lanes, memory_argument, memory_index, table_index_32, order, fence_order, heap_type, cast, block_type, branch_table, select_types, try_clauses, resume_clauses};
 ghost use Rattle.wasm_instr.specs.imm.declared.memory_argument.MemArgKind.TheVariants as kind;
@@ -46,8 +45,8 @@ pub fn two_indices(offset: u64, opcode: u32, first: u32, second: u32) -> WasmOpe
     }
 }
 
-/// Creates the struct of a memory argument. The contract names one operator kind and alignment;
-/// neither changes the struct.
+/// Creates the struct of a memory argument. The operator kind and the alignment in the contract
+/// don't change it.
 #[inline(always)]
 pub fn memory(offset: u64, opcode: u32, argument: MemArg) -> WasmOperator
     ensures { result ≡ view offset opcode (memory_argument kind.Plain 0 argument ∷ []) }

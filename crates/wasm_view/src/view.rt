@@ -1,37 +1,33 @@
 ghost use Rattle.std.specs.Prelude.{◌≡◌};
 ghost use Rattle.wasm_view.specs.View.{bare};
 
-/// An operator as a C struct of 64 bytes without padding. `shape` determines which fields are used;
-/// the others are 0.
+/// An operator as a C struct of 64 bytes. `shape` determines which fields are used; the others are
+/// 0.
 #[repr(C)]
 #[derive(Clone, Copy, Debug, PartialEq, Eq)]
 pub struct WasmOperator {
-    /// The offset of the operator's first byte.
     pub offset: u64,
-    /// An integer, sign-extended; the bits of a float; or the static offset of a memory argument,
-    /// in bytes.
+    /// An integer, sign-extended; the bits of a float; or a static offset in bytes.
     pub wide: u64,
     /// The opcode; after a prefix byte the subopcode, plus 65536 times that byte.
     pub opcode: u32,
-    /// The first index, or the number of a list's members.
+    /// An index, or the number of a list's members; so are the next two fields.
     pub first: u32,
-    /// The second index, or the number of a list's members.
     pub second: u32,
-    /// The third index, or the number of a list's members.
     pub third: u32,
-    /// A type: its byte in the binary format, and what is added to it.
+    /// A type: its byte, and what is added to it.
     pub kind: u32,
     /// The target type of a cast.
     pub other_kind: u32,
     pub shape: u8,
-    /// The alignment of a memory argument, as an exponent of two.
+    /// The alignment, as an exponent of two.
     pub align: u8,
-    /// The operator's natural alignment, as an exponent of two.
+    /// The natural alignment, as an exponent of two.
     pub max_align: u8,
     pub lane: u8,
-    /// What a memory argument accesses: 0 for the memory `first`, 1 for an array of that type.
+    /// 0 for access to the memory `first`, 1 for access to an array of that type.
     pub target: u16,
-    /// 0 for no ordering, 1 for `seq_cst`, 2 for `acq_rel`; 3 and 4 for a read-modify-write.
+    /// 0 for none, 1 for `seq_cst`, 2 for `acq_rel`; 3 and 4 for these of a read-modify-write.
     pub ordering: u16,
     /// A vector, the lowest byte first; or the lanes of a shuffle.
     pub bytes: [u8; 16],

@@ -1,4 +1,4 @@
-//! The fields of the C struct of each operator. Written by tools/lists.py from tools/operators.tsv.
+//! Written by tools/lists.py from tools/operators.tsv.
 ghost use Rattle.std.specs.Prelude.{◌≡◌};
 ghost use Rattle.wasm_instr.specs.Gc.{gc_immediates};
 ghost use Rattle.wasm_instr.specs.Misc.{misc_immediates};

@@ -41,7 +41,7 @@ impl<V: Visitor> VisitAtomic for ByAny<V> {}
 
 impl<V: Visitor> VisitSimdLow for ByAny<V> {}
 
-/// Reads the immediates of an operator of one byte and visits it by `visit_any`.
+/// Reads the immediates of an operator with a one-byte opcode and visits it by `visit_any`.
 #[inline(always)]
 pub fn one_byte<V: Visitor>(
     alloc: Global,
@@ -63,8 +63,8 @@ pub fn one_byte<V: Visitor>(
 
 /// Decodes the common operators inline. For another opcode it returns `None`, and nothing changes.
 ///
-/// `ByAny` is made here, and a second one in `other_one_byte`. A single one for both
-/// would be in memory wherever `one_byte` is inlined.
+/// `ByAny` is made here, and a second one in `other_one_byte`. One `ByAny` for both would be in
+/// memory wherever `one_byte` is inlined.
 #[inline(always)]
 fn common_one_byte<V: Visitor>(
     v: &mut V,
@@ -81,7 +81,7 @@ fn common_one_byte<V: Visitor>(
     decode::common_one_byte(&mut ByAny { visitor: v }, reader, start, code)
 }
 
-/// Decodes the other operators, by a call.
+/// Decodes the operators that `common_one_byte` does not, by a call.
 #[inline(always)]
 fn other_one_byte<V: Visitor>(
     alloc: Global,

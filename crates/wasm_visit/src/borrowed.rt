@@ -1,4 +1,3 @@
-//! Visits of a copy of a borrowed operator.
 ghost use Rattle.std.specs.Prelude.{◌≡◌, IsOk, IfOk, IfErr};
 ghost use Rattle.wasm_decode_groups.specs.imm.OutOfMemory.{IsOutOfMemoryAt};
 ghost use Rattle.wasm_decode_groups.specs.instr.Kinds.{IsVector, HoldsList};

@@ -1,4 +1,3 @@
-//! The visitor that returns a value made from the operator.
 ghost use Rattle.std.specs.Prelude.{◌≡◌};
 ghost use Rattle.wasm_decode_groups.specs.instr.declared.operator.Operator.{Operator};
 

@@ -1,4 +1,3 @@
-//! Visitors of the operators that are not SIMD operators.
 ghost use Rattle.wasm_decode_groups.specs.instr.declared.operator.Operator.{Operator};
 
 use crate::visit_groups::VisitGroups;

@@ -1,4 +1,3 @@
-//! Visits of an operator that is passed by value.
 ghost use Rattle.wasm_decode_groups.specs.instr.declared.operator.Operator.{Operator};
 ghost use Rattle.wasm_decode_groups.specs.instr.Kinds.{IsVector};
 

@@ -1,4 +1,3 @@
-//! Visitors of the SIMD operators.
 ghost use Rattle.std.specs.Prelude.{◌≤◌, ◌<◌, Some};
 ghost use Rattle.wasm_decode_groups.specs.grammar.declared.frame_kind.FrameKind.{FrameKind};
 ghost use Rattle.wasm_decode_groups.specs.instr.declared.operator.Operator.{Operator};
@@ -12,13 +11,12 @@ use wasm_decode_groups::groups::Visitor;
 use wasm_decode_groups::instr::{Operator, SimdOperator};
 use wasm_visit_factory::Factory;
 
-/// A visitor of the SIMD operators. Vector Instructions.
+/// A visitor of the SIMD operators. Specification: Vector Instructions.
 ///
 /// For each of the two groups of visits it has a method that starts from an operator and one that
 /// starts from bytes. By default they call `visit_any`, even if the visitor overrides visits of the
-/// group. A visitor that overrides visits has to override both methods of the group, with the
-/// bodies given below. The bound of a visitor of all operators is `VisitOperator<'a> +
-/// VisitSimdOperator`.
+/// group: then it must override both methods, with the bodies given below. The bound of a visitor
+/// of all operators is `VisitOperator<'a> + VisitSimdOperator`.
 pub trait VisitSimdOperator: Visitor {
     /// Visits a SIMD operator with a subopcode below 0x80. The decoder also calls this method, for
     /// operators without immediates.

@@ -1,4 +1,3 @@
-//! Visitors of the operators that are neither SIMD operators nor branch tables.
 ghost use Rattle.std.specs.Prelude.{◌≡◌, ◌≤◌, ◌<◌, [], Some, None};
 ghost use Rattle.wasm_decode_groups.specs.grammar.declared.frame_kind.FrameKind.{FrameKind};
 ghost use Rattle.wasm_decode_groups.specs.instr.declared.operator.Operator.{Operator};
@@ -22,10 +21,10 @@ use wasm_visit_factory::Factory;
 ///
 /// For each group of visits it has a method that starts from an operator and one that starts from
 /// bytes (two for `VisitOneByte`). By default they call `visit_any`, even if the visitor overrides
-/// visits of the group. A visitor that overrides visits has to override all methods of the group,
-/// with the bodies given below.
+/// visits of the group: then it must override all methods of the group, with the bodies given
+/// below.
 pub trait VisitGroups: Visitor {
-    /// Visits an operator of one byte that is neither numeric nor a branch table.
+    /// Visits an operator with a one-byte opcode, which is neither numeric nor a branch table.
     ///
     /// A visitor that overrides visits of `VisitOneByte` calls `dispatch::one_byte(self, op)` here.
     fn dispatch_one_byte(&mut self, op: Operator<'_>) -> Self::Output
@@ -35,7 +34,7 @@ pub trait VisitGroups: Visitor {
         self.visit_any(dispatch::one_byte(&mut Factory, op))
     }
 
-    /// Visits a numeric operator of one byte.
+    /// Visits a numeric operator.
     ///
     /// A visitor that overrides visits of `VisitNumeric` calls `dispatch::numeric(self, op)` here.
     fn dispatch_numeric(&mut self, op: NumericOperator) -> Self::Output
@@ -71,8 +70,8 @@ pub trait VisitGroups: Visitor {
         self.visit_any(Operator::Atomic(op))
     }
 
-    /// Reads the immediates of an operator of one byte that is neither numeric nor a branch table,
-    /// and visits it.
+    /// Reads the immediates of an operator with a one-byte opcode, which is neither numeric nor a
+    /// branch table, and visits it.
     ///
     /// `code` is the opcode, `start` its position, and `frame` the innermost frame. On an error the
     /// reader goes back to `start`.
@@ -97,8 +96,8 @@ pub trait VisitGroups: Visitor {
         any::one_byte(alloc, self, reader, start, frame, code)
     }
 
-    /// Does the same as `decode_one_byte`, for an opcode below 0x20: a control or parametric
-    /// instruction.
+    /// Reads and visits the rest of an operator whose opcode `code` is below 0x20: a control or
+    /// parametric instruction.
     ///
     /// Only operators with such opcodes can change the frames. So a reader that keeps frames calls
     /// this method for them, and `decode_one_byte` for opcodes from 0x20 on.

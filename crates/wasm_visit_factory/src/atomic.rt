@@ -1,4 +1,4 @@
-//! Makes the operators with prefix 0xfe. Written by tools/lists.py from tools/operators.tsv.
+//! Written by tools/lists.py from tools/operators.tsv.
 use crate::factory::Factory;
 use wasm_visit_groups::VisitAtomic;
 use wasm_visit_groups::imm::{MemArg, Ordering};

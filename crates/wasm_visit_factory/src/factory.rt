@@ -1,4 +1,3 @@
-//! A visitor that returns the operator, made in its visit.
 ghost use Rattle.std.specs.Prelude.{◌≡◌};
 ghost use Rattle.wasm_visit_groups.specs.instr.declared.operator.Operator.{Operator};
 

@@ -1,4 +1,4 @@
-//! Makes the operators with prefix 0xfc. Written by tools/lists.py from tools/operators.tsv.
+//! Written by tools/lists.py from tools/operators.tsv.
 use crate::factory::Factory;
 use wasm_visit_groups::VisitMisc;
 use wasm_visit_groups::instr::{MiscOperator, Operator};

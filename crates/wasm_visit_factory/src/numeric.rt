@@ -1,4 +1,4 @@
-//! Makes the numeric operators. Written by tools/lists.py from tools/operators.tsv.
+//! Written by tools/lists.py from tools/operators.tsv.
 use crate::factory::Factory;
 use wasm_visit_groups::VisitNumeric;
 use wasm_visit_groups::instr::{NumericOperator, Operator};

@@ -1,4 +1,4 @@
-//! Makes the operators of one byte. Written by tools/lists.py from tools/operators.tsv.
+//! Written by tools/lists.py from tools/operators.tsv.
 use crate::factory::Factory;
 use wasm_visit_groups::VisitOneByte;
 use wasm_visit_groups::below::{HeapType, ValType};

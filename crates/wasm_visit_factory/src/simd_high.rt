@@ -1,4 +1,4 @@
-//! Makes the SIMD operators from 0x80 on. Written by tools/lists.py from tools/operators.tsv.
+//! Written by tools/lists.py from tools/operators.tsv.
 use crate::factory::Factory;
 use wasm_visit_groups::VisitSimdHigh;
 use wasm_visit_groups::instr::{Operator, SimdOperator};

@@ -1,4 +1,4 @@
-//! Makes the SIMD operators below 0x80. Written by tools/lists.py from tools/operators.tsv.
+//! Written by tools/lists.py from tools/operators.tsv.
 use crate::factory::Factory;
 use wasm_visit_groups::VisitSimdLow;
 use wasm_visit_groups::imm::{MemArg, V128};

@@ -1,4 +1,4 @@
-//! Visits of the operators with prefix 0xfe. Written by tools/lists.py from tools/operators.tsv.
+//! Written by tools/lists.py from tools/operators.tsv.
 ghost use Rattle.wasm_instr.specs.declared.operator.Operator.{Operator};
 ghost use Rattle.wasm_instr.specs.ops.atomic.AtomicOperator.{AtomicOperator};
 
@@ -6,15 +6,12 @@ use crate::visitor::Visitor;
 use wasm_instr::imm::{MemArg, Ordering};
 use wasm_instr::{AtomicOperator, Operator};
 
-/// Visits of the operators with the prefix byte 0xfe. Proposal threads.
-///
-/// A visit passes its operator to `visit_any` unless it is overridden. Overridden visits are called
-/// only by methods of the visitor's `VisitGroups` that name the group:
+/// Visits of the operators with the prefix byte 0xfe. Proposal threads. By default they call
+/// `visit_any`. Overridden visits run only if the visitor's `VisitGroups` has these methods:
 ///
 /// - `dispatch_atomic`, by `dispatch::atomic(self, op)`
 /// - `decode_atomic`, by `decode::atomic(self, reader, start, code)`
 pub trait VisitAtomic: Visitor {
-    /// Visits `MemoryAtomicNotify`.
     #[inline(always)]
     fn visit_memory_atomic_notify(&mut self, memarg: MemArg) -> Self::Output
         ensures { Self.visits self.old (Operator.Atomic (AtomicOperator.MemoryAtomicNotify memarg)) result self.new }
@@ -22,7 +19,6 @@ pub trait VisitAtomic: Visitor {
         self.visit_any(Operator::Atomic(AtomicOperator::MemoryAtomicNotify { memarg }))
     }
 
-    /// Visits `MemoryAtomicWait32`.
     #[inline(always)]
     fn visit_memory_atomic_wait32(&mut self, memarg: MemArg) -> Self::Output
         ensures { Self.visits self.old (Operator.Atomic (AtomicOperator.MemoryAtomicWait32 memarg)) result self.new }
@@ -30,7 +26,6 @@ pub trait VisitAtomic: Visitor {
         self.visit_any(Operator::Atomic(AtomicOperator::MemoryAtomicWait32 { memarg }))
     }
 
-    /// Visits `MemoryAtomicWait64`.
     #[inline(always)]
     fn visit_memory_atomic_wait64(&mut self, memarg: MemArg) -> Self::Output
         ensures { Self.visits self.old (Operator.Atomic (AtomicOperator.MemoryAtomicWait64 memarg)) result self.new }
@@ -38,7 +33,6 @@ pub trait VisitAtomic: Visitor {
         self.visit_any(Operator::Atomic(AtomicOperator::MemoryAtomicWait64 { memarg }))
     }
 
-    /// Visits `AtomicFence`.
     #[inline(always)]
     fn visit_atomic_fence(&mut self, ordering: Ordering) -> Self::Output
         ensures { Self.visits self.old (Operator.Atomic (AtomicOperator.AtomicFence ordering)) result self.new }
@@ -46,7 +40,6 @@ pub trait VisitAtomic: Visitor {
         self.visit_any(Operator::Atomic(AtomicOperator::AtomicFence { ordering }))
     }
 
-    /// Visits `I32AtomicLoad`.
     #[inline(always)]
     fn visit_i32_atomic_load(&mut self, memarg: MemArg) -> Self::Output
         ensures { Self.visits self.old (Operator.Atomic (AtomicOperator.I32AtomicLoad memarg)) result self.new }
@@ -54,7 +47,6 @@ pub trait VisitAtomic: Visitor {
         self.visit_any(Operator::Atomic(AtomicOperator::I32AtomicLoad { memarg }))
     }
 
-    /// Visits `I64AtomicLoad`.
     #[inline(always)]
     fn visit_i64_atomic_load(&mut self, memarg: MemArg) -> Self::Output
         ensures { Self.visits self.old (Operator.Atomic (AtomicOperator.I64AtomicLoad memarg)) result self.new }
@@ -62,7 +54,6 @@ pub trait VisitAtomic: Visitor {
         self.visit_any(Operator::Atomic(AtomicOperator::I64AtomicLoad { memarg }))
     }
 
-    /// Visits `I32AtomicLoad8U`.
     #[inline(always)]
     fn visit_i32_atomic_load8_u(&mut self, memarg: MemArg) -> Self::Output
         ensures { Self.visits self.old (Operator.Atomic (AtomicOperator.I32AtomicLoad8U memarg)) result self.new }
@@ -70,7 +61,6 @@ pub trait VisitAtomic: Visitor {
         self.visit_any(Operator::Atomic(AtomicOperator::I32AtomicLoad8U { memarg }))
     }
 
-    /// Visits `I32AtomicLoad16U`.
     #[inline(always)]
     fn visit_i32_atomic_load16_u(&mut self, memarg: MemArg) -> Self::Output
         ensures { Self.visits self.old (Operator.Atomic (AtomicOperator.I32AtomicLoad16U memarg)) result self.new }
@@ -78,7 +68,6 @@ pub trait VisitAtomic: Visitor {
         self.visit_any(Operator::Atomic(AtomicOperator::I32AtomicLoad16U { memarg }))
     }
 
-    /// Visits `I64AtomicLoad8U`.
     #[inline(always)]
     fn visit_i64_atomic_load8_u(&mut self, memarg: MemArg) -> Self::Output
         ensures { Self.visits self.old (Operator.Atomic (AtomicOperator.I64AtomicLoad8U memarg)) result self.new }
@@ -86,7 +75,6 @@ pub trait VisitAtomic: Visitor {
         self.visit_any(Operator::Atomic(AtomicOperator::I64AtomicLoad8U { memarg }))
     }
 
-    /// Visits `I64AtomicLoad16U`.
     #[inline(always)]
     fn visit_i64_atomic_load16_u(&mut self, memarg: MemArg) -> Self::Output
         ensures { Self.visits self.old (Operator.Atomic (AtomicOperator.I64AtomicLoad16U memarg)) result self.new }
@@ -94,7 +82,6 @@ pub trait VisitAtomic: Visitor {
         self.visit_any(Operator::Atomic(AtomicOperator::I64AtomicLoad16U { memarg }))
     }
 
-    /// Visits `I64AtomicLoad32U`.
     #[inline(always)]
     fn visit_i64_atomic_load32_u(&mut self, memarg: MemArg) -> Self::Output
         ensures { Self.visits self.old (Operator.Atomic (AtomicOperator.I64AtomicLoad32U memarg)) result self.new }
@@ -102,7 +89,6 @@ pub trait VisitAtomic: Visitor {
         self.visit_any(Operator::Atomic(AtomicOperator::I64AtomicLoad32U { memarg }))
     }
 
-    /// Visits `I32AtomicStore`.
     #[inline(always)]
     fn visit_i32_atomic_store(&mut self, memarg: MemArg) -> Self::Output
         ensures { Self.visits self.old (Operator.Atomic (AtomicOperator.I32AtomicStore memarg)) result self.new }
@@ -110,7 +96,6 @@ pub trait VisitAtomic: Visitor {
         self.visit_any(Operator::Atomic(AtomicOperator::I32AtomicStore { memarg }))
     }
 
-    /// Visits `I64AtomicStore`.
     #[inline(always)]
     fn visit_i64_atomic_store(&mut self, memarg: MemArg) -> Self::Output
         ensures { Self.visits self.old (Operator.Atomic (AtomicOperator.I64AtomicStore memarg)) result self.new }
@@ -118,7 +103,6 @@ pub trait VisitAtomic: Visitor {
         self.visit_any(Operator::Atomic(AtomicOperator::I64AtomicStore { memarg }))
     }
 
-    /// Visits `I32AtomicStore8`.
     #[inline(always)]
     fn visit_i32_atomic_store8(&mut self, memarg: MemArg) -> Self::Output
         ensures { Self.visits self.old (Operator.Atomic (AtomicOperator.I32AtomicStore8 memarg)) result self.new }
@@ -126,7 +110,6 @@ pub trait VisitAtomic: Visitor {
         self.visit_any(Operator::Atomic(AtomicOperator::I32AtomicStore8 { memarg }))
     }
 
-    /// Visits `I32AtomicStore16`.
     #[inline(always)]
     fn visit_i32_atomic_store16(&mut self, memarg: MemArg) -> Self::Output
         ensures { Self.visits self.old (Operator.Atomic (AtomicOperator.I32AtomicStore16 memarg)) result self.new }
@@ -134,7 +117,6 @@ pub trait VisitAtomic: Visitor {
         self.visit_any(Operator::Atomic(AtomicOperator::I32AtomicStore16 { memarg }))
     }
 
-    /// Visits `I64AtomicStore8`.
     #[inline(always)]
     fn visit_i64_atomic_store8(&mut self, memarg: MemArg) -> Self::Output
         ensures { Self.visits self.old (Operator.Atomic (AtomicOperator.I64AtomicStore8 memarg)) result self.new }
@@ -142,7 +124,6 @@ pub trait VisitAtomic: Visitor {
         self.visit_any(Operator::Atomic(AtomicOperator::I64AtomicStore8 { memarg }))
     }
 
-    /// Visits `I64AtomicStore16`.
     #[inline(always)]
     fn visit_i64_atomic_store16(&mut self, memarg: MemArg) -> Self::Output
         ensures { Self.visits self.old (Operator.Atomic (AtomicOperator.I64AtomicStore16 memarg)) result self.new }
@@ -150,7 +131,6 @@ pub trait VisitAtomic: Visitor {
         self.visit_any(Operator::Atomic(AtomicOperator::I64AtomicStore16 { memarg }))
     }
 
-    /// Visits `I64AtomicStore32`.
     #[inline(always)]
     fn visit_i64_atomic_store32(&mut self, memarg: MemArg) -> Self::Output
         ensures { Self.visits self.old (Operator.Atomic (AtomicOperator.I64AtomicStore32 memarg)) result self.new }
@@ -158,7 +138,6 @@ pub trait VisitAtomic: Visitor {
         self.visit_any(Operator::Atomic(AtomicOperator::I64AtomicStore32 { memarg }))
     }
 
-    /// Visits `I32AtomicRmwAdd`.
     #[inline(always)]
     fn visit_i32_atomic_rmw_add(&mut self, memarg: MemArg) -> Self::Output
         ensures { Self.visits self.old (Operator.Atomic (AtomicOperator.I32AtomicRmwAdd memarg)) result self.new }
@@ -166,7 +145,6 @@ pub trait VisitAtomic: Visitor {
         self.visit_any(Operator::Atomic(AtomicOperator::I32AtomicRmwAdd { memarg }))
     }
 
-    /// Visits `I64AtomicRmwAdd`.
     #[inline(always)]
     fn visit_i64_atomic_rmw_add(&mut self, memarg: MemArg) -> Self::Output
         ensures { Self.visits self.old (Operator.Atomic (AtomicOperator.I64AtomicRmwAdd memarg)) result self.new }
@@ -174,7 +152,6 @@ pub trait VisitAtomic: Visitor {
         self.visit_any(Operator::Atomic(AtomicOperator::I64AtomicRmwAdd { memarg }))
     }
 
-    /// Visits `I32AtomicRmw8AddU`.
     #[inline(always)]
     fn visit_i32_atomic_rmw8_add_u(&mut self, memarg: MemArg) -> Self::Output
         ensures { Self.visits self.old (Operator.Atomic (AtomicOperator.I32AtomicRmw8AddU memarg)) result self.new }
@@ -182,7 +159,6 @@ pub trait VisitAtomic: Visitor {
         self.visit_any(Operator::Atomic(AtomicOperator::I32AtomicRmw8AddU { memarg }))
     }
 
-    /// Visits `I32AtomicRmw16AddU`.
     #[inline(always)]
     fn visit_i32_atomic_rmw16_add_u(&mut self, memarg: MemArg) -> Self::Output
         ensures { Self.visits self.old (Operator.Atomic (AtomicOperator.I32AtomicRmw16AddU memarg)) result self.new }
@@ -190,7 +166,6 @@ pub trait VisitAtomic: Visitor {
         self.visit_any(Operator::Atomic(AtomicOperator::I32AtomicRmw16AddU { memarg }))
     }
 
-    /// Visits `I64AtomicRmw8AddU`.
     #[inline(always)]
     fn visit_i64_atomic_rmw8_add_u(&mut self, memarg: MemArg) -> Self::Output
         ensures { Self.visits self.old (Operator.Atomic (AtomicOperator.I64AtomicRmw8AddU memarg)) result self.new }
@@ -198,7 +173,6 @@ pub trait VisitAtomic: Visitor {
         self.visit_any(Operator::Atomic(AtomicOperator::I64AtomicRmw8AddU { memarg }))
     }
 
-    /// Visits `I64AtomicRmw16AddU`.
     #[inline(always)]
     fn visit_i64_atomic_rmw16_add_u(&mut self, memarg: MemArg) -> Self::Output
         ensures { Self.visits self.old (Operator.Atomic (AtomicOperator.I64AtomicRmw16AddU memarg)) result self.new }
@@ -206,7 +180,6 @@ pub trait VisitAtomic: Visitor {
         self.visit_any(Operator::Atomic(AtomicOperator::I64AtomicRmw16AddU { memarg }))
     }
 
-    /// Visits `I64AtomicRmw32AddU`.
     #[inline(always)]
     fn visit_i64_atomic_rmw32_add_u(&mut self, memarg: MemArg) -> Self::Output
         ensures { Self.visits self.old (Operator.Atomic (AtomicOperator.I64AtomicRmw32AddU memarg)) result self.new }
@@ -214,7 +187,6 @@ pub trait VisitAtomic: Visitor {
         self.visit_any(Operator::Atomic(AtomicOperator::I64AtomicRmw32AddU { memarg }))
     }
 
-    /// Visits `I32AtomicRmwSub`.
     #[inline(always)]
     fn visit_i32_atomic_rmw_sub(&mut self, memarg: MemArg) -> Self::Output
         ensures { Self.visits self.old (Operator.Atomic (AtomicOperator.I32AtomicRmwSub memarg)) result self.new }
@@ -222,7 +194,6 @@ pub trait VisitAtomic: Visitor {
         self.visit_any(Operator::Atomic(AtomicOperator::I32AtomicRmwSub { memarg }))
     }
 
-    /// Visits `I64AtomicRmwSub`.
     #[inline(always)]
     fn visit_i64_atomic_rmw_sub(&mut self, memarg: MemArg) -> Self::Output
         ensures { Self.visits self.old (Operator.Atomic (AtomicOperator.I64AtomicRmwSub memarg)) result self.new }
@@ -230,7 +201,6 @@ pub trait VisitAtomic: Visitor {
         self.visit_any(Operator::Atomic(AtomicOperator::I64AtomicRmwSub { memarg }))
     }
 
-    /// Visits `I32AtomicRmw8SubU`.
     #[inline(always)]
     fn visit_i32_atomic_rmw8_sub_u(&mut self, memarg: MemArg) -> Self::Output
         ensures { Self.visits self.old (Operator.Atomic (AtomicOperator.I32AtomicRmw8SubU memarg)) result self.new }
@@ -238,7 +208,6 @@ pub trait VisitAtomic: Visitor {
         self.visit_any(Operator::Atomic(AtomicOperator::I32AtomicRmw8SubU { memarg }))
     }
 
-    /// Visits `I32AtomicRmw16SubU`.
     #[inline(always)]
     fn visit_i32_atomic_rmw16_sub_u(&mut self, memarg: MemArg) -> Self::Output
         ensures { Self.visits self.old (Operator.Atomic (AtomicOperator.I32AtomicRmw16SubU memarg)) result self.new }
@@ -246,7 +215,6 @@ pub trait VisitAtomic: Visitor {
         self.visit_any(Operator::Atomic(AtomicOperator::I32AtomicRmw16SubU { memarg }))
     }
 
-    /// Visits `I64AtomicRmw8SubU`.
     #[inline(always)]
     fn visit_i64_atomic_rmw8_sub_u(&mut self, memarg: MemArg) -> Self::Output
         ensures { Self.visits self.old (Operator.Atomic (AtomicOperator.I64AtomicRmw8SubU memarg)) result self.new }
@@ -254,7 +222,6 @@ pub trait VisitAtomic: Visitor {
         self.visit_any(Operator::Atomic(AtomicOperator::I64AtomicRmw8SubU { memarg }))
     }
 
-    /// Visits `I64AtomicRmw16SubU`.
     #[inline(always)]
     fn visit_i64_atomic_rmw16_sub_u(&mut self, memarg: MemArg) -> Self::Output
         ensures { Self.visits self.old (Operator.Atomic (AtomicOperator.I64AtomicRmw16SubU memarg)) result self.new }
@@ -262,7 +229,6 @@ pub trait VisitAtomic: Visitor {
         self.visit_any(Operator::Atomic(AtomicOperator::I64AtomicRmw16SubU { memarg }))
     }
 
-    /// Visits `I64AtomicRmw32SubU`.
     #[inline(always)]
     fn visit_i64_atomic_rmw32_sub_u(&mut self, memarg: MemArg) -> Self::Output
         ensures { Self.visits self.old (Operator.Atomic (AtomicOperator.I64AtomicRmw32SubU memarg)) result self.new }
@@ -270,7 +236,6 @@ pub trait VisitAtomic: Visitor {
         self.visit_any(Operator::Atomic(AtomicOperator::I64AtomicRmw32SubU { memarg }))
     }
 
-    /// Visits `I32AtomicRmwAnd`.
     #[inline(always)]
     fn visit_i32_atomic_rmw_and(&mut self, memarg: MemArg) -> Self::Output
         ensures { Self.visits self.old (Operator.Atomic (AtomicOperator.I32AtomicRmwAnd memarg)) result self.new }
@@ -278,7 +243,6 @@ pub trait VisitAtomic: Visitor {
         self.visit_any(Operator::Atomic(AtomicOperator::I32AtomicRmwAnd { memarg }))
     }
 
-    /// Visits `I64AtomicRmwAnd`.
     #[inline(always)]
     fn visit_i64_atomic_rmw_and(&mut self, memarg: MemArg) -> Self::Output
         ensures { Self.visits self.old (Operator.Atomic (AtomicOperator.I64AtomicRmwAnd memarg)) result self.new }
@@ -286,7 +250,6 @@ pub trait VisitAtomic: Visitor {
         self.visit_any(Operator::Atomic(AtomicOperator::I64AtomicRmwAnd { memarg }))
     }
 
-    /// Visits `I32AtomicRmw8AndU`.
     #[inline(always)]
     fn visit_i32_atomic_rmw8_and_u(&mut self, memarg: MemArg) -> Self::Output
         ensures { Self.visits self.old (Operator.Atomic (AtomicOperator.I32AtomicRmw8AndU memarg)) result self.new }
@@ -294,7 +257,6 @@ pub trait VisitAtomic: Visitor {
         self.visit_any(Operator::Atomic(AtomicOperator::I32AtomicRmw8AndU { memarg }))
     }
 
-    /// Visits `I32AtomicRmw16AndU`.
     #[inline(always)]
     fn visit_i32_atomic_rmw16_and_u(&mut self, memarg: MemArg) -> Self::Output
         ensures { Self.visits self.old (Operator.Atomic (AtomicOperator.I32AtomicRmw16AndU memarg)) result self.new }
@@ -302,7 +264,6 @@ pub trait VisitAtomic: Visitor {
         self.visit_any(Operator::Atomic(AtomicOperator::I32AtomicRmw16AndU { memarg }))
     }
 
-    /// Visits `I64AtomicRmw8AndU`.
     #[inline(always)]
     fn visit_i64_atomic_rmw8_and_u(&mut self, memarg: MemArg) -> Self::Output
         ensures { Self.visits self.old (Operator.Atomic (AtomicOperator.I64AtomicRmw8AndU memarg)) result self.new }
@@ -310,7 +271,6 @@ pub trait VisitAtomic: Visitor {
         self.visit_any(Operator::Atomic(AtomicOperator::I64AtomicRmw8AndU { memarg }))
     }
 
-    /// Visits `I64AtomicRmw16AndU`.
     #[inline(always)]
     fn visit_i64_atomic_rmw16_and_u(&mut self, memarg: MemArg) -> Self::Output
         ensures { Self.visits self.old (Operator.Atomic (AtomicOperator.I64AtomicRmw16AndU memarg)) result self.new }
@@ -318,7 +278,6 @@ pub trait VisitAtomic: Visitor {
         self.visit_any(Operator::Atomic(AtomicOperator::I64AtomicRmw16AndU { memarg }))
     }
 
-    /// Visits `I64AtomicRmw32AndU`.
     #[inline(always)]
     fn visit_i64_atomic_rmw32_and_u(&mut self, memarg: MemArg) -> Self::Output
         ensures { Self.visits self.old (Operator.Atomic (AtomicOperator.I64AtomicRmw32AndU memarg)) result self.new }
@@ -326,7 +285,6 @@ pub trait VisitAtomic: Visitor {
         self.visit_any(Operator::Atomic(AtomicOperator::I64AtomicRmw32AndU { memarg }))
     }
 
-    /// Visits `I32AtomicRmwOr`.
     #[inline(always)]
     fn visit_i32_atomic_rmw_or(&mut self, memarg: MemArg) -> Self::Output
         ensures { Self.visits self.old (Operator.Atomic (AtomicOperator.I32AtomicRmwOr memarg)) result self.new }
@@ -334,7 +292,6 @@ pub trait VisitAtomic: Visitor {
         self.visit_any(Operator::Atomic(AtomicOperator::I32AtomicRmwOr { memarg }))
     }
 
-    /// Visits `I64AtomicRmwOr`.
     #[inline(always)]
     fn visit_i64_atomic_rmw_or(&mut self, memarg: MemArg) -> Self::Output
         ensures { Self.visits self.old (Operator.Atomic (AtomicOperator.I64AtomicRmwOr memarg)) result self.new }
@@ -342,7 +299,6 @@ pub trait VisitAtomic: Visitor {
         self.visit_any(Operator::Atomic(AtomicOperator::I64AtomicRmwOr { memarg }))
     }
 
-    /// Visits `I32AtomicRmw8OrU`.
     #[inline(always)]
     fn visit_i32_atomic_rmw8_or_u(&mut self, memarg: MemArg) -> Self::Output
         ensures { Self.visits self.old (Operator.Atomic (AtomicOperator.I32AtomicRmw8OrU memarg)) result self.new }
@@ -350,7 +306,6 @@ pub trait VisitAtomic: Visitor {
         self.visit_any(Operator::Atomic(AtomicOperator::I32AtomicRmw8OrU { memarg }))
     }
 
-    /// Visits `I32AtomicRmw16OrU`.
     #[inline(always)]
     fn visit_i32_atomic_rmw16_or_u(&mut self, memarg: MemArg) -> Self::Output
         ensures { Self.visits self.old (Operator.Atomic (AtomicOperator.I32AtomicRmw16OrU memarg)) result self.new }
@@ -358,7 +313,6 @@ pub trait VisitAtomic: Visitor {
         self.visit_any(Operator::Atomic(AtomicOperator::I32AtomicRmw16OrU { memarg }))
     }
 
-    /// Visits `I64AtomicRmw8OrU`.
     #[inline(always)]
     fn visit_i64_atomic_rmw8_or_u(&mut self, memarg: MemArg) -> Self::Output
         ensures { Self.visits self.old (Operator.Atomic (AtomicOperator.I64AtomicRmw8OrU memarg)) result self.new }
@@ -366,7 +320,6 @@ pub trait VisitAtomic: Visitor {
         self.visit_any(Operator::Atomic(AtomicOperator::I64AtomicRmw8OrU { memarg }))
     }
 
-    /// Visits `I64AtomicRmw16OrU`.
     #[inline(always)]
     fn visit_i64_atomic_rmw16_or_u(&mut self, memarg: MemArg) -> Self::Output
         ensures { Self.visits self.old (Operator.Atomic (AtomicOperator.I64AtomicRmw16OrU memarg)) result self.new }
@@ -374,7 +327,6 @@ pub trait VisitAtomic: Visitor {
         self.visit_any(Operator::Atomic(AtomicOperator::I64AtomicRmw16OrU { memarg }))
     }
 
-    /// Visits `I64AtomicRmw32OrU`.
     #[inline(always)]
     fn visit_i64_atomic_rmw32_or_u(&mut self, memarg: MemArg) -> Self::Output
         ensures { Self.visits self.old (Operator.Atomic (AtomicOperator.I64AtomicRmw32OrU memarg)) result self.new }
@@ -382,7 +334,6 @@ pub trait VisitAtomic: Visitor {
         self.visit_any(Operator::Atomic(AtomicOperator::I64AtomicRmw32OrU { memarg }))
     }
 
-    /// Visits `I32AtomicRmwXor`.
     #[inline(always)]
     fn visit_i32_atomic_rmw_xor(&mut self, memarg: MemArg) -> Self::Output
         ensures { Self.visits self.old (Operator.Atomic (AtomicOperator.I32AtomicRmwXor memarg)) result self.new }
@@ -390,7 +341,6 @@ pub trait VisitAtomic: Visitor {
         self.visit_any(Operator::Atomic(AtomicOperator::I32AtomicRmwXor { memarg }))
     }
 
-    /// Visits `I64AtomicRmwXor`.
     #[inline(always)]
     fn visit_i64_atomic_rmw_xor(&mut self, memarg: MemArg) -> Self::Output
         ensures { Self.visits self.old (Operator.Atomic (AtomicOperator.I64AtomicRmwXor memarg)) result self.new }
@@ -398,7 +348,6 @@ pub trait VisitAtomic: Visitor {
         self.visit_any(Operator::Atomic(AtomicOperator::I64AtomicRmwXor { memarg }))
     }
 
-    /// Visits `I32AtomicRmw8XorU`.
     #[inline(always)]
     fn visit_i32_atomic_rmw8_xor_u(&mut self, memarg: MemArg) -> Self::Output
         ensures { Self.visits self.old (Operator.Atomic (AtomicOperator.I32AtomicRmw8XorU memarg)) result self.new }
@@ -406,7 +355,6 @@ pub trait VisitAtomic: Visitor {
         self.visit_any(Operator::Atomic(AtomicOperator::I32AtomicRmw8XorU { memarg }))
     }
 
-    /// Visits `I32AtomicRmw16XorU`.
     #[inline(always)]
     fn visit_i32_atomic_rmw16_xor_u(&mut self, memarg: MemArg) -> Self::Output
         ensures { Self.visits self.old (Operator.Atomic (AtomicOperator.I32AtomicRmw16XorU memarg)) result self.new }
@@ -414,7 +362,6 @@ pub trait VisitAtomic: Visitor {
         self.visit_any(Operator::Atomic(AtomicOperator::I32AtomicRmw16XorU { memarg }))
     }
 
-    /// Visits `I64AtomicRmw8XorU`.
     #[inline(always)]
     fn visit_i64_atomic_rmw8_xor_u(&mut self, memarg: MemArg) -> Self::Output
         ensures { Self.visits self.old (Operator.Atomic (AtomicOperator.I64AtomicRmw8XorU memarg)) result self.new }
@@ -422,7 +369,6 @@ pub trait VisitAtomic: Visitor {
         self.visit_any(Operator::Atomic(AtomicOperator::I64AtomicRmw8XorU { memarg }))
     }
 
-    /// Visits `I64AtomicRmw16XorU`.
     #[inline(always)]
     fn visit_i64_atomic_rmw16_xor_u(&mut self, memarg: MemArg) -> Self::Output
         ensures { Self.visits self.old (Operator.Atomic (AtomicOperator.I64AtomicRmw16XorU memarg)) result self.new }
@@ -430,7 +376,6 @@ pub trait VisitAtomic: Visitor {
         self.visit_any(Operator::Atomic(AtomicOperator::I64AtomicRmw16XorU { memarg }))
     }
 
-    /// Visits `I64AtomicRmw32XorU`.
     #[inline(always)]
     fn visit_i64_atomic_rmw32_xor_u(&mut self, memarg: MemArg) -> Self::Output
         ensures { Self.visits self.old (Operator.Atomic (AtomicOperator.I64AtomicRmw32XorU memarg)) result self.new }
@@ -438,7 +383,6 @@ pub trait VisitAtomic: Visitor {
         self.visit_any(Operator::Atomic(AtomicOperator::I64AtomicRmw32XorU { memarg }))
     }
 
-    /// Visits `I32AtomicRmwXchg`.
     #[inline(always)]
     fn visit_i32_atomic_rmw_xchg(&mut self, memarg: MemArg) -> Self::Output
         ensures { Self.visits self.old (Operator.Atomic (AtomicOperator.I32AtomicRmwXchg memarg)) result self.new }
@@ -446,7 +390,6 @@ pub trait VisitAtomic: Visitor {
         self.visit_any(Operator::Atomic(AtomicOperator::I32AtomicRmwXchg { memarg }))
     }
 
-    /// Visits `I64AtomicRmwXchg`.
     #[inline(always)]
     fn visit_i64_atomic_rmw_xchg(&mut self, memarg: MemArg) -> Self::Output
         ensures { Self.visits self.old (Operator.Atomic (AtomicOperator.I64AtomicRmwXchg memarg)) result self.new }
@@ -454,7 +397,6 @@ pub trait VisitAtomic: Visitor {
         self.visit_any(Operator::Atomic(AtomicOperator::I64AtomicRmwXchg { memarg }))
     }
 
-    /// Visits `I32AtomicRmw8XchgU`.
     #[inline(always)]
     fn visit_i32_atomic_rmw8_xchg_u(&mut self, memarg: MemArg) -> Self::Output
         ensures { Self.visits self.old (Operator.Atomic (AtomicOperator.I32AtomicRmw8XchgU memarg)) result self.new }
@@ -462,7 +404,6 @@ pub trait VisitAtomic: Visitor {
         self.visit_any(Operator::Atomic(AtomicOperator::I32AtomicRmw8XchgU { memarg }))
     }
 
-    /// Visits `I32AtomicRmw16XchgU`.
     #[inline(always)]
     fn visit_i32_atomic_rmw16_xchg_u(&mut self, memarg: MemArg) -> Self::Output
         ensures { Self.visits self.old (Operator.Atomic (AtomicOperator.I32AtomicRmw16XchgU memarg)) result self.new }
@@ -470,7 +411,6 @@ pub trait VisitAtomic: Visitor {
         self.visit_any(Operator::Atomic(AtomicOperator::I32AtomicRmw16XchgU { memarg }))
     }
 
-    /// Visits `I64AtomicRmw8XchgU`.
     #[inline(always)]
     fn visit_i64_atomic_rmw8_xchg_u(&mut self, memarg: MemArg) -> Self::Output
         ensures { Self.visits self.old (Operator.Atomic (AtomicOperator.I64AtomicRmw8XchgU memarg)) result self.new }
@@ -478,7 +418,6 @@ pub trait VisitAtomic: Visitor {
         self.visit_any(Operator::Atomic(AtomicOperator::I64AtomicRmw8XchgU { memarg }))
     }
 
-    /// Visits `I64AtomicRmw16XchgU`.
     #[inline(always)]
     fn visit_i64_atomic_rmw16_xchg_u(&mut self, memarg: MemArg) -> Self::Output
         ensures { Self.visits self.old (Operator.Atomic (AtomicOperator.I64AtomicRmw16XchgU memarg)) result self.new }
@@ -486,7 +425,6 @@ pub trait VisitAtomic: Visitor {
         self.visit_any(Operator::Atomic(AtomicOperator::I64AtomicRmw16XchgU { memarg }))
     }
 
-    /// Visits `I64AtomicRmw32XchgU`.
     #[inline(always)]
     fn visit_i64_atomic_rmw32_xchg_u(&mut self, memarg: MemArg) -> Self::Output
         ensures { Self.visits self.old (Operator.Atomic (AtomicOperator.I64AtomicRmw32XchgU memarg)) result self.new }
@@ -494,7 +432,6 @@ pub trait VisitAtomic: Visitor {
         self.visit_any(Operator::Atomic(AtomicOperator::I64AtomicRmw32XchgU { memarg }))
     }
 
-    /// Visits `I32AtomicRmwCmpxchg`.
     #[inline(always)]
     fn visit_i32_atomic_rmw_cmpxchg(&mut self, memarg: MemArg) -> Self::Output
         ensures { Self.visits self.old (Operator.Atomic (AtomicOperator.I32AtomicRmwCmpxchg memarg)) result self.new }
@@ -502,7 +439,6 @@ pub trait VisitAtomic: Visitor {
         self.visit_any(Operator::Atomic(AtomicOperator::I32AtomicRmwCmpxchg { memarg }))
     }
 
-    /// Visits `I64AtomicRmwCmpxchg`.
     #[inline(always)]
     fn visit_i64_atomic_rmw_cmpxchg(&mut self, memarg: MemArg) -> Self::Output
         ensures { Self.visits self.old (Operator.Atomic (AtomicOperator.I64AtomicRmwCmpxchg memarg)) result self.new }
@@ -510,7 +446,6 @@ pub trait VisitAtomic: Visitor {
         self.visit_any(Operator::Atomic(AtomicOperator::I64AtomicRmwCmpxchg { memarg }))
     }
 
-    /// Visits `I32AtomicRmw8CmpxchgU`.
     #[inline(always)]
     fn visit_i32_atomic_rmw8_cmpxchg_u(&mut self, memarg: MemArg) -> Self::Output
         ensures { Self.visits self.old (Operator.Atomic (AtomicOperator.I32AtomicRmw8CmpxchgU memarg)) result self.new }
@@ -518,7 +453,6 @@ pub trait VisitAtomic: Visitor {
         self.visit_any(Operator::Atomic(AtomicOperator::I32AtomicRmw8CmpxchgU { memarg }))
     }
 
-    /// Visits `I32AtomicRmw16CmpxchgU`.
     #[inline(always)]
     fn visit_i32_atomic_rmw16_cmpxchg_u(&mut self, memarg: MemArg) -> Self::Output
         ensures { Self.visits self.old (Operator.Atomic (AtomicOperator.I32AtomicRmw16CmpxchgU memarg))
@@ -527,7 +461,6 @@ pub trait VisitAtomic: Visitor {
         self.visit_any(Operator::Atomic(AtomicOperator::I32AtomicRmw16CmpxchgU { memarg }))
     }
 
-    /// Visits `I64AtomicRmw8CmpxchgU`.
     #[inline(always)]
     fn visit_i64_atomic_rmw8_cmpxchg_u(&mut self, memarg: MemArg) -> Self::Output
         ensures { Self.visits self.old (Operator.Atomic (AtomicOperator.I64AtomicRmw8CmpxchgU memarg)) result self.new }
@@ -535,7 +468,6 @@ pub trait VisitAtomic: Visitor {
         self.visit_any(Operator::Atomic(AtomicOperator::I64AtomicRmw8CmpxchgU { memarg }))
     }
 
-    /// Visits `I64AtomicRmw16CmpxchgU`.
     #[inline(always)]
     fn visit_i64_atomic_rmw16_cmpxchg_u(&mut self, memarg: MemArg) -> Self::Output
         ensures { Self.visits self.old (Operator.Atomic (AtomicOperator.I64AtomicRmw16CmpxchgU memarg))
@@ -544,7 +476,6 @@ pub trait VisitAtomic: Visitor {
         self.visit_any(Operator::Atomic(AtomicOperator::I64AtomicRmw16CmpxchgU { memarg }))
     }
 
-    /// Visits `I64AtomicRmw32CmpxchgU`.
     #[inline(always)]
     fn visit_i64_atomic_rmw32_cmpxchg_u(&mut self, memarg: MemArg) -> Self::Output
         ensures { Self.visits self.old (Operator.Atomic (AtomicOperator.I64AtomicRmw32CmpxchgU memarg))
@@ -553,7 +484,6 @@ pub trait VisitAtomic: Visitor {
         self.visit_any(Operator::Atomic(AtomicOperator::I64AtomicRmw32CmpxchgU { memarg }))
     }
 
-    /// Visits `GlobalAtomicGet`.
     #[inline(always)]
     fn visit_global_atomic_get(&mut self, ordering: Ordering, global_index: u32) -> Self::Output
         ensures { Self.visits self.old (Operator.Atomic (AtomicOperator.GlobalAtomicGet ordering global_index))
@@ -565,7 +495,6 @@ pub trait VisitAtomic: Visitor {
         }))
     }
 
-    /// Visits `GlobalAtomicSet`.
     #[inline(always)]
     fn visit_global_atomic_set(&mut self, ordering: Ordering, global_index: u32) -> Self::Output
         ensures { Self.visits self.old (Operator.Atomic (AtomicOperator.GlobalAtomicSet ordering global_index))
@@ -577,7 +506,6 @@ pub trait VisitAtomic: Visitor {
         }))
     }
 
-    /// Visits `GlobalAtomicRmwAdd`.
     #[inline(always)]
     fn visit_global_atomic_rmw_add(&mut self, ordering: Ordering, global_index: u32) -> Self::Output
         ensures { Self.visits self.old (Operator.Atomic (AtomicOperator.GlobalAtomicRmwAdd ordering global_index))
@@ -589,7 +517,6 @@ pub trait VisitAtomic: Visitor {
         }))
     }
 
-    /// Visits `GlobalAtomicRmwSub`.
     #[inline(always)]
     fn visit_global_atomic_rmw_sub(&mut self, ordering: Ordering, global_index: u32) -> Self::Output
         ensures { Self.visits self.old (Operator.Atomic (AtomicOperator.GlobalAtomicRmwSub ordering global_index))
@@ -601,7 +528,6 @@ pub trait VisitAtomic: Visitor {
         }))
     }
 
-    /// Visits `GlobalAtomicRmwAnd`.
     #[inline(always)]
     fn visit_global_atomic_rmw_and(&mut self, ordering: Ordering, global_index: u32) -> Self::Output
         ensures { Self.visits self.old (Operator.Atomic (AtomicOperator.GlobalAtomicRmwAnd ordering global_index))
@@ -613,7 +539,6 @@ pub trait VisitAtomic: Visitor {
         }))
     }
 
-    /// Visits `GlobalAtomicRmwOr`.
     #[inline(always)]
     fn visit_global_atomic_rmw_or(&mut self, ordering: Ordering, global_index: u32) -> Self::Output
         ensures { Self.visits self.old (Operator.Atomic (AtomicOperator.GlobalAtomicRmwOr ordering global_index))
@@ -625,7 +550,6 @@ pub trait VisitAtomic: Visitor {
         }))
     }
 
-    /// Visits `GlobalAtomicRmwXor`.
     #[inline(always)]
     fn visit_global_atomic_rmw_xor(&mut self, ordering: Ordering, global_index: u32) -> Self::Output
         ensures { Self.visits self.old (Operator.Atomic (AtomicOperator.GlobalAtomicRmwXor ordering global_index))
@@ -637,7 +561,6 @@ pub trait VisitAtomic: Visitor {
         }))
     }
 
-    /// Visits `GlobalAtomicRmwXchg`.
     #[inline(always)]
     fn visit_global_atomic_rmw_xchg(
         &mut self,
@@ -653,7 +576,6 @@ pub trait VisitAtomic: Visitor {
         }))
     }
 
-    /// Visits `GlobalAtomicRmwCmpxchg`.
     #[inline(always)]
     fn visit_global_atomic_rmw_cmpxchg(
         &mut self,
@@ -669,7 +591,6 @@ pub trait VisitAtomic: Visitor {
         }))
     }
 
-    /// Visits `TableAtomicGet`.
     #[inline(always)]
     fn visit_table_atomic_get(&mut self, ordering: Ordering, table_index: u32) -> Self::Output
         ensures { Self.visits self.old (Operator.Atomic (AtomicOperator.TableAtomicGet ordering table_index))
@@ -681,7 +602,6 @@ pub trait VisitAtomic: Visitor {
         }))
     }
 
-    /// Visits `TableAtomicSet`.
     #[inline(always)]
     fn visit_table_atomic_set(&mut self, ordering: Ordering, table_index: u32) -> Self::Output
         ensures { Self.visits self.old (Operator.Atomic (AtomicOperator.TableAtomicSet ordering table_index))
@@ -693,7 +613,6 @@ pub trait VisitAtomic: Visitor {
         }))
     }
 
-    /// Visits `TableAtomicRmwXchg`.
     #[inline(always)]
     fn visit_table_atomic_rmw_xchg(&mut self, ordering: Ordering, table_index: u32) -> Self::Output
         ensures { Self.visits self.old (Operator.Atomic (AtomicOperator.TableAtomicRmwXchg ordering table_index))
@@ -705,7 +624,6 @@ pub trait VisitAtomic: Visitor {
         }))
     }
 
-    /// Visits `TableAtomicRmwCmpxchg`.
     #[inline(always)]
     fn visit_table_atomic_rmw_cmpxchg(
         &mut self,
@@ -721,7 +639,6 @@ pub trait VisitAtomic: Visitor {
         }))
     }
 
-    /// Visits `StructAtomicGet`.
     #[inline(always)]
     fn visit_struct_atomic_get(
         &mut self,
@@ -739,7 +656,6 @@ pub trait VisitAtomic: Visitor {
         }))
     }
 
-    /// Visits `StructAtomicGetS`.
     #[inline(always)]
     fn visit_struct_atomic_get_s(
         &mut self,
@@ -757,7 +673,6 @@ pub trait VisitAtomic: Visitor {
         }))
     }
 
-    /// Visits `StructAtomicGetU`.
     #[inline(always)]
     fn visit_struct_atomic_get_u(
         &mut self,
@@ -775,7 +690,6 @@ pub trait VisitAtomic: Visitor {
         }))
     }
 
-    /// Visits `StructAtomicSet`.
     #[inline(always)]
     fn visit_struct_atomic_set(
         &mut self,
@@ -793,7 +707,6 @@ pub trait VisitAtomic: Visitor {
         }))
     }
 
-    /// Visits `StructAtomicRmwAdd`.
     #[inline(always)]
     fn visit_struct_atomic_rmw_add(
         &mut self,
@@ -812,7 +725,6 @@ pub trait VisitAtomic: Visitor {
         }))
     }
 
-    /// Visits `StructAtomicRmwSub`.
     #[inline(always)]
     fn visit_struct_atomic_rmw_sub(
         &mut self,
@@ -831,7 +743,6 @@ pub trait VisitAtomic: Visitor {
         }))
     }
 
-    /// Visits `StructAtomicRmwAnd`.
     #[inline(always)]
     fn visit_struct_atomic_rmw_and(
         &mut self,
@@ -850,7 +761,6 @@ pub trait VisitAtomic: Visitor {
         }))
     }
 
-    /// Visits `StructAtomicRmwOr`.
     #[inline(always)]
     fn visit_struct_atomic_rmw_or(
         &mut self,
@@ -869,7 +779,6 @@ pub trait VisitAtomic: Visitor {
         }))
     }
 
-    /// Visits `StructAtomicRmwXor`.
     #[inline(always)]
     fn visit_struct_atomic_rmw_xor(
         &mut self,
@@ -888,7 +797,6 @@ pub trait VisitAtomic: Visitor {
         }))
     }
 
-    /// Visits `StructAtomicRmwXchg`.
     #[inline(always)]
     fn visit_struct_atomic_rmw_xchg(
         &mut self,
@@ -907,7 +815,6 @@ pub trait VisitAtomic: Visitor {
         }))
     }
 
-    /// Visits `StructAtomicRmwCmpxchg`.
     #[inline(always)]
     fn visit_struct_atomic_rmw_cmpxchg(
         &mut self,
@@ -926,7 +833,6 @@ pub trait VisitAtomic: Visitor {
         }))
     }
 
-    /// Visits `ArrayAtomicGet`.
     #[inline(always)]
     fn visit_array_atomic_get(&mut self, ordering: Ordering, array_type_index: u32) -> Self::Output
         ensures { Self.visits self.old (Operator.Atomic (AtomicOperator.ArrayAtomicGet ordering array_type_index))
@@ -938,7 +844,6 @@ pub trait VisitAtomic: Visitor {
         }))
     }
 
-    /// Visits `ArrayAtomicGetS`.
     #[inline(always)]
     fn visit_array_atomic_get_s(
         &mut self,
@@ -954,7 +859,6 @@ pub trait VisitAtomic: Visitor {
         }))
     }
 
-    /// Visits `ArrayAtomicGetU`.
     #[inline(always)]
     fn visit_array_atomic_get_u(
         &mut self,
@@ -970,7 +874,6 @@ pub trait VisitAtomic: Visitor {
         }))
     }
 
-    /// Visits `ArrayAtomicSet`.
     #[inline(always)]
     fn visit_array_atomic_set(&mut self, ordering: Ordering, array_type_index: u32) -> Self::Output
         ensures { Self.visits self.old (Operator.Atomic (AtomicOperator.ArrayAtomicSet ordering array_type_index))
@@ -982,7 +885,6 @@ pub trait VisitAtomic: Visitor {
         }))
     }
 
-    /// Visits `ArrayAtomicRmwAdd`.
     #[inline(always)]
     fn visit_array_atomic_rmw_add(
         &mut self,
@@ -998,7 +900,6 @@ pub trait VisitAtomic: Visitor {
         }))
     }
 
-    /// Visits `ArrayAtomicRmwSub`.
     #[inline(always)]
     fn visit_array_atomic_rmw_sub(
         &mut self,
@@ -1014,7 +915,6 @@ pub trait VisitAtomic: Visitor {
         }))
     }
 
-    /// Visits `ArrayAtomicRmwAnd`.
     #[inline(always)]
     fn visit_array_atomic_rmw_and(
         &mut self,
@@ -1030,7 +930,6 @@ pub trait VisitAtomic: Visitor {
         }))
     }
 
-    /// Visits `ArrayAtomicRmwOr`.
     #[inline(always)]
     fn visit_array_atomic_rmw_or(
         &mut self,
@@ -1046,7 +945,6 @@ pub trait VisitAtomic: Visitor {
         }))
     }
 
-    /// Visits `ArrayAtomicRmwXor`.
     #[inline(always)]
     fn visit_array_atomic_rmw_xor(
         &mut self,
@@ -1062,7 +960,6 @@ pub trait VisitAtomic: Visitor {
         }))
     }
 
-    /// Visits `ArrayAtomicRmwXchg`.
     #[inline(always)]
     fn visit_array_atomic_rmw_xchg(
         &mut self,
@@ -1078,7 +975,6 @@ pub trait VisitAtomic: Visitor {
         }))
     }
 
-    /// Visits `ArrayAtomicRmwCmpxchg`.
     #[inline(always)]
     fn visit_array_atomic_rmw_cmpxchg(
         &mut self,
@@ -1094,7 +990,6 @@ pub trait VisitAtomic: Visitor {
         }))
     }
 
-    /// Visits `RefI31Shared`.
     #[inline(always)]
     fn visit_ref_i31_shared(&mut self) -> Self::Output
         ensures { Self.visits self.old (Operator.Atomic AtomicOperator.RefI31Shared) result self.new }
@@ -1102,7 +997,6 @@ pub trait VisitAtomic: Visitor {
         self.visit_any(Operator::Atomic(AtomicOperator::RefI31Shared))
     }
 
-    /// Visits `Pause`.
     #[inline(always)]
     fn visit_pause(&mut self) -> Self::Output
         ensures { Self.visits self.old (Operator.Atomic AtomicOperator.Pause) result self.new }

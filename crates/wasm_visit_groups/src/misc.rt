@@ -1,19 +1,17 @@
-//! Visits of the operators with prefix 0xfc. Written by tools/lists.py from tools/operators.tsv.
+//! Written by tools/lists.py from tools/operators.tsv.
 ghost use Rattle.wasm_instr.specs.declared.operator.Operator.{Operator};
 ghost use Rattle.wasm_instr.specs.ops.misc.MiscOperator.{MiscOperator};
 
 use crate::visitor::Visitor;
 use wasm_instr::{MiscOperator, Operator};
 
-/// Visits of the operators with the prefix byte 0xfc. Numeric, Memory and Table Instructions.
-///
-/// A visit passes its operator to `visit_any` unless it is overridden. Overridden visits are called
-/// only by methods of the visitor's `VisitGroups` that name the group:
+/// Visits of the operators with the prefix byte 0xfc. Specification: Numeric, Memory and Table
+/// Instructions. By default they call `visit_any`. Overridden visits run only if the visitor's
+/// `VisitGroups` has these methods:
 ///
 /// - `dispatch_misc`, by `dispatch::misc(self, op)`
 /// - `decode_misc`, by `decode::misc(self, reader, start, code)`
 pub trait VisitMisc: Visitor {
-    /// Visits `I32TruncSatF32S`.
     #[inline(always)]
     fn visit_i32_trunc_sat_f32_s(&mut self) -> Self::Output
         ensures { Self.visits self.old (Operator.Misc MiscOperator.I32TruncSatF32S) result self.new }
@@ -21,7 +19,6 @@ pub trait VisitMisc: Visitor {
         self.visit_any(Operator::Misc(MiscOperator::I32TruncSatF32S))
     }
 
-    /// Visits `I32TruncSatF32U`.
     #[inline(always)]
     fn visit_i32_trunc_sat_f32_u(&mut self) -> Self::Output
         ensures { Self.visits self.old (Operator.Misc MiscOperator.I32TruncSatF32U) result self.new }
@@ -29,7 +26,6 @@ pub trait VisitMisc: Visitor {
         self.visit_any(Operator::Misc(MiscOperator::I32TruncSatF32U))
     }
 
-    /// Visits `I32TruncSatF64S`.
     #[inline(always)]
     fn visit_i32_trunc_sat_f64_s(&mut self) -> Self::Output
         ensures { Self.visits self.old (Operator.Misc MiscOperator.I32TruncSatF64S) result self.new }
@@ -37,7 +33,6 @@ pub trait VisitMisc: Visitor {
         self.visit_any(Operator::Misc(MiscOperator::I32TruncSatF64S))
     }
 
-    /// Visits `I32TruncSatF64U`.
     #[inline(always)]
     fn visit_i32_trunc_sat_f64_u(&mut self) -> Self::Output
         ensures { Self.visits self.old (Operator.Misc MiscOperator.I32TruncSatF64U) result self.new }
@@ -45,7 +40,6 @@ pub trait VisitMisc: Visitor {
         self.visit_any(Operator::Misc(MiscOperator::I32TruncSatF64U))
     }
 
-    /// Visits `I64TruncSatF32S`.
     #[inline(always)]
     fn visit_i64_trunc_sat_f32_s(&mut self) -> Self::Output
         ensures { Self.visits self.old (Operator.Misc MiscOperator.I64TruncSatF32S) result self.new }
@@ -53,7 +47,6 @@ pub trait VisitMisc: Visitor {
         self.visit_any(Operator::Misc(MiscOperator::I64TruncSatF32S))
     }
 
-    /// Visits `I64TruncSatF32U`.
     #[inline(always)]
     fn visit_i64_trunc_sat_f32_u(&mut self) -> Self::Output
         ensures { Self.visits self.old (Operator.Misc MiscOperator.I64TruncSatF32U) result self.new }
@@ -61,7 +54,6 @@ pub trait VisitMisc: Visitor {
         self.visit_any(Operator::Misc(MiscOperator::I64TruncSatF32U))
     }
 
-    /// Visits `I64TruncSatF64S`.
     #[inline(always)]
     fn visit_i64_trunc_sat_f64_s(&mut self) -> Self::Output
         ensures { Self.visits self.old (Operator.Misc MiscOperator.I64TruncSatF64S) result self.new }
@@ -69,7 +61,6 @@ pub trait VisitMisc: Visitor {
         self.visit_any(Operator::Misc(MiscOperator::I64TruncSatF64S))
     }
 
-    /// Visits `I64TruncSatF64U`.
     #[inline(always)]
     fn visit_i64_trunc_sat_f64_u(&mut self) -> Self::Output
         ensures { Self.visits self.old (Operator.Misc MiscOperator.I64TruncSatF64U) result self.new }
@@ -77,7 +68,6 @@ pub trait VisitMisc: Visitor {
         self.visit_any(Operator::Misc(MiscOperator::I64TruncSatF64U))
     }
 
-    /// Visits `MemoryInit`.
     #[inline(always)]
     fn visit_memory_init(&mut self, data_index: u32, mem: u32) -> Self::Output
         ensures { Self.visits self.old (Operator.Misc (MiscOperator.MemoryInit data_index mem)) result self.new }
@@ -85,7 +75,6 @@ pub trait VisitMisc: Visitor {
         self.visit_any(Operator::Misc(MiscOperator::MemoryInit { data_index, mem }))
     }
 
-    /// Visits `DataDrop`.
     #[inline(always)]
     fn visit_data_drop(&mut self, data_index: u32) -> Self::Output
         ensures { Self.visits self.old (Operator.Misc (MiscOperator.DataDrop data_index)) result self.new }
@@ -93,7 +82,6 @@ pub trait VisitMisc: Visitor {
         self.visit_any(Operator::Misc(MiscOperator::DataDrop { data_index }))
     }
 
-    /// Visits `MemoryCopy`.
     #[inline(always)]
     fn visit_memory_copy(&mut self, dst_mem: u32, src_mem: u32) -> Self::Output
         ensures { Self.visits self.old (Operator.Misc (MiscOperator.MemoryCopy dst_mem src_mem)) result self.new }
@@ -101,7 +89,6 @@ pub trait VisitMisc: Visitor {
         self.visit_any(Operator::Misc(MiscOperator::MemoryCopy { dst_mem, src_mem }))
     }
 
-    /// Visits `MemoryFill`.
     #[inline(always)]
     fn visit_memory_fill(&mut self, mem: u32) -> Self::Output
         ensures { Self.visits self.old (Operator.Misc (MiscOperator.MemoryFill mem)) result self.new }
@@ -109,7 +96,6 @@ pub trait VisitMisc: Visitor {
         self.visit_any(Operator::Misc(MiscOperator::MemoryFill { mem }))
     }
 
-    /// Visits `TableInit`.
     #[inline(always)]
     fn visit_table_init(&mut self, elem_index: u32, table: u32) -> Self::Output
         ensures { Self.visits self.old (Operator.Misc (MiscOperator.TableInit elem_index table)) result self.new }
@@ -117,7 +103,6 @@ pub trait VisitMisc: Visitor {
         self.visit_any(Operator::Misc(MiscOperator::TableInit { elem_index, table }))
     }
 
-    /// Visits `ElemDrop`.
     #[inline(always)]
     fn visit_elem_drop(&mut self, elem_index: u32) -> Self::Output
         ensures { Self.visits self.old (Operator.Misc (MiscOperator.ElemDrop elem_index)) result self.new }
@@ -125,7 +110,6 @@ pub trait VisitMisc: Visitor {
         self.visit_any(Operator::Misc(MiscOperator::ElemDrop { elem_index }))
     }
 
-    /// Visits `TableCopy`.
     #[inline(always)]
     fn visit_table_copy(&mut self, dst_table: u32, src_table: u32) -> Self::Output
         ensures { Self.visits self.old (Operator.Misc (MiscOperator.TableCopy dst_table src_table)) result self.new }
@@ -136,7 +120,6 @@ pub trait VisitMisc: Visitor {
         }))
     }
 
-    /// Visits `TableFill`.
     #[inline(always)]
     fn visit_table_fill(&mut self, table: u32) -> Self::Output
         ensures { Self.visits self.old (Operator.Misc (MiscOperator.TableFill table)) result self.new }
@@ -144,7 +127,6 @@ pub trait VisitMisc: Visitor {
         self.visit_any(Operator::Misc(MiscOperator::TableFill { table }))
     }
 
-    /// Visits `TableGrow`.
     #[inline(always)]
     fn visit_table_grow(&mut self, table: u32) -> Self::Output
         ensures { Self.visits self.old (Operator.Misc (MiscOperator.TableGrow table)) result self.new }
@@ -152,7 +134,6 @@ pub trait VisitMisc: Visitor {
         self.visit_any(Operator::Misc(MiscOperator::TableGrow { table }))
     }
 
-    /// Visits `TableSize`.
     #[inline(always)]
     fn visit_table_size(&mut self, table: u32) -> Self::Output
         ensures { Self.visits self.old (Operator.Misc (MiscOperator.TableSize table)) result self.new }
@@ -160,7 +141,6 @@ pub trait VisitMisc: Visitor {
         self.visit_any(Operator::Misc(MiscOperator::TableSize { table }))
     }
 
-    /// Visits `MemoryDiscard`.
     #[inline(always)]
     fn visit_memory_discard(&mut self, mem: u32) -> Self::Output
         ensures { Self.visits self.old (Operator.Misc (MiscOperator.MemoryDiscard mem)) result self.new }
@@ -168,7 +148,6 @@ pub trait VisitMisc: Visitor {
         self.visit_any(Operator::Misc(MiscOperator::MemoryDiscard { mem }))
     }
 
-    /// Visits `I64Add128`.
     #[inline(always)]
     fn visit_i64_add128(&mut self) -> Self::Output
         ensures { Self.visits self.old (Operator.Misc MiscOperator.I64Add128) result self.new }
@@ -176,7 +155,6 @@ pub trait VisitMisc: Visitor {
         self.visit_any(Operator::Misc(MiscOperator::I64Add128))
     }
 
-    /// Visits `I64Sub128`.
     #[inline(always)]
     fn visit_i64_sub128(&mut self) -> Self::Output
         ensures { Self.visits self.old (Operator.Misc MiscOperator.I64Sub128) result self.new }
@@ -184,7 +162,6 @@ pub trait VisitMisc: Visitor {
         self.visit_any(Operator::Misc(MiscOperator::I64Sub128))
     }
 
-    /// Visits `I64MulWideS`.
     #[inline(always)]
     fn visit_i64_mul_wide_s(&mut self) -> Self::Output
         ensures { Self.visits self.old (Operator.Misc MiscOperator.I64MulWideS) result self.new }
@@ -192,7 +169,6 @@ pub trait VisitMisc: Visitor {
         self.visit_any(Operator::Misc(MiscOperator::I64MulWideS))
     }
 
-    /// Visits `I64MulWideU`.
     #[inline(always)]
     fn visit_i64_mul_wide_u(&mut self) -> Self::Output
         ensures { Self.visits self.old (Operator.Misc MiscOperator.I64MulWideU) result self.new }

@@ -1,4 +1,4 @@
-//! Visits of the operators of one byte. Written by tools/lists.py from tools/operators.tsv.
+//! Written by tools/lists.py from tools/operators.tsv.
 ghost use Rattle.wasm_instr.specs.declared.operator.Operator.{Operator};
 
 use crate::visitor::Visitor;
@@ -6,16 +6,14 @@ use wasm_instr::Operator;
 use wasm_instr::below::{HeapType, ValType};
 use wasm_instr::imm::{BlockType, Ieee32, Ieee64, MemArg, ResumeTable, SelectTypes, TryTable};
 
-/// Visits of the operators of one byte, except the numeric ones and the branch table. Instructions.
-///
-/// A visit passes its operator to `visit_any` unless it is overridden. Overridden visits are called
-/// only by methods of the visitor's `VisitGroups` that name the group:
+/// Visits of the operators with a one-byte opcode, except the numeric ones and the branch table.
+/// Specification: Instructions. By default they call `visit_any`. Overridden visits run only if the
+/// visitor's `VisitGroups` has these methods:
 ///
 /// - `dispatch_one_byte`, by `dispatch::one_byte(self, op)`
 /// - `decode_one_byte`, by `decode::one_byte(alloc, self, reader, start, frame, code)`
 /// - `decode_below_0x20`, by `decode::one_byte(alloc, self, reader, start, frame, code)`
 pub trait VisitOneByte: Visitor {
-    /// Visits `Unreachable`.
     #[inline(always)]
     fn visit_unreachable(&mut self) -> Self::Output
         ensures { Self.visits self.old Operator.Unreachable result self.new }
@@ -23,7 +21,6 @@ pub trait VisitOneByte: Visitor {
         self.visit_any(Operator::Unreachable)
     }
 
-    /// Visits `Nop`.
     #[inline(always)]
     fn visit_nop(&mut self) -> Self::Output
         ensures { Self.visits self.old Operator.Nop result self.new }
@@ -31,7 +28,6 @@ pub trait VisitOneByte: Visitor {
         self.visit_any(Operator::Nop)
     }
 
-    /// Visits `Block`.
     #[inline(always)]
     fn visit_block(&mut self, blockty: BlockType) -> Self::Output
         ensures { Self.visits self.old (Operator.Block blockty) result self.new }
@@ -39,7 +35,6 @@ pub trait VisitOneByte: Visitor {
         self.visit_any(Operator::Block { blockty })
     }
 
-    /// Visits `Loop`.
     #[inline(always)]
     fn visit_loop(&mut self, blockty: BlockType) -> Self::Output
         ensures { Self.visits self.old (Operator.Loop blockty) result self.new }
@@ -47,7 +42,6 @@ pub trait VisitOneByte: Visitor {
         self.visit_any(Operator::Loop { blockty })
     }
 
-    /// Visits `If`.
     #[inline(always)]
     fn visit_if(&mut self, blockty: BlockType) -> Self::Output
         ensures { Self.visits self.old (Operator.If blockty) result self.new }
@@ -55,7 +49,6 @@ pub trait VisitOneByte: Visitor {
         self.visit_any(Operator::If { blockty })
     }
 
-    /// Visits `Else`.
     #[inline(always)]
     fn visit_else(&mut self) -> Self::Output
         ensures { Self.visits self.old Operator.Else result self.new }
@@ -63,7 +56,6 @@ pub trait VisitOneByte: Visitor {
         self.visit_any(Operator::Else)
     }
 
-    /// Visits `End`.
     #[inline(always)]
     fn visit_end(&mut self) -> Self::Output
         ensures { Self.visits self.old Operator.End result self.new }
@@ -71,7 +63,6 @@ pub trait VisitOneByte: Visitor {
         self.visit_any(Operator::End)
     }
 
-    /// Visits `Br`.
     #[inline(always)]
     fn visit_br(&mut self, relative_depth: u32) -> Self::Output
         ensures { Self.visits self.old (Operator.Br relative_depth) result self.new }
@@ -79,7 +70,6 @@ pub trait VisitOneByte: Visitor {
         self.visit_any(Operator::Br { relative_depth })
     }
 
-    /// Visits `BrIf`.
     #[inline(always)]
     fn visit_br_if(&mut self, relative_depth: u32) -> Self::Output
         ensures { Self.visits self.old (Operator.BrIf relative_depth) result self.new }
@@ -87,7 +77,6 @@ pub trait VisitOneByte: Visitor {
         self.visit_any(Operator::BrIf { relative_depth })
     }
 
-    /// Visits `Return`.
     #[inline(always)]
     fn visit_return(&mut self) -> Self::Output
         ensures { Self.visits self.old Operator.Return result self.new }
@@ -95,7 +84,6 @@ pub trait VisitOneByte: Visitor {
         self.visit_any(Operator::Return)
     }
 
-    /// Visits `Call`.
     #[inline(always)]
     fn visit_call(&mut self, function_index: u32) -> Self::Output
         ensures { Self.visits self.old (Operator.Call function_index) result self.new }
@@ -103,7 +91,6 @@ pub trait VisitOneByte: Visitor {
         self.visit_any(Operator::Call { function_index })
     }
 
-    /// Visits `CallIndirect`.
     #[inline(always)]
     fn visit_call_indirect(&mut self, type_index: u32, table_index: u32) -> Self::Output
         ensures { Self.visits self.old (Operator.CallIndirect type_index table_index) result self.new }
@@ -114,7 +101,6 @@ pub trait VisitOneByte: Visitor {
         })
     }
 
-    /// Visits `Drop`.
     #[inline(always)]
     fn visit_drop(&mut self) -> Self::Output
         ensures { Self.visits self.old Operator.Drop result self.new }
@@ -122,7 +108,6 @@ pub trait VisitOneByte: Visitor {
         self.visit_any(Operator::Drop)
     }
 
-    /// Visits `Select`.
     #[inline(always)]
     fn visit_select(&mut self) -> Self::Output
         ensures { Self.visits self.old Operator.Select result self.new }
@@ -130,7 +115,6 @@ pub trait VisitOneByte: Visitor {
         self.visit_any(Operator::Select)
     }
 
-    /// Visits `LocalGet`.
     #[inline(always)]
     fn visit_local_get(&mut self, local_index: u32) -> Self::Output
         ensures { Self.visits self.old (Operator.LocalGet local_index) result self.new }
@@ -138,7 +122,6 @@ pub trait VisitOneByte: Visitor {
         self.visit_any(Operator::LocalGet { local_index })
     }
 
-    /// Visits `LocalSet`.
     #[inline(always)]
     fn visit_local_set(&mut self, local_index: u32) -> Self::Output
         ensures { Self.visits self.old (Operator.LocalSet local_index) result self.new }
@@ -146,7 +129,6 @@ pub trait VisitOneByte: Visitor {
         self.visit_any(Operator::LocalSet { local_index })
     }
 
-    /// Visits `LocalTee`.
     #[inline(always)]
     fn visit_local_tee(&mut self, local_index: u32) -> Self::Output
         ensures { Self.visits self.old (Operator.LocalTee local_index) result self.new }
@@ -154,7 +136,6 @@ pub trait VisitOneByte: Visitor {
         self.visit_any(Operator::LocalTee { local_index })
     }
 
-    /// Visits `GlobalGet`.
     #[inline(always)]
     fn visit_global_get(&mut self, global_index: u32) -> Self::Output
         ensures { Self.visits self.old (Operator.GlobalGet global_index) result self.new }
@@ -162,7 +143,6 @@ pub trait VisitOneByte: Visitor {
         self.visit_any(Operator::GlobalGet { global_index })
     }
 
-    /// Visits `GlobalSet`.
     #[inline(always)]
     fn visit_global_set(&mut self, global_index: u32) -> Self::Output
         ensures { Self.visits self.old (Operator.GlobalSet global_index) result self.new }
@@ -170,7 +150,6 @@ pub trait VisitOneByte: Visitor {
         self.visit_any(Operator::GlobalSet { global_index })
     }
 
-    /// Visits `I32Load`.
     #[inline(always)]
     fn visit_i32_load(&mut self, memarg: MemArg) -> Self::Output
         ensures { Self.visits self.old (Operator.I32Load memarg) result self.new }
@@ -178,7 +157,6 @@ pub trait VisitOneByte: Visitor {
         self.visit_any(Operator::I32Load { memarg })
     }
 
-    /// Visits `I64Load`.
     #[inline(always)]
     fn visit_i64_load(&mut self, memarg: MemArg) -> Self::Output
         ensures { Self.visits self.old (Operator.I64Load memarg) result self.new }
@@ -186,7 +164,6 @@ pub trait VisitOneByte: Visitor {
         self.visit_any(Operator::I64Load { memarg })
     }
 
-    /// Visits `F32Load`.
     #[inline(always)]
     fn visit_f32_load(&mut self, memarg: MemArg) -> Self::Output
         ensures { Self.visits self.old (Operator.F32Load memarg) result self.new }
@@ -194,7 +171,6 @@ pub trait VisitOneByte: Visitor {
         self.visit_any(Operator::F32Load { memarg })
     }
 
-    /// Visits `F64Load`.
     #[inline(always)]
     fn visit_f64_load(&mut self, memarg: MemArg) -> Self::Output
         ensures { Self.visits self.old (Operator.F64Load memarg) result self.new }
@@ -202,7 +178,6 @@ pub trait VisitOneByte: Visitor {
         self.visit_any(Operator::F64Load { memarg })
     }
 
-    /// Visits `I32Load8S`.
     #[inline(always)]
     fn visit_i32_load8_s(&mut self, memarg: MemArg) -> Self::Output
         ensures { Self.visits self.old (Operator.I32Load8S memarg) result self.new }
@@ -210,7 +185,6 @@ pub trait VisitOneByte: Visitor {
         self.visit_any(Operator::I32Load8S { memarg })
     }
 
-    /// Visits `I32Load8U`.
     #[inline(always)]
     fn visit_i32_load8_u(&mut self, memarg: MemArg) -> Self::Output
         ensures { Self.visits self.old (Operator.I32Load8U memarg) result self.new }
@@ -218,7 +192,6 @@ pub trait VisitOneByte: Visitor {
         self.visit_any(Operator::I32Load8U { memarg })
     }
 
-    /// Visits `I32Load16S`.
     #[inline(always)]
     fn visit_i32_load16_s(&mut self, memarg: MemArg) -> Self::Output
         ensures { Self.visits self.old (Operator.I32Load16S memarg) result self.new }
@@ -226,7 +199,6 @@ pub trait VisitOneByte: Visitor {
         self.visit_any(Operator::I32Load16S { memarg })
     }
 
-    /// Visits `I32Load16U`.
     #[inline(always)]
     fn visit_i32_load16_u(&mut self, memarg: MemArg) -> Self::Output
         ensures { Self.visits self.old (Operator.I32Load16U memarg) result self.new }
@@ -234,7 +206,6 @@ pub trait VisitOneByte: Visitor {
         self.visit_any(Operator::I32Load16U { memarg })
     }
 
-    /// Visits `I64Load8S`.
     #[inline(always)]
     fn visit_i64_load8_s(&mut self, memarg: MemArg) -> Self::Output
         ensures { Self.visits self.old (Operator.I64Load8S memarg) result self.new }
@@ -242,7 +213,6 @@ pub trait VisitOneByte: Visitor {
         self.visit_any(Operator::I64Load8S { memarg })
     }
 
-    /// Visits `I64Load8U`.
     #[inline(always)]
     fn visit_i64_load8_u(&mut self, memarg: MemArg) -> Self::Output
         ensures { Self.visits self.old (Operator.I64Load8U memarg) result self.new }
@@ -250,7 +220,6 @@ pub trait VisitOneByte: Visitor {
         self.visit_any(Operator::I64Load8U { memarg })
     }
 
-    /// Visits `I64Load16S`.
     #[inline(always)]
     fn visit_i64_load16_s(&mut self, memarg: MemArg) -> Self::Output
         ensures { Self.visits self.old (Operator.I64Load16S memarg) result self.new }
@@ -258,7 +227,6 @@ pub trait VisitOneByte: Visitor {
         self.visit_any(Operator::I64Load16S { memarg })
     }
 
-    /// Visits `I64Load16U`.
     #[inline(always)]
     fn visit_i64_load16_u(&mut self, memarg: MemArg) -> Self::Output
         ensures { Self.visits self.old (Operator.I64Load16U memarg) result self.new }
@@ -266,7 +234,6 @@ pub trait VisitOneByte: Visitor {
         self.visit_any(Operator::I64Load16U { memarg })
     }
 
-    /// Visits `I64Load32S`.
     #[inline(always)]
     fn visit_i64_load32_s(&mut self, memarg: MemArg) -> Self::Output
         ensures { Self.visits self.old (Operator.I64Load32S memarg) result self.new }
@@ -274,7 +241,6 @@ pub trait VisitOneByte: Visitor {
         self.visit_any(Operator::I64Load32S { memarg })
     }
 
-    /// Visits `I64Load32U`.
     #[inline(always)]
     fn visit_i64_load32_u(&mut self, memarg: MemArg) -> Self::Output
         ensures { Self.visits self.old (Operator.I64Load32U memarg) result self.new }
@@ -282,7 +248,6 @@ pub trait VisitOneByte: Visitor {
         self.visit_any(Operator::I64Load32U { memarg })
     }
 
-    /// Visits `I32Store`.
     #[inline(always)]
     fn visit_i32_store(&mut self, memarg: MemArg) -> Self::Output
         ensures { Self.visits self.old (Operator.I32Store memarg) result self.new }
@@ -290,7 +255,6 @@ pub trait VisitOneByte: Visitor {
         self.visit_any(Operator::I32Store { memarg })
     }
 
-    /// Visits `I64Store`.
     #[inline(always)]
     fn visit_i64_store(&mut self, memarg: MemArg) -> Self::Output
         ensures { Self.visits self.old (Operator.I64Store memarg) result self.new }
@@ -298,7 +262,6 @@ pub trait VisitOneByte: Visitor {
         self.visit_any(Operator::I64Store { memarg })
     }
 
-    /// Visits `F32Store`.
     #[inline(always)]
     fn visit_f32_store(&mut self, memarg: MemArg) -> Self::Output
         ensures { Self.visits self.old (Operator.F32Store memarg) result self.new }
@@ -306,7 +269,6 @@ pub trait VisitOneByte: Visitor {
         self.visit_any(Operator::F32Store { memarg })
     }
 
-    /// Visits `F64Store`.
     #[inline(always)]
     fn visit_f64_store(&mut self, memarg: MemArg) -> Self::Output
         ensures { Self.visits self.old (Operator.F64Store memarg) result self.new }
@@ -314,7 +276,6 @@ pub trait VisitOneByte: Visitor {
         self.visit_any(Operator::F64Store { memarg })
     }
 
-    /// Visits `I32Store8`.
     #[inline(always)]
     fn visit_i32_store8(&mut self, memarg: MemArg) -> Self::Output
         ensures { Self.visits self.old (Operator.I32Store8 memarg) result self.new }
@@ -322,7 +283,6 @@ pub trait VisitOneByte: Visitor {
         self.visit_any(Operator::I32Store8 { memarg })
     }
 
-    /// Visits `I32Store16`.
     #[inline(always)]
     fn visit_i32_store16(&mut self, memarg: MemArg) -> Self::Output
         ensures { Self.visits self.old (Operator.I32Store16 memarg) result self.new }
@@ -330,7 +290,6 @@ pub trait VisitOneByte: Visitor {
         self.visit_any(Operator::I32Store16 { memarg })
     }
 
-    /// Visits `I64Store8`.
     #[inline(always)]
     fn visit_i64_store8(&mut self, memarg: MemArg) -> Self::Output
         ensures { Self.visits self.old (Operator.I64Store8 memarg) result self.new }
@@ -338,7 +297,6 @@ pub trait VisitOneByte: Visitor {
         self.visit_any(Operator::I64Store8 { memarg })
     }
 
-    /// Visits `I64Store16`.
     #[inline(always)]
     fn visit_i64_store16(&mut self, memarg: MemArg) -> Self::Output
         ensures { Self.visits self.old (Operator.I64Store16 memarg) result self.new }
@@ -346,7 +304,6 @@ pub trait VisitOneByte: Visitor {
         self.visit_any(Operator::I64Store16 { memarg })
     }
 
-    /// Visits `I64Store32`.
     #[inline(always)]
     fn visit_i64_store32(&mut self, memarg: MemArg) -> Self::Output
         ensures { Self.visits self.old (Operator.I64Store32 memarg) result self.new }
@@ -354,7 +311,6 @@ pub trait VisitOneByte: Visitor {
         self.visit_any(Operator::I64Store32 { memarg })
     }
 
-    /// Visits `MemorySize`.
     #[inline(always)]
     fn visit_memory_size(&mut self, mem: u32) -> Self::Output
         ensures { Self.visits self.old (Operator.MemorySize mem) result self.new }
@@ -362,7 +318,6 @@ pub trait VisitOneByte: Visitor {
         self.visit_any(Operator::MemorySize { mem })
     }
 
-    /// Visits `MemoryGrow`.
     #[inline(always)]
     fn visit_memory_grow(&mut self, mem: u32) -> Self::Output
         ensures { Self.visits self.old (Operator.MemoryGrow mem) result self.new }
@@ -370,7 +325,6 @@ pub trait VisitOneByte: Visitor {
         self.visit_any(Operator::MemoryGrow { mem })
     }
 
-    /// Visits `I32Const`.
     #[inline(always)]
     fn visit_i32_const(&mut self, value: i32) -> Self::Output
         ensures { Self.visits self.old (Operator.I32Const value) result self.new }
@@ -378,7 +332,6 @@ pub trait VisitOneByte: Visitor {
         self.visit_any(Operator::I32Const { value })
     }
 
-    /// Visits `I64Const`.
     #[inline(always)]
     fn visit_i64_const(&mut self, value: i64) -> Self::Output
         ensures { Self.visits self.old (Operator.I64Const value) result self.new }
@@ -386,7 +339,6 @@ pub trait VisitOneByte: Visitor {
         self.visit_any(Operator::I64Const { value })
     }
 
-    /// Visits `F32Const`.
     #[inline(always)]
     fn visit_f32_const(&mut self, value: Ieee32) -> Self::Output
         ensures { Self.visits self.old (Operator.F32Const value) result self.new }
@@ -394,7 +346,6 @@ pub trait VisitOneByte: Visitor {
         self.visit_any(Operator::F32Const { value })
     }
 
-    /// Visits `F64Const`.
     #[inline(always)]
     fn visit_f64_const(&mut self, value: Ieee64) -> Self::Output
         ensures { Self.visits self.old (Operator.F64Const value) result self.new }
@@ -402,7 +353,6 @@ pub trait VisitOneByte: Visitor {
         self.visit_any(Operator::F64Const { value })
     }
 
-    /// Visits `RefEq`.
     #[inline(always)]
     fn visit_ref_eq(&mut self) -> Self::Output
         ensures { Self.visits self.old Operator.RefEq result self.new }
@@ -410,7 +360,6 @@ pub trait VisitOneByte: Visitor {
         self.visit_any(Operator::RefEq)
     }
 
-    /// Visits `TypedSelect`.
     #[inline(always)]
     fn visit_typed_select(&mut self, ty: ValType) -> Self::Output
         ensures { Self.visits self.old (Operator.TypedSelect ty) result self.new }
@@ -418,7 +367,6 @@ pub trait VisitOneByte: Visitor {
         self.visit_any(Operator::TypedSelect { ty })
     }
 
-    /// Visits `TypedSelectMulti`.
     #[inline(always)]
     fn visit_typed_select_multi(&mut self, tys: SelectTypes) -> Self::Output
         ensures { Self.visits self.old (Operator.TypedSelectMulti tys) result self.new }
@@ -426,7 +374,6 @@ pub trait VisitOneByte: Visitor {
         self.visit_any(Operator::TypedSelectMulti { tys })
     }
 
-    /// Visits `RefNull`.
     #[inline(always)]
     fn visit_ref_null(&mut self, hty: HeapType) -> Self::Output
         ensures { Self.visits self.old (Operator.RefNull hty) result self.new }
@@ -434,7 +381,6 @@ pub trait VisitOneByte: Visitor {
         self.visit_any(Operator::RefNull { hty })
     }
 
-    /// Visits `RefIsNull`.
     #[inline(always)]
     fn visit_ref_is_null(&mut self) -> Self::Output
         ensures { Self.visits self.old Operator.RefIsNull result self.new }
@@ -442,7 +388,6 @@ pub trait VisitOneByte: Visitor {
         self.visit_any(Operator::RefIsNull)
     }
 
-    /// Visits `RefFunc`.
     #[inline(always)]
     fn visit_ref_func(&mut self, function_index: u32) -> Self::Output
         ensures { Self.visits self.old (Operator.RefFunc function_index) result self.new }
@@ -450,7 +395,6 @@ pub trait VisitOneByte: Visitor {
         self.visit_any(Operator::RefFunc { function_index })
     }
 
-    /// Visits `TableGet`.
     #[inline(always)]
     fn visit_table_get(&mut self, table: u32) -> Self::Output
         ensures { Self.visits self.old (Operator.TableGet table) result self.new }
@@ -458,7 +402,6 @@ pub trait VisitOneByte: Visitor {
         self.visit_any(Operator::TableGet { table })
     }
 
-    /// Visits `TableSet`.
     #[inline(always)]
     fn visit_table_set(&mut self, table: u32) -> Self::Output
         ensures { Self.visits self.old (Operator.TableSet table) result self.new }
@@ -466,7 +409,6 @@ pub trait VisitOneByte: Visitor {
         self.visit_any(Operator::TableSet { table })
     }
 
-    /// Visits `ReturnCall`.
     #[inline(always)]
     fn visit_return_call(&mut self, function_index: u32) -> Self::Output
         ensures { Self.visits self.old (Operator.ReturnCall function_index) result self.new }
@@ -474,7 +416,6 @@ pub trait VisitOneByte: Visitor {
         self.visit_any(Operator::ReturnCall { function_index })
     }
 
-    /// Visits `ReturnCallIndirect`.
     #[inline(always)]
     fn visit_return_call_indirect(&mut self, type_index: u32, table_index: u32) -> Self::Output
         ensures { Self.visits self.old (Operator.ReturnCallIndirect type_index table_index) result self.new }
@@ -485,7 +426,6 @@ pub trait VisitOneByte: Visitor {
         })
     }
 
-    /// Visits `TryTable`.
     #[inline(always)]
     fn visit_try_table(&mut self, try_table: TryTable) -> Self::Output
         ensures { Self.visits self.old (Operator.TryTable try_table) result self.new }
@@ -493,7 +433,6 @@ pub trait VisitOneByte: Visitor {
         self.visit_any(Operator::TryTable { try_table })
     }
 
-    /// Visits `Throw`.
     #[inline(always)]
     fn visit_throw(&mut self, tag_index: u32) -> Self::Output
         ensures { Self.visits self.old (Operator.Throw tag_index) result self.new }
@@ -501,7 +440,6 @@ pub trait VisitOneByte: Visitor {
         self.visit_any(Operator::Throw { tag_index })
     }
 
-    /// Visits `ThrowRef`.
     #[inline(always)]
     fn visit_throw_ref(&mut self) -> Self::Output
         ensures { Self.visits self.old Operator.ThrowRef result self.new }
@@ -509,7 +447,6 @@ pub trait VisitOneByte: Visitor {
         self.visit_any(Operator::ThrowRef)
     }
 
-    /// Visits `Try`.
     #[inline(always)]
     fn visit_try(&mut self, blockty: BlockType) -> Self::Output
         ensures { Self.visits self.old (Operator.Try blockty) result self.new }
@@ -517,7 +454,6 @@ pub trait VisitOneByte: Visitor {
         self.visit_any(Operator::Try { blockty })
     }
 
-    /// Visits `Catch`.
     #[inline(always)]
     fn visit_catch(&mut self, tag_index: u32) -> Self::Output
         ensures { Self.visits self.old (Operator.Catch tag_index) result self.new }
@@ -525,7 +461,6 @@ pub trait VisitOneByte: Visitor {
         self.visit_any(Operator::Catch { tag_index })
     }
 
-    /// Visits `Rethrow`.
     #[inline(always)]
     fn visit_rethrow(&mut self, relative_depth: u32) -> Self::Output
         ensures { Self.visits self.old (Operator.Rethrow relative_depth) result self.new }
@@ -533,7 +468,6 @@ pub trait VisitOneByte: Visitor {
         self.visit_any(Operator::Rethrow { relative_depth })
     }
 
-    /// Visits `Delegate`.
     #[inline(always)]
     fn visit_delegate(&mut self, relative_depth: u32) -> Self::Output
         ensures { Self.visits self.old (Operator.Delegate relative_depth) result self.new }
@@ -541,7 +475,6 @@ pub trait VisitOneByte: Visitor {
         self.visit_any(Operator::Delegate { relative_depth })
     }
 
-    /// Visits `CatchAll`.
     #[inline(always)]
     fn visit_catch_all(&mut self) -> Self::Output
         ensures { Self.visits self.old Operator.CatchAll result self.new }
@@ -549,7 +482,6 @@ pub trait VisitOneByte: Visitor {
         self.visit_any(Operator::CatchAll)
     }
 
-    /// Visits `CallRef`.
     #[inline(always)]
     fn visit_call_ref(&mut self, type_index: u32) -> Self::Output
         ensures { Self.visits self.old (Operator.CallRef type_index) result self.new }
@@ -557,7 +489,6 @@ pub trait VisitOneByte: Visitor {
         self.visit_any(Operator::CallRef { type_index })
     }
 
-    /// Visits `ReturnCallRef`.
     #[inline(always)]
     fn visit_return_call_ref(&mut self, type_index: u32) -> Self::Output
         ensures { Self.visits self.old (Operator.ReturnCallRef type_index) result self.new }
@@ -565,7 +496,6 @@ pub trait VisitOneByte: Visitor {
         self.visit_any(Operator::ReturnCallRef { type_index })
     }
 
-    /// Visits `RefAsNonNull`.
     #[inline(always)]
     fn visit_ref_as_non_null(&mut self) -> Self::Output
         ensures { Self.visits self.old Operator.RefAsNonNull result self.new }
@@ -573,7 +503,6 @@ pub trait VisitOneByte: Visitor {
         self.visit_any(Operator::RefAsNonNull)
     }
 
-    /// Visits `BrOnNull`.
     #[inline(always)]
     fn visit_br_on_null(&mut self, relative_depth: u32) -> Self::Output
         ensures { Self.visits self.old (Operator.BrOnNull relative_depth) result self.new }
@@ -581,7 +510,6 @@ pub trait VisitOneByte: Visitor {
         self.visit_any(Operator::BrOnNull { relative_depth })
     }
 
-    /// Visits `BrOnNonNull`.
     #[inline(always)]
     fn visit_br_on_non_null(&mut self, relative_depth: u32) -> Self::Output
         ensures { Self.visits self.old (Operator.BrOnNonNull relative_depth) result self.new }
@@ -589,7 +517,6 @@ pub trait VisitOneByte: Visitor {
         self.visit_any(Operator::BrOnNonNull { relative_depth })
     }
 
-    /// Visits `ContNew`.
     #[inline(always)]
     fn visit_cont_new(&mut self, cont_type_index: u32) -> Self::Output
         ensures { Self.visits self.old (Operator.ContNew cont_type_index) result self.new }
@@ -597,7 +524,6 @@ pub trait VisitOneByte: Visitor {
         self.visit_any(Operator::ContNew { cont_type_index })
     }
 
-    /// Visits `ContBind`.
     #[inline(always)]
     fn visit_cont_bind(&mut self, argument_index: u32, result_index: u32) -> Self::Output
         ensures { Self.visits self.old (Operator.ContBind argument_index result_index) result self.new }
@@ -608,7 +534,6 @@ pub trait VisitOneByte: Visitor {
         })
     }
 
-    /// Visits `Suspend`.
     #[inline(always)]
     fn visit_suspend(&mut self, tag_index: u32) -> Self::Output
         ensures { Self.visits self.old (Operator.Suspend tag_index) result self.new }
@@ -616,7 +541,6 @@ pub trait VisitOneByte: Visitor {
         self.visit_any(Operator::Suspend { tag_index })
     }
 
-    /// Visits `Resume`.
     #[inline(always)]
     fn visit_resume(&mut self, cont_type_index: u32, resume_table: ResumeTable) -> Self::Output
         ensures { Self.visits self.old (Operator.Resume cont_type_index resume_table) result self.new }
@@ -627,7 +551,6 @@ pub trait VisitOneByte: Visitor {
         })
     }
 
-    /// Visits `ResumeThrow`.
     #[inline(always)]
     fn visit_resume_throw(
         &mut self,
@@ -644,7 +567,6 @@ pub trait VisitOneByte: Visitor {
         })
     }
 
-    /// Visits `ResumeThrowRef`.
     #[inline(always)]
     fn visit_resume_throw_ref(
         &mut self,
@@ -659,7 +581,6 @@ pub trait VisitOneByte: Visitor {
         })
     }
 
-    /// Visits `Switch`.
     #[inline(always)]
     fn visit_switch(&mut self, cont_type_index: u32, tag_index: u32) -> Self::Output
         ensures { Self.visits self.old (Operator.Switch cont_type_index tag_index) result self.new }

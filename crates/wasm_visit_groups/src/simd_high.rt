@@ -1,19 +1,17 @@
-//! Visits of the SIMD operators from 0x80 on. Written by tools/lists.py from tools/operators.tsv.
+//! Written by tools/lists.py from tools/operators.tsv.
 ghost use Rattle.wasm_instr.specs.declared.operator.Operator.{Operator};
 ghost use Rattle.wasm_instr.specs.simd.simd.SimdOperator.{SimdOperator};
 
 use crate::visitor::Visitor;
 use wasm_instr::{Operator, SimdOperator};
 
-/// Visits of the SIMD operators with a subopcode of at least 0x80. Vector Instructions.
-///
-/// A visit passes its operator to `visit_any` unless it is overridden. Overridden visits are called
-/// only by methods of the visitor's `VisitSimdOperator` that name the group:
+/// Visits of the SIMD operators with a subopcode of at least 0x80. Specification: Vector
+/// Instructions. By default they call `visit_any`. Overridden visits run only if the visitor's
+/// `VisitSimdOperator` has these methods:
 ///
 /// - `dispatch_simd_high`, by `dispatch::simd_high(self, op)`
 /// - `decode_simd_high`, by `decode::simd_high(self, reader, start, code)`
 pub trait VisitSimdHigh: Visitor {
-    /// Visits `I64x2Eq`.
     #[inline(always)]
     fn visit_i64x2_eq(&mut self) -> Self::Output
         ensures { Self.visits self.old (Operator.Simd SimdOperator.I64x2Eq) result self.new }
@@ -21,7 +19,6 @@ pub trait VisitSimdHigh: Visitor {
         self.visit_any(Operator::Simd(SimdOperator::I64x2Eq))
     }
 
-    /// Visits `I64x2Ne`.
     #[inline(always)]
     fn visit_i64x2_ne(&mut self) -> Self::Output
         ensures { Self.visits self.old (Operator.Simd SimdOperator.I64x2Ne) result self.new }
@@ -29,7 +26,6 @@ pub trait VisitSimdHigh: Visitor {
         self.visit_any(Operator::Simd(SimdOperator::I64x2Ne))
     }
 
-    /// Visits `I64x2LtS`.
     #[inline(always)]
     fn visit_i64x2_lt_s(&mut self) -> Self::Output
         ensures { Self.visits self.old (Operator.Simd SimdOperator.I64x2LtS) result self.new }
@@ -37,7 +33,6 @@ pub trait VisitSimdHigh: Visitor {
         self.visit_any(Operator::Simd(SimdOperator::I64x2LtS))
     }
 
-    /// Visits `I64x2GtS`.
     #[inline(always)]
     fn visit_i64x2_gt_s(&mut self) -> Self::Output
         ensures { Self.visits self.old (Operator.Simd SimdOperator.I64x2GtS) result self.new }
@@ -45,7 +40,6 @@ pub trait VisitSimdHigh: Visitor {
         self.visit_any(Operator::Simd(SimdOperator::I64x2GtS))
     }
 
-    /// Visits `I64x2LeS`.
     #[inline(always)]
     fn visit_i64x2_le_s(&mut self) -> Self::Output
         ensures { Self.visits self.old (Operator.Simd SimdOperator.I64x2LeS) result self.new }
@@ -53,7 +47,6 @@ pub trait VisitSimdHigh: Visitor {
         self.visit_any(Operator::Simd(SimdOperator::I64x2LeS))
     }
 
-    /// Visits `I64x2GeS`.
     #[inline(always)]
     fn visit_i64x2_ge_s(&mut self) -> Self::Output
         ensures { Self.visits self.old (Operator.Simd SimdOperator.I64x2GeS) result self.new }
@@ -61,7 +54,6 @@ pub trait VisitSimdHigh: Visitor {
         self.visit_any(Operator::Simd(SimdOperator::I64x2GeS))
     }
 
-    /// Visits `I16x8Abs`.
     #[inline(always)]
     fn visit_i16x8_abs(&mut self) -> Self::Output
         ensures { Self.visits self.old (Operator.Simd SimdOperator.I16x8Abs) result self.new }
@@ -69,7 +61,6 @@ pub trait VisitSimdHigh: Visitor {
         self.visit_any(Operator::Simd(SimdOperator::I16x8Abs))
     }
 
-    /// Visits `I16x8Neg`.
     #[inline(always)]
     fn visit_i16x8_neg(&mut self) -> Self::Output
         ensures { Self.visits self.old (Operator.Simd SimdOperator.I16x8Neg) result self.new }
@@ -77,7 +68,6 @@ pub trait VisitSimdHigh: Visitor {
         self.visit_any(Operator::Simd(SimdOperator::I16x8Neg))
     }
 
-    /// Visits `I16x8Q15MulrSatS`.
     #[inline(always)]
     fn visit_i16x8_q15mulr_sat_s(&mut self) -> Self::Output
         ensures { Self.visits self.old (Operator.Simd SimdOperator.I16x8Q15MulrSatS) result self.new }
@@ -85,7 +75,6 @@ pub trait VisitSimdHigh: Visitor {
         self.visit_any(Operator::Simd(SimdOperator::I16x8Q15MulrSatS))
     }
 
-    /// Visits `I16x8AllTrue`.
     #[inline(always)]
     fn visit_i16x8_all_true(&mut self) -> Self::Output
         ensures { Self.visits self.old (Operator.Simd SimdOperator.I16x8AllTrue) result self.new }
@@ -93,7 +82,6 @@ pub trait VisitSimdHigh: Visitor {
         self.visit_any(Operator::Simd(SimdOperator::I16x8AllTrue))
     }
 
-    /// Visits `I16x8Bitmask`.
     #[inline(always)]
     fn visit_i16x8_bitmask(&mut self) -> Self::Output
         ensures { Self.visits self.old (Operator.Simd SimdOperator.I16x8Bitmask) result self.new }
@@ -101,7 +89,6 @@ pub trait VisitSimdHigh: Visitor {
         self.visit_any(Operator::Simd(SimdOperator::I16x8Bitmask))
     }
 
-    /// Visits `I16x8NarrowI32x4S`.
     #[inline(always)]
     fn visit_i16x8_narrow_i32x4_s(&mut self) -> Self::Output
         ensures { Self.visits self.old (Operator.Simd SimdOperator.I16x8NarrowI32x4S) result self.new }
@@ -109,7 +96,6 @@ pub trait VisitSimdHigh: Visitor {
         self.visit_any(Operator::Simd(SimdOperator::I16x8NarrowI32x4S))
     }
 
-    /// Visits `I16x8NarrowI32x4U`.
     #[inline(always)]
     fn visit_i16x8_narrow_i32x4_u(&mut self) -> Self::Output
         ensures { Self.visits self.old (Operator.Simd SimdOperator.I16x8NarrowI32x4U) result self.new }
@@ -117,7 +103,6 @@ pub trait VisitSimdHigh: Visitor {
         self.visit_any(Operator::Simd(SimdOperator::I16x8NarrowI32x4U))
     }
 
-    /// Visits `I16x8ExtendLowI8x16S`.
     #[inline(always)]
     fn visit_i16x8_extend_low_i8x16_s(&mut self) -> Self::Output
         ensures { Self.visits self.old (Operator.Simd SimdOperator.I16x8ExtendLowI8x16S) result self.new }
@@ -125,7 +110,6 @@ pub trait VisitSimdHigh: Visitor {
         self.visit_any(Operator::Simd(SimdOperator::I16x8ExtendLowI8x16S))
     }
 
-    /// Visits `I16x8ExtendHighI8x16S`.
     #[inline(always)]
     fn visit_i16x8_extend_high_i8x16_s(&mut self) -> Self::Output
         ensures { Self.visits self.old (Operator.Simd SimdOperator.I16x8ExtendHighI8x16S) result self.new }
@@ -133,7 +117,6 @@ pub trait VisitSimdHigh: Visitor {
         self.visit_any(Operator::Simd(SimdOperator::I16x8ExtendHighI8x16S))
     }
 
-    /// Visits `I16x8ExtendLowI8x16U`.
     #[inline(always)]
     fn visit_i16x8_extend_low_i8x16_u(&mut self) -> Self::Output
         ensures { Self.visits self.old (Operator.Simd SimdOperator.I16x8ExtendLowI8x16U) result self.new }
@@ -141,7 +124,6 @@ pub trait VisitSimdHigh: Visitor {
         self.visit_any(Operator::Simd(SimdOperator::I16x8ExtendLowI8x16U))
     }
 
-    /// Visits `I16x8ExtendHighI8x16U`.
     #[inline(always)]
     fn visit_i16x8_extend_high_i8x16_u(&mut self) -> Self::Output
         ensures { Self.visits self.old (Operator.Simd SimdOperator.I16x8ExtendHighI8x16U) result self.new }
@@ -149,7 +131,6 @@ pub trait VisitSimdHigh: Visitor {
         self.visit_any(Operator::Simd(SimdOperator::I16x8ExtendHighI8x16U))
     }
 
-    /// Visits `I16x8Shl`.
     #[inline(always)]
     fn visit_i16x8_shl(&mut self) -> Self::Output
         ensures { Self.visits self.old (Operator.Simd SimdOperator.I16x8Shl) result self.new }
@@ -157,7 +138,6 @@ pub trait VisitSimdHigh: Visitor {
         self.visit_any(Operator::Simd(SimdOperator::I16x8Shl))
     }
 
-    /// Visits `I16x8ShrS`.
     #[inline(always)]
     fn visit_i16x8_shr_s(&mut self) -> Self::Output
         ensures { Self.visits self.old (Operator.Simd SimdOperator.I16x8ShrS) result self.new }
@@ -165,7 +145,6 @@ pub trait VisitSimdHigh: Visitor {
         self.visit_any(Operator::Simd(SimdOperator::I16x8ShrS))
     }
 
-    /// Visits `I16x8ShrU`.
     #[inline(always)]
     fn visit_i16x8_shr_u(&mut self) -> Self::Output
         ensures { Self.visits self.old (Operator.Simd SimdOperator.I16x8ShrU) result self.new }
@@ -173,7 +152,6 @@ pub trait VisitSimdHigh: Visitor {
         self.visit_any(Operator::Simd(SimdOperator::I16x8ShrU))
     }
 
-    /// Visits `I16x8Add`.
     #[inline(always)]
     fn visit_i16x8_add(&mut self) -> Self::Output
         ensures { Self.visits self.old (Operator.Simd SimdOperator.I16x8Add) result self.new }
@@ -181,7 +159,6 @@ pub trait VisitSimdHigh: Visitor {
         self.visit_any(Operator::Simd(SimdOperator::I16x8Add))
     }
 
-    /// Visits `I16x8AddSatS`.
     #[inline(always)]
     fn visit_i16x8_add_sat_s(&mut self) -> Self::Output
         ensures { Self.visits self.old (Operator.Simd SimdOperator.I16x8AddSatS) result self.new }
@@ -189,7 +166,6 @@ pub trait VisitSimdHigh: Visitor {
         self.visit_any(Operator::Simd(SimdOperator::I16x8AddSatS))
     }
 
-    /// Visits `I16x8AddSatU`.
     #[inline(always)]
     fn visit_i16x8_add_sat_u(&mut self) -> Self::Output
         ensures { Self.visits self.old (Operator.Simd SimdOperator.I16x8AddSatU) result self.new }
@@ -197,7 +173,6 @@ pub trait VisitSimdHigh: Visitor {
         self.visit_any(Operator::Simd(SimdOperator::I16x8AddSatU))
     }
 
-    /// Visits `I16x8Sub`.
     #[inline(always)]
     fn visit_i16x8_sub(&mut self) -> Self::Output
         ensures { Self.visits self.old (Operator.Simd SimdOperator.I16x8Sub) result self.new }
@@ -205,7 +180,6 @@ pub trait VisitSimdHigh: Visitor {
         self.visit_any(Operator::Simd(SimdOperator::I16x8Sub))
     }
 
-    /// Visits `I16x8SubSatS`.
     #[inline(always)]
     fn visit_i16x8_sub_sat_s(&mut self) -> Self::Output
         ensures { Self.visits self.old (Operator.Simd SimdOperator.I16x8SubSatS) result self.new }
@@ -213,7 +187,6 @@ pub trait VisitSimdHigh: Visitor {
         self.visit_any(Operator::Simd(SimdOperator::I16x8SubSatS))
     }
 
-    /// Visits `I16x8SubSatU`.
     #[inline(always)]
     fn visit_i16x8_sub_sat_u(&mut self) -> Self::Output
         ensures { Self.visits self.old (Operator.Simd SimdOperator.I16x8SubSatU) result self.new }
@@ -221,7 +194,6 @@ pub trait VisitSimdHigh: Visitor {
         self.visit_any(Operator::Simd(SimdOperator::I16x8SubSatU))
     }
 
-    /// Visits `I16x8Mul`.
     #[inline(always)]
     fn visit_i16x8_mul(&mut self) -> Self::Output
         ensures { Self.visits self.old (Operator.Simd SimdOperator.I16x8Mul) result self.new }
@@ -229,7 +201,6 @@ pub trait VisitSimdHigh: Visitor {
         self.visit_any(Operator::Simd(SimdOperator::I16x8Mul))
     }
 
-    /// Visits `I16x8MinS`.
     #[inline(always)]
     fn visit_i16x8_min_s(&mut self) -> Self::Output
         ensures { Self.visits self.old (Operator.Simd SimdOperator.I16x8MinS) result self.new }
@@ -237,7 +208,6 @@ pub trait VisitSimdHigh: Visitor {
         self.visit_any(Operator::Simd(SimdOperator::I16x8MinS))
     }
 
-    /// Visits `I16x8MinU`.
     #[inline(always)]
     fn visit_i16x8_min_u(&mut self) -> Self::Output
         ensures { Self.visits self.old (Operator.Simd SimdOperator.I16x8MinU) result self.new }
@@ -245,7 +215,6 @@ pub trait VisitSimdHigh: Visitor {
         self.visit_any(Operator::Simd(SimdOperator::I16x8MinU))
     }
 
-    /// Visits `I16x8MaxS`.
     #[inline(always)]
     fn visit_i16x8_max_s(&mut self) -> Self::Output
         ensures { Self.visits self.old (Operator.Simd SimdOperator.I16x8MaxS) result self.new }
@@ -253,7 +222,6 @@ pub trait VisitSimdHigh: Visitor {
         self.visit_any(Operator::Simd(SimdOperator::I16x8MaxS))
     }
 
-    /// Visits `I16x8MaxU`.
     #[inline(always)]
     fn visit_i16x8_max_u(&mut self) -> Self::Output
         ensures { Self.visits self.old (Operator.Simd SimdOperator.I16x8MaxU) result self.new }
@@ -261,7 +229,6 @@ pub trait VisitSimdHigh: Visitor {
         self.visit_any(Operator::Simd(SimdOperator::I16x8MaxU))
     }
 
-    /// Visits `I16x8AvgrU`.
     #[inline(always)]
     fn visit_i16x8_avgr_u(&mut self) -> Self::Output
         ensures { Self.visits self.old (Operator.Simd SimdOperator.I16x8AvgrU) result self.new }
@@ -269,7 +236,6 @@ pub trait VisitSimdHigh: Visitor {
         self.visit_any(Operator::Simd(SimdOperator::I16x8AvgrU))
     }
 
-    /// Visits `I16x8ExtMulLowI8x16S`.
     #[inline(always)]
     fn visit_i16x8_extmul_low_i8x16_s(&mut self) -> Self::Output
         ensures { Self.visits self.old (Operator.Simd SimdOperator.I16x8ExtMulLowI8x16S) result self.new }
@@ -277,7 +243,6 @@ pub trait VisitSimdHigh: Visitor {
         self.visit_any(Operator::Simd(SimdOperator::I16x8ExtMulLowI8x16S))
     }
 
-    /// Visits `I16x8ExtMulHighI8x16S`.
     #[inline(always)]
     fn visit_i16x8_extmul_high_i8x16_s(&mut self) -> Self::Output
         ensures { Self.visits self.old (Operator.Simd SimdOperator.I16x8ExtMulHighI8x16S) result self.new }
@@ -285,7 +250,6 @@ pub trait VisitSimdHigh: Visitor {
         self.visit_any(Operator::Simd(SimdOperator::I16x8ExtMulHighI8x16S))
     }
 
-    /// Visits `I16x8ExtMulLowI8x16U`.
     #[inline(always)]
     fn visit_i16x8_extmul_low_i8x16_u(&mut self) -> Self::Output
         ensures { Self.visits self.old (Operator.Simd SimdOperator.I16x8ExtMulLowI8x16U) result self.new }
@@ -293,7 +257,6 @@ pub trait VisitSimdHigh: Visitor {
         self.visit_any(Operator::Simd(SimdOperator::I16x8ExtMulLowI8x16U))
     }
 
-    /// Visits `I16x8ExtMulHighI8x16U`.
     #[inline(always)]
     fn visit_i16x8_extmul_high_i8x16_u(&mut self) -> Self::Output
         ensures { Self.visits self.old (Operator.Simd SimdOperator.I16x8ExtMulHighI8x16U) result self.new }
@@ -301,7 +264,6 @@ pub trait VisitSimdHigh: Visitor {
         self.visit_any(Operator::Simd(SimdOperator::I16x8ExtMulHighI8x16U))
     }
 
-    /// Visits `I32x4Abs`.
     #[inline(always)]
     fn visit_i32x4_abs(&mut self) -> Self::Output
         ensures { Self.visits self.old (Operator.Simd SimdOperator.I32x4Abs) result self.new }
@@ -309,7 +271,6 @@ pub trait VisitSimdHigh: Visitor {
         self.visit_any(Operator::Simd(SimdOperator::I32x4Abs))
     }
 
-    /// Visits `I32x4Neg`.
     #[inline(always)]
     fn visit_i32x4_neg(&mut self) -> Self::Output
         ensures { Self.visits self.old (Operator.Simd SimdOperator.I32x4Neg) result self.new }
@@ -317,7 +278,6 @@ pub trait VisitSimdHigh: Visitor {
         self.visit_any(Operator::Simd(SimdOperator::I32x4Neg))
     }
 
-    /// Visits `I32x4AllTrue`.
     #[inline(always)]
     fn visit_i32x4_all_true(&mut self) -> Self::Output
         ensures { Self.visits self.old (Operator.Simd SimdOperator.I32x4AllTrue) result self.new }
@@ -325,7 +285,6 @@ pub trait VisitSimdHigh: Visitor {
         self.visit_any(Operator::Simd(SimdOperator::I32x4AllTrue))
     }
 
-    /// Visits `I32x4Bitmask`.
     #[inline(always)]
     fn visit_i32x4_bitmask(&mut self) -> Self::Output
         ensures { Self.visits self.old (Operator.Simd SimdOperator.I32x4Bitmask) result self.new }
@@ -333,7 +292,6 @@ pub trait VisitSimdHigh: Visitor {
         self.visit_any(Operator::Simd(SimdOperator::I32x4Bitmask))
     }
 
-    /// Visits `I32x4ExtendLowI16x8S`.
     #[inline(always)]
     fn visit_i32x4_extend_low_i16x8_s(&mut self) -> Self::Output
         ensures { Self.visits self.old (Operator.Simd SimdOperator.I32x4ExtendLowI16x8S) result self.new }
@@ -341,7 +299,6 @@ pub trait VisitSimdHigh: Visitor {
         self.visit_any(Operator::Simd(SimdOperator::I32x4ExtendLowI16x8S))
     }
 
-    /// Visits `I32x4ExtendHighI16x8S`.
     #[inline(always)]
     fn visit_i32x4_extend_high_i16x8_s(&mut self) -> Self::Output
         ensures { Self.visits self.old (Operator.Simd SimdOperator.I32x4ExtendHighI16x8S) result self.new }
@@ -349,7 +306,6 @@ pub trait VisitSimdHigh: Visitor {
         self.visit_any(Operator::Simd(SimdOperator::I32x4ExtendHighI16x8S))
     }
 
-    /// Visits `I32x4ExtendLowI16x8U`.
     #[inline(always)]
     fn visit_i32x4_extend_low_i16x8_u(&mut self) -> Self::Output
         ensures { Self.visits self.old (Operator.Simd SimdOperator.I32x4ExtendLowI16x8U) result self.new }
@@ -357,7 +313,6 @@ pub trait VisitSimdHigh: Visitor {
         self.visit_any(Operator::Simd(SimdOperator::I32x4ExtendLowI16x8U))
     }
 
-    /// Visits `I32x4ExtendHighI16x8U`.
     #[inline(always)]
     fn visit_i32x4_extend_high_i16x8_u(&mut self) -> Self::Output
         ensures { Self.visits self.old (Operator.Simd SimdOperator.I32x4ExtendHighI16x8U) result self.new }
@@ -365,7 +320,6 @@ pub trait VisitSimdHigh: Visitor {
         self.visit_any(Operator::Simd(SimdOperator::I32x4ExtendHighI16x8U))
     }
 
-    /// Visits `I32x4Shl`.
     #[inline(always)]
     fn visit_i32x4_shl(&mut self) -> Self::Output
         ensures { Self.visits self.old (Operator.Simd SimdOperator.I32x4Shl) result self.new }
@@ -373,7 +327,6 @@ pub trait VisitSimdHigh: Visitor {
         self.visit_any(Operator::Simd(SimdOperator::I32x4Shl))
     }
 
-    /// Visits `I32x4ShrS`.
     #[inline(always)]
     fn visit_i32x4_shr_s(&mut self) -> Self::Output
         ensures { Self.visits self.old (Operator.Simd SimdOperator.I32x4ShrS) result self.new }
@@ -381,7 +334,6 @@ pub trait VisitSimdHigh: Visitor {
         self.visit_any(Operator::Simd(SimdOperator::I32x4ShrS))
     }
 
-    /// Visits `I32x4ShrU`.
     #[inline(always)]
     fn visit_i32x4_shr_u(&mut self) -> Self::Output
         ensures { Self.visits self.old (Operator.Simd SimdOperator.I32x4ShrU) result self.new }
@@ -389,7 +341,6 @@ pub trait VisitSimdHigh: Visitor {
         self.visit_any(Operator::Simd(SimdOperator::I32x4ShrU))
     }
 
-    /// Visits `I32x4Add`.
     #[inline(always)]
     fn visit_i32x4_add(&mut self) -> Self::Output
         ensures { Self.visits self.old (Operator.Simd SimdOperator.I32x4Add) result self.new }
@@ -397,7 +348,6 @@ pub trait VisitSimdHigh: Visitor {
         self.visit_any(Operator::Simd(SimdOperator::I32x4Add))
     }
 
-    /// Visits `I32x4Sub`.
     #[inline(always)]
     fn visit_i32x4_sub(&mut self) -> Self::Output
         ensures { Self.visits self.old (Operator.Simd SimdOperator.I32x4Sub) result self.new }
@@ -405,7 +355,6 @@ pub trait VisitSimdHigh: Visitor {
         self.visit_any(Operator::Simd(SimdOperator::I32x4Sub))
     }
 
-    /// Visits `I32x4Mul`.
     #[inline(always)]
     fn visit_i32x4_mul(&mut self) -> Self::Output
         ensures { Self.visits self.old (Operator.Simd SimdOperator.I32x4Mul) result self.new }
@@ -413,7 +362,6 @@ pub trait VisitSimdHigh: Visitor {
         self.visit_any(Operator::Simd(SimdOperator::I32x4Mul))
     }
 
-    /// Visits `I32x4MinS`.
     #[inline(always)]
     fn visit_i32x4_min_s(&mut self) -> Self::Output
         ensures { Self.visits self.old (Operator.Simd SimdOperator.I32x4MinS) result self.new }
@@ -421,7 +369,6 @@ pub trait VisitSimdHigh: Visitor {
         self.visit_any(Operator::Simd(SimdOperator::I32x4MinS))
     }
 
-    /// Visits `I32x4MinU`.
     #[inline(always)]
     fn visit_i32x4_min_u(&mut self) -> Self::Output
         ensures { Self.visits self.old (Operator.Simd SimdOperator.I32x4MinU) result self.new }
@@ -429,7 +376,6 @@ pub trait VisitSimdHigh: Visitor {
         self.visit_any(Operator::Simd(SimdOperator::I32x4MinU))
     }
 
-    /// Visits `I32x4MaxS`.
     #[inline(always)]
     fn visit_i32x4_max_s(&mut self) -> Self::Output
         ensures { Self.visits self.old (Operator.Simd SimdOperator.I32x4MaxS) result self.new }
@@ -437,7 +383,6 @@ pub trait VisitSimdHigh: Visitor {
         self.visit_any(Operator::Simd(SimdOperator::I32x4MaxS))
     }
 
-    /// Visits `I32x4MaxU`.
     #[inline(always)]
     fn visit_i32x4_max_u(&mut self) -> Self::Output
         ensures { Self.visits self.old (Operator.Simd SimdOperator.I32x4MaxU) result self.new }
@@ -445,7 +390,6 @@ pub trait VisitSimdHigh: Visitor {
         self.visit_any(Operator::Simd(SimdOperator::I32x4MaxU))
     }
 
-    /// Visits `I32x4DotI16x8S`.
     #[inline(always)]
     fn visit_i32x4_dot_i16x8_s(&mut self) -> Self::Output
         ensures { Self.visits self.old (Operator.Simd SimdOperator.I32x4DotI16x8S) result self.new }
@@ -453,7 +397,6 @@ pub trait VisitSimdHigh: Visitor {
         self.visit_any(Operator::Simd(SimdOperator::I32x4DotI16x8S))
     }
 
-    /// Visits `I32x4ExtMulLowI16x8S`.
     #[inline(always)]
     fn visit_i32x4_extmul_low_i16x8_s(&mut self) -> Self::Output
         ensures { Self.visits self.old (Operator.Simd SimdOperator.I32x4ExtMulLowI16x8S) result self.new }
@@ -461,7 +404,6 @@ pub trait VisitSimdHigh: Visitor {
         self.visit_any(Operator::Simd(SimdOperator::I32x4ExtMulLowI16x8S))
     }
 
-    /// Visits `I32x4ExtMulHighI16x8S`.
     #[inline(always)]
     fn visit_i32x4_extmul_high_i16x8_s(&mut self) -> Self::Output
         ensures { Self.visits self.old (Operator.Simd SimdOperator.I32x4ExtMulHighI16x8S) result self.new }
@@ -469,7 +411,6 @@ pub trait VisitSimdHigh: Visitor {
         self.visit_any(Operator::Simd(SimdOperator::I32x4ExtMulHighI16x8S))
     }
 
-    /// Visits `I32x4ExtMulLowI16x8U`.
     #[inline(always)]
     fn visit_i32x4_extmul_low_i16x8_u(&mut self) -> Self::Output
         ensures { Self.visits self.old (Operator.Simd SimdOperator.I32x4ExtMulLowI16x8U) result self.new }
@@ -477,7 +418,6 @@ pub trait VisitSimdHigh: Visitor {
         self.visit_any(Operator::Simd(SimdOperator::I32x4ExtMulLowI16x8U))
     }
 
-    /// Visits `I32x4ExtMulHighI16x8U`.
     #[inline(always)]
     fn visit_i32x4_extmul_high_i16x8_u(&mut self) -> Self::Output
         ensures { Self.visits self.old (Operator.Simd SimdOperator.I32x4ExtMulHighI16x8U) result self.new }
@@ -485,7 +425,6 @@ pub trait VisitSimdHigh: Visitor {
         self.visit_any(Operator::Simd(SimdOperator::I32x4ExtMulHighI16x8U))
     }
 
-    /// Visits `I64x2Abs`.
     #[inline(always)]
     fn visit_i64x2_abs(&mut self) -> Self::Output
         ensures { Self.visits self.old (Operator.Simd SimdOperator.I64x2Abs) result self.new }
@@ -493,7 +432,6 @@ pub trait VisitSimdHigh: Visitor {
         self.visit_any(Operator::Simd(SimdOperator::I64x2Abs))
     }
 
-    /// Visits `I64x2Neg`.
     #[inline(always)]
     fn visit_i64x2_neg(&mut self) -> Self::Output
         ensures { Self.visits self.old (Operator.Simd SimdOperator.I64x2Neg) result self.new }
@@ -501,7 +439,6 @@ pub trait VisitSimdHigh: Visitor {
         self.visit_any(Operator::Simd(SimdOperator::I64x2Neg))
     }
 
-    /// Visits `I64x2AllTrue`.
     #[inline(always)]
     fn visit_i64x2_all_true(&mut self) -> Self::Output
         ensures { Self.visits self.old (Operator.Simd SimdOperator.I64x2AllTrue) result self.new }
@@ -509,7 +446,6 @@ pub trait VisitSimdHigh: Visitor {
         self.visit_any(Operator::Simd(SimdOperator::I64x2AllTrue))
     }
 
-    /// Visits `I64x2Bitmask`.
     #[inline(always)]
     fn visit_i64x2_bitmask(&mut self) -> Self::Output
         ensures { Self.visits self.old (Operator.Simd SimdOperator.I64x2Bitmask) result self.new }
@@ -517,7 +453,6 @@ pub trait VisitSimdHigh: Visitor {
         self.visit_any(Operator::Simd(SimdOperator::I64x2Bitmask))
     }
 
-    /// Visits `I64x2ExtendLowI32x4S`.
     #[inline(always)]
     fn visit_i64x2_extend_low_i32x4_s(&mut self) -> Self::Output
         ensures { Self.visits self.old (Operator.Simd SimdOperator.I64x2ExtendLowI32x4S) result self.new }
@@ -525,7 +460,6 @@ pub trait VisitSimdHigh: Visitor {
         self.visit_any(Operator::Simd(SimdOperator::I64x2ExtendLowI32x4S))
     }
 
-    /// Visits `I64x2ExtendHighI32x4S`.
     #[inline(always)]
     fn visit_i64x2_extend_high_i32x4_s(&mut self) -> Self::Output
         ensures { Self.visits self.old (Operator.Simd SimdOperator.I64x2ExtendHighI32x4S) result self.new }
@@ -533,7 +467,6 @@ pub trait VisitSimdHigh: Visitor {
         self.visit_any(Operator::Simd(SimdOperator::I64x2ExtendHighI32x4S))
     }
 
-    /// Visits `I64x2ExtendLowI32x4U`.
     #[inline(always)]
     fn visit_i64x2_extend_low_i32x4_u(&mut self) -> Self::Output
         ensures { Self.visits self.old (Operator.Simd SimdOperator.I64x2ExtendLowI32x4U) result self.new }
@@ -541,7 +474,6 @@ pub trait VisitSimdHigh: Visitor {
         self.visit_any(Operator::Simd(SimdOperator::I64x2ExtendLowI32x4U))
     }
 
-    /// Visits `I64x2ExtendHighI32x4U`.
     #[inline(always)]
     fn visit_i64x2_extend_high_i32x4_u(&mut self) -> Self::Output
         ensures { Self.visits self.old (Operator.Simd SimdOperator.I64x2ExtendHighI32x4U) result self.new }
@@ -549,7 +481,6 @@ pub trait VisitSimdHigh: Visitor {
         self.visit_any(Operator::Simd(SimdOperator::I64x2ExtendHighI32x4U))
     }
 
-    /// Visits `I64x2Shl`.
     #[inline(always)]
     fn visit_i64x2_shl(&mut self) -> Self::Output
         ensures { Self.visits self.old (Operator.Simd SimdOperator.I64x2Shl) result self.new }
@@ -557,7 +488,6 @@ pub trait VisitSimdHigh: Visitor {
         self.visit_any(Operator::Simd(SimdOperator::I64x2Shl))
     }
 
-    /// Visits `I64x2ShrS`.
     #[inline(always)]
     fn visit_i64x2_shr_s(&mut self) -> Self::Output
         ensures { Self.visits self.old (Operator.Simd SimdOperator.I64x2ShrS) result self.new }
@@ -565,7 +495,6 @@ pub trait VisitSimdHigh: Visitor {
         self.visit_any(Operator::Simd(SimdOperator::I64x2ShrS))
     }
 
-    /// Visits `I64x2ShrU`.
     #[inline(always)]
     fn visit_i64x2_shr_u(&mut self) -> Self::Output
         ensures { Self.visits self.old (Operator.Simd SimdOperator.I64x2ShrU) result self.new }
@@ -573,7 +502,6 @@ pub trait VisitSimdHigh: Visitor {
         self.visit_any(Operator::Simd(SimdOperator::I64x2ShrU))
     }
 
-    /// Visits `I64x2Add`.
     #[inline(always)]
     fn visit_i64x2_add(&mut self) -> Self::Output
         ensures { Self.visits self.old (Operator.Simd SimdOperator.I64x2Add) result self.new }
@@ -581,7 +509,6 @@ pub trait VisitSimdHigh: Visitor {
         self.visit_any(Operator::Simd(SimdOperator::I64x2Add))
     }
 
-    /// Visits `I64x2Sub`.
     #[inline(always)]
     fn visit_i64x2_sub(&mut self) -> Self::Output
         ensures { Self.visits self.old (Operator.Simd SimdOperator.I64x2Sub) result self.new }
@@ -589,7 +516,6 @@ pub trait VisitSimdHigh: Visitor {
         self.visit_any(Operator::Simd(SimdOperator::I64x2Sub))
     }
 
-    /// Visits `I64x2Mul`.
     #[inline(always)]
     fn visit_i64x2_mul(&mut self) -> Self::Output
         ensures { Self.visits self.old (Operator.Simd SimdOperator.I64x2Mul) result self.new }
@@ -597,7 +523,6 @@ pub trait VisitSimdHigh: Visitor {
         self.visit_any(Operator::Simd(SimdOperator::I64x2Mul))
     }
 
-    /// Visits `I64x2ExtMulLowI32x4S`.
     #[inline(always)]
     fn visit_i64x2_extmul_low_i32x4_s(&mut self) -> Self::Output
         ensures { Self.visits self.old (Operator.Simd SimdOperator.I64x2ExtMulLowI32x4S) result self.new }
@@ -605,7 +530,6 @@ pub trait VisitSimdHigh: Visitor {
         self.visit_any(Operator::Simd(SimdOperator::I64x2ExtMulLowI32x4S))
     }
 
-    /// Visits `I64x2ExtMulHighI32x4S`.
     #[inline(always)]
     fn visit_i64x2_extmul_high_i32x4_s(&mut self) -> Self::Output
         ensures { Self.visits self.old (Operator.Simd SimdOperator.I64x2ExtMulHighI32x4S) result self.new }
@@ -613,7 +537,6 @@ pub trait VisitSimdHigh: Visitor {
         self.visit_any(Operator::Simd(SimdOperator::I64x2ExtMulHighI32x4S))
     }
 
-    /// Visits `I64x2ExtMulLowI32x4U`.
     #[inline(always)]
     fn visit_i64x2_extmul_low_i32x4_u(&mut self) -> Self::Output
         ensures { Self.visits self.old (Operator.Simd SimdOperator.I64x2ExtMulLowI32x4U) result self.new }
@@ -621,7 +544,6 @@ pub trait VisitSimdHigh: Visitor {
         self.visit_any(Operator::Simd(SimdOperator::I64x2ExtMulLowI32x4U))
     }
 
-    /// Visits `I64x2ExtMulHighI32x4U`.
     #[inline(always)]
     fn visit_i64x2_extmul_high_i32x4_u(&mut self) -> Self::Output
         ensures { Self.visits self.old (Operator.Simd SimdOperator.I64x2ExtMulHighI32x4U) result self.new }
@@ -629,7 +551,6 @@ pub trait VisitSimdHigh: Visitor {
         self.visit_any(Operator::Simd(SimdOperator::I64x2ExtMulHighI32x4U))
     }
 
-    /// Visits `F32x4Abs`.
     #[inline(always)]
     fn visit_f32x4_abs(&mut self) -> Self::Output
         ensures { Self.visits self.old (Operator.Simd SimdOperator.F32x4Abs) result self.new }
@@ -637,7 +558,6 @@ pub trait VisitSimdHigh: Visitor {
         self.visit_any(Operator::Simd(SimdOperator::F32x4Abs))
     }
 
-    /// Visits `F32x4Neg`.
     #[inline(always)]
     fn visit_f32x4_neg(&mut self) -> Self::Output
         ensures { Self.visits self.old (Operator.Simd SimdOperator.F32x4Neg) result self.new }
@@ -645,7 +565,6 @@ pub trait VisitSimdHigh: Visitor {
         self.visit_any(Operator::Simd(SimdOperator::F32x4Neg))
     }
 
-    /// Visits `F32x4Sqrt`.
     #[inline(always)]
     fn visit_f32x4_sqrt(&mut self) -> Self::Output
         ensures { Self.visits self.old (Operator.Simd SimdOperator.F32x4Sqrt) result self.new }
@@ -653,7 +572,6 @@ pub trait VisitSimdHigh: Visitor {
         self.visit_any(Operator::Simd(SimdOperator::F32x4Sqrt))
     }
 
-    /// Visits `F32x4Add`.
     #[inline(always)]
     fn visit_f32x4_add(&mut self) -> Self::Output
         ensures { Self.visits self.old (Operator.Simd SimdOperator.F32x4Add) result self.new }
@@ -661,7 +579,6 @@ pub trait VisitSimdHigh: Visitor {
         self.visit_any(Operator::Simd(SimdOperator::F32x4Add))
     }
 
-    /// Visits `F32x4Sub`.
     #[inline(always)]
     fn visit_f32x4_sub(&mut self) -> Self::Output
         ensures { Self.visits self.old (Operator.Simd SimdOperator.F32x4Sub) result self.new }
@@ -669,7 +586,6 @@ pub trait VisitSimdHigh: Visitor {
         self.visit_any(Operator::Simd(SimdOperator::F32x4Sub))
     }
 
-    /// Visits `F32x4Mul`.
     #[inline(always)]
     fn visit_f32x4_mul(&mut self) -> Self::Output
         ensures { Self.visits self.old (Operator.Simd SimdOperator.F32x4Mul) result self.new }
@@ -677,7 +593,6 @@ pub trait VisitSimdHigh: Visitor {
         self.visit_any(Operator::Simd(SimdOperator::F32x4Mul))
     }
 
-    /// Visits `F32x4Div`.
     #[inline(always)]
     fn visit_f32x4_div(&mut self) -> Self::Output
         ensures { Self.visits self.old (Operator.Simd SimdOperator.F32x4Div) result self.new }
@@ -685,7 +600,6 @@ pub trait VisitSimdHigh: Visitor {
         self.visit_any(Operator::Simd(SimdOperator::F32x4Div))
     }
 
-    /// Visits `F32x4Min`.
     #[inline(always)]
     fn visit_f32x4_min(&mut self) -> Self::Output
         ensures { Self.visits self.old (Operator.Simd SimdOperator.F32x4Min) result self.new }
@@ -693,7 +607,6 @@ pub trait VisitSimdHigh: Visitor {
         self.visit_any(Operator::Simd(SimdOperator::F32x4Min))
     }
 
-    /// Visits `F32x4Max`.
     #[inline(always)]
     fn visit_f32x4_max(&mut self) -> Self::Output
         ensures { Self.visits self.old (Operator.Simd SimdOperator.F32x4Max) result self.new }
@@ -701,7 +614,6 @@ pub trait VisitSimdHigh: Visitor {
         self.visit_any(Operator::Simd(SimdOperator::F32x4Max))
     }
 
-    /// Visits `F32x4PMin`.
     #[inline(always)]
     fn visit_f32x4_pmin(&mut self) -> Self::Output
         ensures { Self.visits self.old (Operator.Simd SimdOperator.F32x4PMin) result self.new }
@@ -709,7 +621,6 @@ pub trait VisitSimdHigh: Visitor {
         self.visit_any(Operator::Simd(SimdOperator::F32x4PMin))
     }
 
-    /// Visits `F32x4PMax`.
     #[inline(always)]
     fn visit_f32x4_pmax(&mut self) -> Self::Output
         ensures { Self.visits self.old (Operator.Simd SimdOperator.F32x4PMax) result self.new }
@@ -717,7 +628,6 @@ pub trait VisitSimdHigh: Visitor {
         self.visit_any(Operator::Simd(SimdOperator::F32x4PMax))
     }
 
-    /// Visits `F64x2Nearest`.
     #[inline(always)]
     fn visit_f64x2_nearest(&mut self) -> Self::Output
         ensures { Self.visits self.old (Operator.Simd SimdOperator.F64x2Nearest) result self.new }
@@ -725,7 +635,6 @@ pub trait VisitSimdHigh: Visitor {
         self.visit_any(Operator::Simd(SimdOperator::F64x2Nearest))
     }
 
-    /// Visits `F64x2Abs`.
     #[inline(always)]
     fn visit_f64x2_abs(&mut self) -> Self::Output
         ensures { Self.visits self.old (Operator.Simd SimdOperator.F64x2Abs) result self.new }
@@ -733,7 +642,6 @@ pub trait VisitSimdHigh: Visitor {
         self.visit_any(Operator::Simd(SimdOperator::F64x2Abs))
     }
 
-    /// Visits `F64x2Neg`.
     #[inline(always)]
     fn visit_f64x2_neg(&mut self) -> Self::Output
         ensures { Self.visits self.old (Operator.Simd SimdOperator.F64x2Neg) result self.new }
@@ -741,7 +649,6 @@ pub trait VisitSimdHigh: Visitor {
         self.visit_any(Operator::Simd(SimdOperator::F64x2Neg))
     }
 
-    /// Visits `F64x2Sqrt`.
     #[inline(always)]
     fn visit_f64x2_sqrt(&mut self) -> Self::Output
         ensures { Self.visits self.old (Operator.Simd SimdOperator.F64x2Sqrt) result self.new }
@@ -749,7 +656,6 @@ pub trait VisitSimdHigh: Visitor {
         self.visit_any(Operator::Simd(SimdOperator::F64x2Sqrt))
     }
 
-    /// Visits `F64x2Add`.
     #[inline(always)]
     fn visit_f64x2_add(&mut self) -> Self::Output
         ensures { Self.visits self.old (Operator.Simd SimdOperator.F64x2Add) result self.new }
@@ -757,7 +663,6 @@ pub trait VisitSimdHigh: Visitor {
         self.visit_any(Operator::Simd(SimdOperator::F64x2Add))
     }
 
-    /// Visits `F64x2Sub`.
     #[inline(always)]
     fn visit_f64x2_sub(&mut self) -> Self::Output
         ensures { Self.visits self.old (Operator.Simd SimdOperator.F64x2Sub) result self.new }
@@ -765,7 +670,6 @@ pub trait VisitSimdHigh: Visitor {
         self.visit_any(Operator::Simd(SimdOperator::F64x2Sub))
     }
 
-    /// Visits `F64x2Mul`.
     #[inline(always)]
     fn visit_f64x2_mul(&mut self) -> Self::Output
         ensures { Self.visits self.old (Operator.Simd SimdOperator.F64x2Mul) result self.new }
@@ -773,7 +677,6 @@ pub trait VisitSimdHigh: Visitor {
         self.visit_any(Operator::Simd(SimdOperator::F64x2Mul))
     }
 
-    /// Visits `F64x2Div`.
     #[inline(always)]
     fn visit_f64x2_div(&mut self) -> Self::Output
         ensures { Self.visits self.old (Operator.Simd SimdOperator.F64x2Div) result self.new }
@@ -781,7 +684,6 @@ pub trait VisitSimdHigh: Visitor {
         self.visit_any(Operator::Simd(SimdOperator::F64x2Div))
     }
 
-    /// Visits `F64x2Min`.
     #[inline(always)]
     fn visit_f64x2_min(&mut self) -> Self::Output
         ensures { Self.visits self.old (Operator.Simd SimdOperator.F64x2Min) result self.new }
@@ -789,7 +691,6 @@ pub trait VisitSimdHigh: Visitor {
         self.visit_any(Operator::Simd(SimdOperator::F64x2Min))
     }
 
-    /// Visits `F64x2Max`.
     #[inline(always)]
     fn visit_f64x2_max(&mut self) -> Self::Output
         ensures { Self.visits self.old (Operator.Simd SimdOperator.F64x2Max) result self.new }
@@ -797,7 +698,6 @@ pub trait VisitSimdHigh: Visitor {
         self.visit_any(Operator::Simd(SimdOperator::F64x2Max))
     }
 
-    /// Visits `F64x2PMin`.
     #[inline(always)]
     fn visit_f64x2_pmin(&mut self) -> Self::Output
         ensures { Self.visits self.old (Operator.Simd SimdOperator.F64x2PMin) result self.new }
@@ -805,7 +705,6 @@ pub trait VisitSimdHigh: Visitor {
         self.visit_any(Operator::Simd(SimdOperator::F64x2PMin))
     }
 
-    /// Visits `F64x2PMax`.
     #[inline(always)]
     fn visit_f64x2_pmax(&mut self) -> Self::Output
         ensures { Self.visits self.old (Operator.Simd SimdOperator.F64x2PMax) result self.new }
@@ -813,7 +712,6 @@ pub trait VisitSimdHigh: Visitor {
         self.visit_any(Operator::Simd(SimdOperator::F64x2PMax))
     }
 
-    /// Visits `I32x4TruncSatF32x4S`.
     #[inline(always)]
     fn visit_i32x4_trunc_sat_f32x4_s(&mut self) -> Self::Output
         ensures { Self.visits self.old (Operator.Simd SimdOperator.I32x4TruncSatF32x4S) result self.new }
@@ -821,7 +719,6 @@ pub trait VisitSimdHigh: Visitor {
         self.visit_any(Operator::Simd(SimdOperator::I32x4TruncSatF32x4S))
     }
 
-    /// Visits `I32x4TruncSatF32x4U`.
     #[inline(always)]
     fn visit_i32x4_trunc_sat_f32x4_u(&mut self) -> Self::Output
         ensures { Self.visits self.old (Operator.Simd SimdOperator.I32x4TruncSatF32x4U) result self.new }
@@ -829,7 +726,6 @@ pub trait VisitSimdHigh: Visitor {
         self.visit_any(Operator::Simd(SimdOperator::I32x4TruncSatF32x4U))
     }
 
-    /// Visits `F32x4ConvertI32x4S`.
     #[inline(always)]
     fn visit_f32x4_convert_i32x4_s(&mut self) -> Self::Output
         ensures { Self.visits self.old (Operator.Simd SimdOperator.F32x4ConvertI32x4S) result self.new }
@@ -837,7 +733,6 @@ pub trait VisitSimdHigh: Visitor {
         self.visit_any(Operator::Simd(SimdOperator::F32x4ConvertI32x4S))
     }
 
-    /// Visits `F32x4ConvertI32x4U`.
     #[inline(always)]
     fn visit_f32x4_convert_i32x4_u(&mut self) -> Self::Output
         ensures { Self.visits self.old (Operator.Simd SimdOperator.F32x4ConvertI32x4U) result self.new }
@@ -845,7 +740,6 @@ pub trait VisitSimdHigh: Visitor {
         self.visit_any(Operator::Simd(SimdOperator::F32x4ConvertI32x4U))
     }
 
-    /// Visits `I32x4TruncSatF64x2SZero`.
     #[inline(always)]
     fn visit_i32x4_trunc_sat_f64x2_s_zero(&mut self) -> Self::Output
         ensures { Self.visits self.old (Operator.Simd SimdOperator.I32x4TruncSatF64x2SZero) result self.new }
@@ -853,7 +747,6 @@ pub trait VisitSimdHigh: Visitor {
         self.visit_any(Operator::Simd(SimdOperator::I32x4TruncSatF64x2SZero))
     }
 
-    /// Visits `I32x4TruncSatF64x2UZero`.
     #[inline(always)]
     fn visit_i32x4_trunc_sat_f64x2_u_zero(&mut self) -> Self::Output
         ensures { Self.visits self.old (Operator.Simd SimdOperator.I32x4TruncSatF64x2UZero) result self.new }
@@ -861,7 +754,6 @@ pub trait VisitSimdHigh: Visitor {
         self.visit_any(Operator::Simd(SimdOperator::I32x4TruncSatF64x2UZero))
     }
 
-    /// Visits `F64x2ConvertLowI32x4S`.
     #[inline(always)]
     fn visit_f64x2_convert_low_i32x4_s(&mut self) -> Self::Output
         ensures { Self.visits self.old (Operator.Simd SimdOperator.F64x2ConvertLowI32x4S) result self.new }
@@ -869,7 +761,6 @@ pub trait VisitSimdHigh: Visitor {
         self.visit_any(Operator::Simd(SimdOperator::F64x2ConvertLowI32x4S))
     }
 
-    /// Visits `F64x2ConvertLowI32x4U`.
     #[inline(always)]
     fn visit_f64x2_convert_low_i32x4_u(&mut self) -> Self::Output
         ensures { Self.visits self.old (Operator.Simd SimdOperator.F64x2ConvertLowI32x4U) result self.new }
@@ -877,7 +768,6 @@ pub trait VisitSimdHigh: Visitor {
         self.visit_any(Operator::Simd(SimdOperator::F64x2ConvertLowI32x4U))
     }
 
-    /// Visits `I8x16RelaxedSwizzle`.
     #[inline(always)]
     fn visit_i8x16_relaxed_swizzle(&mut self) -> Self::Output
         ensures { Self.visits self.old (Operator.Simd SimdOperator.I8x16RelaxedSwizzle) result self.new }
@@ -885,7 +775,6 @@ pub trait VisitSimdHigh: Visitor {
         self.visit_any(Operator::Simd(SimdOperator::I8x16RelaxedSwizzle))
     }
 
-    /// Visits `I32x4RelaxedTruncF32x4S`.
     #[inline(always)]
     fn visit_i32x4_relaxed_trunc_f32x4_s(&mut self) -> Self::Output
         ensures { Self.visits self.old (Operator.Simd SimdOperator.I32x4RelaxedTruncF32x4S) result self.new }
@@ -893,7 +782,6 @@ pub trait VisitSimdHigh: Visitor {
         self.visit_any(Operator::Simd(SimdOperator::I32x4RelaxedTruncF32x4S))
     }
 
-    /// Visits `I32x4RelaxedTruncF32x4U`.
     #[inline(always)]
     fn visit_i32x4_relaxed_trunc_f32x4_u(&mut self) -> Self::Output
         ensures { Self.visits self.old (Operator.Simd SimdOperator.I32x4RelaxedTruncF32x4U) result self.new }
@@ -901,7 +789,6 @@ pub trait VisitSimdHigh: Visitor {
         self.visit_any(Operator::Simd(SimdOperator::I32x4RelaxedTruncF32x4U))
     }
 
-    /// Visits `I32x4RelaxedTruncF64x2SZero`.
     #[inline(always)]
     fn visit_i32x4_relaxed_trunc_f64x2_s_zero(&mut self) -> Self::Output
         ensures { Self.visits self.old (Operator.Simd SimdOperator.I32x4RelaxedTruncF64x2SZero) result self.new }
@@ -909,7 +796,6 @@ pub trait VisitSimdHigh: Visitor {
         self.visit_any(Operator::Simd(SimdOperator::I32x4RelaxedTruncF64x2SZero))
     }
 
-    /// Visits `I32x4RelaxedTruncF64x2UZero`.
     #[inline(always)]
     fn visit_i32x4_relaxed_trunc_f64x2_u_zero(&mut self) -> Self::Output
         ensures { Self.visits self.old (Operator.Simd SimdOperator.I32x4RelaxedTruncF64x2UZero) result self.new }
@@ -917,7 +803,6 @@ pub trait VisitSimdHigh: Visitor {
         self.visit_any(Operator::Simd(SimdOperator::I32x4RelaxedTruncF64x2UZero))
     }
 
-    /// Visits `F32x4RelaxedMadd`.
     #[inline(always)]
     fn visit_f32x4_relaxed_madd(&mut self) -> Self::Output
         ensures { Self.visits self.old (Operator.Simd SimdOperator.F32x4RelaxedMadd) result self.new }
@@ -925,7 +810,6 @@ pub trait VisitSimdHigh: Visitor {
         self.visit_any(Operator::Simd(SimdOperator::F32x4RelaxedMadd))
     }
 
-    /// Visits `F32x4RelaxedNmadd`.
     #[inline(always)]
     fn visit_f32x4_relaxed_nmadd(&mut self) -> Self::Output
         ensures { Self.visits self.old (Operator.Simd SimdOperator.F32x4RelaxedNmadd) result self.new }
@@ -933,7 +817,6 @@ pub trait VisitSimdHigh: Visitor {
         self.visit_any(Operator::Simd(SimdOperator::F32x4RelaxedNmadd))
     }
 
-    /// Visits `F64x2RelaxedMadd`.
     #[inline(always)]
     fn visit_f64x2_relaxed_madd(&mut self) -> Self::Output
         ensures { Self.visits self.old (Operator.Simd SimdOperator.F64x2RelaxedMadd) result self.new }
@@ -941,7 +824,6 @@ pub trait VisitSimdHigh: Visitor {
         self.visit_any(Operator::Simd(SimdOperator::F64x2RelaxedMadd))
     }
 
-    /// Visits `F64x2RelaxedNmadd`.
     #[inline(always)]
     fn visit_f64x2_relaxed_nmadd(&mut self) -> Self::Output
         ensures { Self.visits self.old (Operator.Simd SimdOperator.F64x2RelaxedNmadd) result self.new }
@@ -949,7 +831,6 @@ pub trait VisitSimdHigh: Visitor {
         self.visit_any(Operator::Simd(SimdOperator::F64x2RelaxedNmadd))
     }
 
-    /// Visits `I8x16RelaxedLaneselect`.
     #[inline(always)]
     fn visit_i8x16_relaxed_laneselect(&mut self) -> Self::Output
         ensures { Self.visits self.old (Operator.Simd SimdOperator.I8x16RelaxedLaneselect) result self.new }
@@ -957,7 +838,6 @@ pub trait VisitSimdHigh: Visitor {
         self.visit_any(Operator::Simd(SimdOperator::I8x16RelaxedLaneselect))
     }
 
-    /// Visits `I16x8RelaxedLaneselect`.
     #[inline(always)]
     fn visit_i16x8_relaxed_laneselect(&mut self) -> Self::Output
         ensures { Self.visits self.old (Operator.Simd SimdOperator.I16x8RelaxedLaneselect) result self.new }
@@ -965,7 +845,6 @@ pub trait VisitSimdHigh: Visitor {
         self.visit_any(Operator::Simd(SimdOperator::I16x8RelaxedLaneselect))
     }
 
-    /// Visits `I32x4RelaxedLaneselect`.
     #[inline(always)]
     fn visit_i32x4_relaxed_laneselect(&mut self) -> Self::Output
         ensures { Self.visits self.old (Operator.Simd SimdOperator.I32x4RelaxedLaneselect) result self.new }
@@ -973,7 +852,6 @@ pub trait VisitSimdHigh: Visitor {
         self.visit_any(Operator::Simd(SimdOperator::I32x4RelaxedLaneselect))
     }
 
-    /// Visits `I64x2RelaxedLaneselect`.
     #[inline(always)]
     fn visit_i64x2_relaxed_laneselect(&mut self) -> Self::Output
         ensures { Self.visits self.old (Operator.Simd SimdOperator.I64x2RelaxedLaneselect) result self.new }
@@ -981,7 +859,6 @@ pub trait VisitSimdHigh: Visitor {
         self.visit_any(Operator::Simd(SimdOperator::I64x2RelaxedLaneselect))
     }
 
-    /// Visits `F32x4RelaxedMin`.
     #[inline(always)]
     fn visit_f32x4_relaxed_min(&mut self) -> Self::Output
         ensures { Self.visits self.old (Operator.Simd SimdOperator.F32x4RelaxedMin) result self.new }
@@ -989,7 +866,6 @@ pub trait VisitSimdHigh: Visitor {
         self.visit_any(Operator::Simd(SimdOperator::F32x4RelaxedMin))
     }
 
-    /// Visits `F32x4RelaxedMax`.
     #[inline(always)]
     fn visit_f32x4_relaxed_max(&mut self) -> Self::Output
         ensures { Self.visits self.old (Operator.Simd SimdOperator.F32x4RelaxedMax) result self.new }
@@ -997,7 +873,6 @@ pub trait VisitSimdHigh: Visitor {
         self.visit_any(Operator::Simd(SimdOperator::F32x4RelaxedMax))
     }
 
-    /// Visits `F64x2RelaxedMin`.
     #[inline(always)]
     fn visit_f64x2_relaxed_min(&mut self) -> Self::Output
         ensures { Self.visits self.old (Operator.Simd SimdOperator.F64x2RelaxedMin) result self.new }
@@ -1005,7 +880,6 @@ pub trait VisitSimdHigh: Visitor {
         self.visit_any(Operator::Simd(SimdOperator::F64x2RelaxedMin))
     }
 
-    /// Visits `F64x2RelaxedMax`.
     #[inline(always)]
     fn visit_f64x2_relaxed_max(&mut self) -> Self::Output
         ensures { Self.visits self.old (Operator.Simd SimdOperator.F64x2RelaxedMax) result self.new }
@@ -1013,7 +887,6 @@ pub trait VisitSimdHigh: Visitor {
         self.visit_any(Operator::Simd(SimdOperator::F64x2RelaxedMax))
     }
 
-    /// Visits `I16x8RelaxedQ15mulrS`.
     #[inline(always)]
     fn visit_i16x8_relaxed_q15mulr_s(&mut self) -> Self::Output
         ensures { Self.visits self.old (Operator.Simd SimdOperator.I16x8RelaxedQ15mulrS) result self.new }
@@ -1021,7 +894,6 @@ pub trait VisitSimdHigh: Visitor {
         self.visit_any(Operator::Simd(SimdOperator::I16x8RelaxedQ15mulrS))
     }
 
-    /// Visits `I16x8RelaxedDotI8x16I7x16S`.
     #[inline(always)]
     fn visit_i16x8_relaxed_dot_i8x16_i7x16_s(&mut self) -> Self::Output
         ensures { Self.visits self.old (Operator.Simd SimdOperator.I16x8RelaxedDotI8x16I7x16S) result self.new }
@@ -1029,7 +901,6 @@ pub trait VisitSimdHigh: Visitor {
         self.visit_any(Operator::Simd(SimdOperator::I16x8RelaxedDotI8x16I7x16S))
     }
 
-    /// Visits `I32x4RelaxedDotI8x16I7x16AddS`.
     #[inline(always)]
     fn visit_i32x4_relaxed_dot_i8x16_i7x16_add_s(&mut self) -> Self::Output
         ensures { Self.visits self.old (Operator.Simd SimdOperator.I32x4RelaxedDotI8x16I7x16AddS) result self.new }

@@ -1,4 +1,3 @@
-//! The trait of all visitors.
 ghost use Rattle.std.specs.Prelude.{◌≡◌, box_value};
 ghost use Rattle.wasm_instr.specs.declared.operator.Operator.{Operator};
 

@@ -6,16 +6,12 @@ ghost use Rattle.wasm_below.specs.TypeEncoding.{heap_type_byte, ref_byte, after_
 use super::{AbstractHeapType, HeapType, MAX_TYPE_INDEX, RefType, ValType};
 use wasm_below_bytes::{BinaryReader, Message, Result, TypeName};
 
-/// Precedes an abstract heap type that is shared.
 const SHARED: u8 = 0x65;
 
-/// Precedes the index of an exact heap type.
 const EXACT: u8 = 0x62;
 
-/// Precedes the heap type of a reference type with null.
 const REF_NULL: u8 = 0x63;
 
-/// Precedes the heap type of a reference type without null.
 const REF: u8 = 0x64;
 
 impl AbstractHeapType {
@@ -46,10 +42,9 @@ impl AbstractHeapType {
 impl HeapType {
     /// Reads a heap type. Specification: Types, Heap Types.
     ///
-    /// Fails with `InvalidType` of `heap type` at the start of the type, if the byte after 0x65 is
-    /// no abstract heap type, or an index is negative or above 1048575. Otherwise fails with
-    /// `EndOfData`, like `read_var_u32` at an index after 0x62, or like `read_var_s33` at another
-    /// index.
+    /// Fails with `InvalidType` at the start of the type if the byte after 0x65 is no abstract heap
+    /// type, or the index is negative or above 1048575. Otherwise fails with `EndOfData`, like
+    /// `read_var_u32` after 0x62, or like `read_var_s33`.
     #[inline(never)]
     pub fn read(reader: &mut BinaryReader<'_>) -> Result<HeapType>
         ensures reads { Reads EncodesHeapType result reader.old reader.new }
@@ -65,7 +60,6 @@ impl HeapType {
         HeapType::read_concrete(reader)
     }
 
-    /// Reads a short form. The error names `name` as the kind of type.
     fn read_short(reader: &mut BinaryReader<'_>, name: TypeName) -> Result<HeapType>
         ensures reads { Reads EncodesShort result reader.old reader.new }
         ensures fault { IfErr result (λ e. ShortFault name e.message reader.old e.offset) }
@@ -127,9 +121,9 @@ impl HeapType {
 impl RefType {
     /// Reads a reference type. Specification: Types, Reference Types.
     ///
-    /// Fails with `InvalidType` of `reference type` at the start of the type, if its first byte
-    /// starts none, or the byte after 0x65 is no abstract heap type. Otherwise fails with
-    /// `EndOfData`, or after the byte 0x63 or 0x64 like `HeapType::read`.
+    /// Fails with `InvalidType` at the start of the type if its first byte starts none, or the byte
+    /// after 0x65 is no abstract heap type. Otherwise fails with `EndOfData`, or like
+    /// `HeapType::read` after 0x63 or 0x64.
     #[inline(never)]
     pub fn read(reader: &mut BinaryReader<'_>) -> Result<RefType>
         ensures reads { Reads EncodesRefType result reader.old reader.new }
@@ -173,8 +167,7 @@ impl RefType {
 impl ValType {
     /// Reads a value type. Specification: Types, Value Types.
     ///
-    /// Fails with `InvalidType` of `value type` at the start of the type, if its first byte starts
-    /// none; otherwise like `RefType::read`.
+    /// Fails with `InvalidType` at a first byte that starts none, otherwise like `RefType::read`.
     #[inline(always)]
     pub fn read(reader: &mut BinaryReader<'_>) -> Result<ValType>
         ensures reads { Reads EncodesValType result reader.old reader.new }
@@ -187,8 +180,8 @@ impl ValType {
         ValType::read_number(reader)
     }
 
-    /// Reads a value type that starts like a reference type. The call is not inlined; its result is
-    /// only on this path.
+    /// Reads a reference type by `RefType::read`, which is not inlined. Only here is that call's
+    /// result stored in memory.
     #[inline(always)]
     fn read_reference(reader: &mut BinaryReader<'_>) -> Result<ValType>
         requires { LedBy LeadsRefType (rest reader.old) }

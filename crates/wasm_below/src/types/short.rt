@@ -1,5 +1,5 @@
 //! Heap types in four bytes, as reference types store them. So a value type takes six bytes, and
-//! lists of value types and the operators stay small.
+//! operators stay small.
 ghost use Rattle.std.specs.Prelude.{◌≡◌, ◌<◌};
 ghost use Rattle.wasm_below.specs.Reference.{IsIndexed};
 ghost use Rattle.wasm_below.specs.ShortTypes.{heap_type_of};

@@ -1,4 +1,4 @@
-//! LEB128 numbers. Specification: Values, Integers.
+//! Specification: Values, Integers.
 ghost use Rattle.std.specs.Prelude.{◌≡◌, ◌<◌, [], ◌∷◌, IfErr, IfSome, IfNone};
 ghost use Rattle.wasm_below_bytes.specs.Source.{Takes, Reads, U32Fault, U64Fault, I32Fault, S33Fault, I64Fault, as_too_long, offset_of, end_of};
 ghost use Rattle.wasm_below_bytes.specs.Number.{EncodesUnsigned, EncodesSigned};
@@ -28,8 +28,8 @@ impl<'a> BinaryReader<'a> {
         self.read_long_u32()
     }
 
-    /// Reads what `read_var_u32` reads, with all code inline. A loop that skips many numbers does
-    /// not compute their values then.
+    /// Reads like `read_var_u32`, with all code inline: a loop that skips numbers then does not
+    /// compute their values.
     #[inline(always)]
     pub fn read_var_u32_in_place(&mut self) -> Result<u32>
         ensures reads { Reads (EncodesUnsigned 32) result self.old self.new }
@@ -44,10 +44,8 @@ impl<'a> BinaryReader<'a> {
         }
     }
 
-    /// Reads an unsigned LEB128 number of at most ten bytes.
-    ///
-    /// Fails with `EndOfData` at the end of the data, or with `IntegerTooLong` or `IntegerTooLarge`
-    /// at the tenth byte.
+    /// Reads an unsigned LEB128 number of at most ten bytes. Fails like `read_var_u32`, but at the
+    /// tenth byte.
     #[inline(always)]
     pub fn read_var_u64(&mut self) -> Result<u64>
         ensures reads { Reads (EncodesUnsigned 64) result self.old self.new }
@@ -71,9 +69,8 @@ impl<'a> BinaryReader<'a> {
         self.read_long_i32()
     }
 
-    /// Reads a signed LEB128 number of 33 bits, in at most five bytes.
-    ///
-    /// Fails with `EndOfData` at the end of the data, or with `IntegerTooLong` at the fifth byte.
+    /// Reads a signed LEB128 number of 33 bits, at most five bytes. Fails like `read_var_u32`, but
+    /// with `IntegerTooLong` for any wrong fifth byte.
     #[inline(always)]
     pub fn read_var_s33(&mut self) -> Result<i64>
         ensures reads { Reads (EncodesSigned 33) result self.old self.new }
@@ -97,7 +94,6 @@ impl<'a> BinaryReader<'a> {
         self.read_long_i64()
     }
 
-    /// Reads the next byte if it is below 128, and so a LEB128 number.
     #[inline(always)]
     fn take_last_byte(&mut self) -> Option<u8>
         ensures taken { IfSome result (λ b. (b < 128) × Takes self.old self.new (b ∷ [])) }
@@ -189,7 +185,6 @@ impl<'a> BinaryReader<'a> {
         Ok(number.value)
     }
 
-    /// Returns the error for a number at this position, from the code of the reason.
     #[inline(always)]
     fn coded_refusal(&self, code: u64, bits: u32, name: NumberName) -> Error
         requires some { 0 < bits }

@@ -7,10 +7,8 @@ use wasm_decode::grammar::FrameKind;
 use wasm_decode::instr::FrameStack;
 
 impl<'a> OperatorsReader<'a> {
-    /// Clones the reader: the clone is at the same position of the same bytes, with the same open
-    /// frames, in memory of the same allocator. It has no capacity for more frames.
-    ///
-    /// Fails with `OutOfMemory` at offset 0, and only if more than one frame is open.
+    /// Clones the reader, with no capacity for more frames. Fails with `OutOfMemory` at offset 0,
+    /// and only if more than one frame is open.
     pub fn clone(&self) -> Result<OperatorsReader<'a>>
         ensures reader { IfOk result (λ copy. copy.reader ≡ self.now.reader) }
         ensures frames { IfOk result (λ copy. copy.frames ≡ self.now.frames) }

@@ -1,5 +1,4 @@
-//! Visiting to the end of the data. Meanwhile the reader of the bytes is in a local variable, and
-//! for visits the stack of open frames too.
+//! Visiting to the end, with the reader of the bytes in a local variable, and for visits the stack.
 ghost use Rattle.std.specs.Prelude.{◌≡◌, ◌+◌, ◌<◌, ◌≤◌, ◌⊎◌, IfErr, vec_capacity, vec_len};
 ghost use Rattle.wasm_decode.specs.opcodes.Allowed.{EncodesAllowed, EncodesScalar};
 ghost use Rattle.wasm_decode.specs.opcodes.OperatorFaults.{OperatorFault, ScalarOperatorFault};

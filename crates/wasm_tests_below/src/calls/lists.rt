@@ -4,7 +4,7 @@ use std::alloc::Global;
 use wasm_imm::below::{BinaryReader, Error, FromReader, Message, Result, SizeName};
 use wasm_imm::{BrTable, ResumeTable, Select, TryTable};
 
-/// A call that reads a list. If its name ends in `Again`, it is repeated after allocation failed.
+/// A call that reads a list. One with `Again` in its name is repeated after allocation failed.
 #[derive(Clone, Copy)]
 pub enum List {
     BrTable,
@@ -21,7 +21,7 @@ pub enum List {
 }
 
 impl List {
-    /// Writes the call's result. The argument is the limit of a count of items.
+    /// Writes the result. `argument` is the limit of a count of items.
     pub fn write(
         self,
         alloc: Global,
@@ -102,7 +102,7 @@ fn write_dropped(
     write_next(text, reader)
 }
 
-/// Writes a try table and whether its copy is equal. Each call is repeated after allocation failed.
+/// Writes a try table, and whether its copy is equal. Repeats each call after allocation failed.
 fn write_try_table(alloc: Global, text: &mut String, reader: &mut BinaryReader<'_>) -> Written {
     let table = read_again::<TryTable>(alloc, reader)?;
     let copy = match table.clone(alloc) {
@@ -113,7 +113,7 @@ fn write_try_table(alloc: Global, text: &mut String, reader: &mut BinaryReader<'
     write_next(text, reader)
 }
 
-/// Writes a resume table as `write_try_table` does, and its length.
+/// Writes a resume table like `write_try_table`, and its length.
 fn write_resume_table(alloc: Global, text: &mut String, reader: &mut BinaryReader<'_>) -> Written {
     let table = read_again::<ResumeTable>(alloc, reader)?;
     let copy = match table.clone(alloc) {
@@ -125,8 +125,7 @@ fn write_resume_table(alloc: Global, text: &mut String, reader: &mut BinaryReade
     write_next(text, reader)
 }
 
-/// Reads a value. Reads again if allocation failed at the offset where the call began and the
-/// reader has not moved.
+/// Reads a value, again if allocation failed at the start of the call and the reader has not moved.
 fn read_again<'a, T: FromReader<'a>>(alloc: Global, reader: &mut BinaryReader<'a>) -> Result<T> {
     let offset = reader.original_position();
     match T::from_reader(alloc, reader) {

@@ -1,5 +1,3 @@
-//! What a reader reports about its bytes.
-
 use super::{write_error, write_next, write_result};
 use crate::failure::Written;
 use wasm_imm::below::BinaryReader;

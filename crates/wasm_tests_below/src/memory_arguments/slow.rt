@@ -16,8 +16,8 @@ const ARRAY: u64 = 32;
 
 const MEMORY: u64 = 64;
 
-/// Returns the memory argument that a prefix of the bytes encodes, and its length. Tries each
-/// alignment, ordering and target.
+/// Returns the memory argument that a prefix encodes, and its length. Tries each alignment,
+/// ordering and target.
 pub fn memory_argument(
     bytes: &[u8],
     features: WasmFeatures,
@@ -108,7 +108,6 @@ fn parts(
     Some((target, offset, at.checked_add(size)?))
 }
 
-/// Returns the number of at most `width` bits that a prefix of the bytes encodes, and its length.
 fn number(bytes: &[u8], width: u32) -> Option<(u64, usize)> {
     let mut value = 0u128;
     let mut weight = 1u128;

@@ -1,4 +1,3 @@
-//! A visitor with five fields.
 use std::alloc::Global;
 use wasm_visit::instr::{BrTable, MiscOperator, Operator};
 use wasm_visit::{VisitGroups, VisitMisc, VisitOperator, VisitSimdOperator, Visitor, dispatch};

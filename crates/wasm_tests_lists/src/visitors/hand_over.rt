@@ -11,7 +11,8 @@ pub fn table() -> Option<BrTable<'static>> {
     BrTable::read(&mut BinaryReader::new(&TABLE, 0)).ok()
 }
 
-/// Visits eight operators of five groups, among them a branch table, and returns the results.
+/// Visits eight operators of six groups and returns the results. The last operator is the branch
+/// table, or `unreachable` if there is none.
 pub fn hand_over<'a, V>(v: &mut V, table: Option<BrTable<'a>>) -> [V::Output; 8]
 where
     V: VisitOperator<'a> + VisitSimdOperator,

@@ -1,4 +1,3 @@
-//! The operators that the factory makes, by the dispatch of each group.
 use wasm_visit::dispatch;
 use wasm_visit::instr::{
     AtomicOperator, GcOperator, MiscOperator, NumericOperator, Operator, Ordering, SimdOperator,

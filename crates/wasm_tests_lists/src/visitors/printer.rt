@@ -1,4 +1,3 @@
-//! A visitor that holds a reference, and overrides visits.
 ghost use Rattle.std.specs.Prelude.{◌≤◌};
 
 use std::alloc::AllocError;

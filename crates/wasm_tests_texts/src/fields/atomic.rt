@@ -1,4 +1,4 @@
-//! Prints the fields of the operators with the prefix byte 0xfe. Written by tools/lists.py from tools/operators.tsv.
+//! Written by tools/lists.py from tools/operators.tsv.
 use crate::fields::shapes;
 use crate::values::{self, Written};
 use wasm_instr::AtomicOperator;

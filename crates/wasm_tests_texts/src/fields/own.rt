@@ -1,4 +1,4 @@
-//! Prints the fields of an operator. Written by tools/lists.py from tools/operators.tsv.
+//! Written by tools/lists.py from tools/operators.tsv.
 use crate::fields::atomic::atomic;
 use crate::fields::gc::gc;
 use crate::fields::misc::misc;

@@ -1,4 +1,4 @@
-//! Prints several fields of an operator, by their names. Written by tools/lists.py from tools/operators.tsv.
+//! Written by tools/lists.py from tools/operators.tsv.
 use crate::values::{self, Written};
 use wasm_instr::below::RefType;
 use wasm_instr::imm::{MemArg, Ordering, ResumeTable};

@@ -1,4 +1,4 @@
-//! The operands of the operators with the prefix byte 0xfe. Written by tools/lists.py from tools/operators.tsv.
+//! Written by tools/lists.py from tools/operators.tsv.
 ghost use Rattle.std.specs.Prelude.{◌≡◌, ◌++◌, OnOk, string_bytes};
 ghost use Rattle.wasm_instr.specs.Atomic.{atomic_immediates};
 ghost use Rattle.wasm_text.specs.Operands.{immediates_text};

@@ -1,4 +1,4 @@
-//! The operands of the operators with the prefix byte 0xfc. Written by tools/lists.py from tools/operators.tsv.
+//! Written by tools/lists.py from tools/operators.tsv.
 ghost use Rattle.std.specs.Prelude.{◌≡◌, ◌++◌, OnOk, string_bytes};
 ghost use Rattle.wasm_instr.specs.Misc.{misc_immediates};
 ghost use Rattle.wasm_text.specs.Operands.{immediates_text};

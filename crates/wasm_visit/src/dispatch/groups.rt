@@ -1,4 +1,4 @@
-//! From an operator that is not a SIMD operator to its visit. Written by tools/lists.py from tools/operators.tsv.
+//! Written by tools/lists.py from tools/operators.tsv.
 ghost use Rattle.wasm_decode_groups.specs.instr.declared.operator.Operator.{Operator};
 ghost use Rattle.wasm_decode_groups.specs.groups.Groups.{IsOneByte};
 
@@ -7,7 +7,7 @@ use wasm_decode_groups::instr::{
     AtomicOperator, GcOperator, MiscOperator, NumericOperator, Operator,
 };
 
-/// Calls the visit of an operator of one byte. The dispatch does not allocate.
+/// Calls the visit of an operator with a one-byte opcode.
 pub fn one_byte<V: VisitOneByte>(v: &mut V, op: Operator<'_>) -> V::Output
     requires { IsOneByte op }
     ensures { V.visits v.old op.entry result v.new }
@@ -122,7 +122,7 @@ pub fn one_byte<V: VisitOneByte>(v: &mut V, op: Operator<'_>) -> V::Output
     }
 }
 
-/// Calls the visit of a numeric operator. The dispatch does not allocate.
+/// Calls the visit of a numeric operator.
 pub fn numeric<V: VisitNumeric>(v: &mut V, op: NumericOperator) -> V::Output
     ensures { V.visits v.old (Operator.Numeric op) result v.new }
 {
@@ -258,7 +258,7 @@ pub fn numeric<V: VisitNumeric>(v: &mut V, op: NumericOperator) -> V::Output
     }
 }
 
-/// Calls the visit of an operator with prefix 0xfb. The dispatch does not allocate.
+/// Calls the visit of an operator with prefix 0xfb.
 pub fn gc<V: VisitGc>(v: &mut V, op: GcOperator) -> V::Output
     ensures { V.visits v.old (Operator.Gc op) result v.new }
 {
@@ -358,7 +358,7 @@ pub fn gc<V: VisitGc>(v: &mut V, op: GcOperator) -> V::Output
     }
 }
 
-/// Calls the visit of an operator with prefix 0xfc. The dispatch does not allocate.
+/// Calls the visit of an operator with prefix 0xfc.
 pub fn misc<V: VisitMisc>(v: &mut V, op: MiscOperator) -> V::Output
     ensures { V.visits v.old (Operator.Misc op) result v.new }
 {
@@ -392,7 +392,7 @@ pub fn misc<V: VisitMisc>(v: &mut V, op: MiscOperator) -> V::Output
     }
 }
 
-/// Calls the visit of an operator with prefix 0xfe. The dispatch does not allocate.
+/// Calls the visit of an operator with prefix 0xfe.
 pub fn atomic<V: VisitAtomic>(v: &mut V, op: AtomicOperator) -> V::Output
     ensures { V.visits v.old (Operator.Atomic op) result v.new }
 {

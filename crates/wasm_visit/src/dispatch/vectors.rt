@@ -1,11 +1,11 @@
-//! From a SIMD operator to its visit. Written by tools/lists.py from tools/operators.tsv.
+//! Written by tools/lists.py from tools/operators.tsv.
 ghost use Rattle.wasm_decode_groups.specs.instr.declared.operator.Operator.{Operator};
 ghost use Rattle.wasm_decode_groups.specs.groups.Groups.{IsSimdHigh, IsSimdLow};
 
 use wasm_decode_groups::groups::{VisitSimdHigh, VisitSimdLow};
 use wasm_decode_groups::instr::SimdOperator;
 
-/// Calls the visit of a SIMD operator below 0x80. The dispatch does not allocate.
+/// Calls the visit of a SIMD operator with a subopcode below 0x80.
 pub fn simd_low<V: VisitSimdLow>(v: &mut V, op: SimdOperator) -> V::Output
     requires { IsSimdLow op }
     ensures { V.visits v.old (Operator.Simd op) result v.new }
@@ -143,7 +143,7 @@ pub fn simd_low<V: VisitSimdLow>(v: &mut V, op: SimdOperator) -> V::Output
     }
 }
 
-/// Calls the visit of a SIMD operator from 0x80 on. The dispatch does not allocate.
+/// Calls the visit of a SIMD operator with a subopcode from 0x80 on.
 pub fn simd_high<V: VisitSimdHigh>(v: &mut V, op: SimdOperator) -> V::Output
     requires { IsSimdHigh op }
     ensures { V.visits v.old (Operator.Simd op) result v.new }

@@ -3,6 +3,15 @@ use Rattle.std.proofs.lemmas.List.{take-append-drop, length-take}
 use Rattle.wasm_operators.specs.below.Source.{reader_of}
 use Rattle.uses_steps.proofs.places.bytes_before_refusal.Goals as goal
 
+pub slice_bounds-result-end : goal.slice_bounds-result-end
+slice_bounds-result-end c =
+    let r = reader_of c.args.features 0 c.args.bytes.now in
+    let run = c.in-Err.ensures.runs in
+    let takes = rw (c.new-reader.ensures.reader ∙ c.new_features.ensures) at run.2.takes in
+    let within = c.taken_within.ensures r c.read_all.new.self.reader run.2.text takes (omega arith) in
+    let ahead = c.refusals_ahead.ensures.reads c.in-Err.error c.read_all.new.self run.3 within.1 in
+    omega (arith, length-take c.offset.result c.args.bytes.now, c.offset.ensures, ahead.1, within.2)
+
 pub returns-in-Ok : goal.returns-in-Ok
 returns-in-Ok c =
     let along = (c.in-Ok.ensures.rest [] c.new-reader.ensures.read_so_far).tree in

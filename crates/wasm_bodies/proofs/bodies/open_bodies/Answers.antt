@@ -27,13 +27,15 @@ returns-then-bodies_count-functions_count-clause-fault c =
     let third = c.in-Ok-find_section.contents in
     let tenth = c.in-Ok-find_section-2.contents in (
       (c.in-Ok.functions, subst (λ f. DescribesFunctions (reader_of f 0 b) c.in-Ok.functions) same c.in-Ok.ensures.ok),
-      c.in-Ok-read_count.found.0,
-      c.in-Ok-read_count-2.found.0,
-      c.in-Ok-read_count.found.1,
-      c.in-Ok-read_count-2.found.1,
-      (third, subst (λ f. IsSection (reader_of f 0 b) 3 third) same c.in-Ok-find_section.ensures.ok, c.in-Ok-read_count.ensures.declares),
-      (tenth, subst (λ f. IsSection (reader_of f 0 b) 10 tenth) same c.in-Ok-find_section-2.ensures.ok, c.in-Ok-read_count-2.ensures.declares),
-      c.if-bodies_count-functions_count.true,
+      (
+        c.in-Ok-read_count.found.0,
+        c.in-Ok-read_count-2.found.0,
+        c.in-Ok-read_count.found.1,
+        c.in-Ok-read_count-2.found.1,
+        (third, subst (λ f. IsSection (reader_of f 0 b) 3 third) same c.in-Ok-find_section.ensures.ok, c.in-Ok-read_count.ensures.declares),
+        (tenth, subst (λ f. IsSection (reader_of f 0 b) 10 tenth) same c.in-Ok-find_section-2.ensures.ok, c.in-Ok-read_count-2.ensures.declares),
+        c.if-bodies_count-functions_count.true,
+      ),
     )
 
 pub returns-clause-opens : goal.returns-clause-opens

@@ -1,7 +1,9 @@
-use Rattle.std.proofs.Common.{◌≡◌, ◌-◌, ap, subst, ◌∙◌, arith}
+use Rattle.std.proofs.Common.{ap, subst, ◌∙◌, slice_index_or, []}
 use Rattle.wasm_functions.specs.of_module.below.Source.{reader_of}
-use Rattle.wasm_functions.specs.ModuleFunctions.{DescribesFunctions, name_at}
+use Rattle.wasm_functions.specs.ModuleFunctions.{DescribesFunctions}
 use Rattle.wasm_functions.specs.Refusals.{ModuleFunctionsFault}
+use Rattle.wasm_bodies.specs.Bodies.{text_of_name}
+use Rattle.wasm_bodies.proofs.Opened.{memory_fault}
 use Rattle.wasm_bodies.proofs.name.function_name.Goals as goal
 
 pub returns-in-Err-clause-fault : goal.returns-in-Err-clause-fault
@@ -15,13 +17,15 @@ returns-then-not-has-clause-fault c = (
   λ own. absurd (cc (c.has.ensures.1 own, c.if-not-has.true)),
 )
 
-pub returns-clause-names : goal.returns-clause-names
-returns-clause-names c =
-    let own = c.has.ensures.0 c.if-not-has.false in
-    let ordinal : c.args.index - c.index.result ≡ c.args.index - c.in-Ok.functions.imported =
-    omega (arith, c.index.ensures, own.0, c.ranges.index.fits) in (
-      c.in-Ok.functions,
-      subst (λ f. DescribesFunctions (reader_of f 0 c.args.bytes.now) c.in-Ok.functions) c.all.ensures c.in-Ok.ensures.ok,
-      own,
-      c.name.ensures ∙ ap (name_at c.in-Ok.functions) ordinal,
-    )
+pub returns-in-Ok-copy_at-clause-names : goal.returns-in-Ok-copy_at-clause-names
+returns-in-Ok-copy_at-clause-names c = (
+  c.in-Ok.functions,
+  subst (λ f. DescribesFunctions (reader_of f 0 c.args.bytes.now) c.in-Ok.functions) c.all.ensures c.in-Ok.ensures.ok,
+  c.has.ensures.0 c.if-not-has.false,
+  c.in-Ok-copy_at.ensures ∙ ap (λ names. text_of_name (slice_index_or names c.args.index [])) c.names.ensures,
+)
+
+pub returns-clause-fault : goal.returns-clause-fault
+returns-clause-fault c =
+    memory_fault (reader_of _ 0 c.args.bytes.now) c.in-Ok.functions
+    (subst (λ f. DescribesFunctions (reader_of f 0 c.args.bytes.now) c.in-Ok.functions) c.all.ensures c.in-Ok.ensures.ok)

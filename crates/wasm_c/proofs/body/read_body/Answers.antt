@@ -2,7 +2,8 @@ use Rattle.std.proofs.Common.{Ok, [], refl, subst, ◌∙◌}
 use Rattle.wasm_operators.specs.below.Source.{reader_of}
 use Rattle.wasm_operators.specs.Body.{OpensBody}
 use Rattle.wasm_operators.specs.Locals.{RefusesLocals}
-use Rattle.wasm_c.proofs.Found.{ends_body, refused_locals}
+use Rattle.wasm_c.specs.Reads.{BodyMayAllocate}
+use Rattle.wasm_c.proofs.Found.{ends_body, memory_body, no_memory, refused_locals}
 use Rattle.wasm_c.proofs.Written.{written_none}
 use Rattle.wasm_c.proofs.body.read_body.Goals as goal
 
@@ -14,6 +15,7 @@ returns-in-Ok c =
       found.0,
       record {
         ends = ends_body c.read_operators.result.end input c.in-Ok.operators found.0 opens found.1.ends;
+        memory = memory_body c.read_operators.result.end input c.in-Ok.operators found.0 opens found.1.memory;
         counted = found.1.counted;
         in_array = found.1.in_array;
       },
@@ -24,5 +26,10 @@ returns-in-Err c =
     let input = reader_of c.args.features c.args.offset c.args.bytes.now in
     let refused = subst (RefusesLocals c.in-Err.error) (c.new-body.ensures ∙ c.new_features.ensures) c.in-Err.ensures.opens in (
       [],
-      record { ends = refused_locals c.in-Err.error input refused; counted = refl; in_array = written_none c.args.out.now },
+      record {
+        ends = refused_locals c.in-Err.error input refused;
+        memory = no_memory (BodyMayAllocate input []) c.in-Err.error input refused;
+        counted = refl;
+        in_array = written_none c.args.out.now;
+      },
     )

@@ -4,7 +4,6 @@ use Rattle.wasm_operators.specs.below.Source.{rest}
 use Rattle.wasm_disassembly.proofs.OperatorLines.{AreListed}
 use Rattle.wasm_disassembly.proofs.expression.write_operators.Given as goal
 
--- The operators so far are read and their lines written.
 abbrev pub invariant-operators : goal.invariant-operators
 invariant-operators g l = AreListed (map string_bytes l.names) l.start l.bytes l.initial.operators l.operators l.depth (g.W.Write.contents l.fn.writer) (g.W.Write.contents l.writer)
 

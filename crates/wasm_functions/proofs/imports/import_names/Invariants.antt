@@ -5,7 +5,7 @@ use Rattle.wasm_functions.specs.Items.{ItemsOccur}
 use Rattle.wasm_functions.specs.Names.{bytes_of, function_name}
 use Rattle.wasm_functions.proofs.imports.import_names.Given as goal
 
--- This many imports were read, and these are the names of the functions among them.
+-- The names of the imports read so far.
 abbrev pub invariant-loop-import : goal.invariant-loop-import
 invariant-loop-import l = (imports : List ImportParts) × ItemsOccur EncodesImport l.initial.reader imports l.reader × (length imports ≡ l._import) ×
     (bytes_of l.names.items ≡ flat_map function_name imports)

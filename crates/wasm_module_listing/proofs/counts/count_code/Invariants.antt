@@ -4,7 +4,6 @@ use Rattle.wasm_module_listing.specs.Listing.{BodiesOccur, Refusals, are_none, A
 use Rattle.wasm_module_listing.specs.ModuleCensus.{Adds, IsCounted}
 use Rattle.wasm_module_listing.proofs.counts.count_code.Given as goal
 
--- These bodies were read, and their functions counted.
 abbrev pub invariant-bodies : goal.invariant-bodies
 invariant-bodies g l = (bodies : List Reader) × BodiesOccur l.initial.items.reader bodies l.items.reader ×
     (length bodies + l.items.remaining ≡ l.initial.items.remaining) × (l.items.refused ≡ false) × (l.place ≡ length bodies) × (reported : Refusals) ×

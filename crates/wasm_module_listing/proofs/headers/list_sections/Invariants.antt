@@ -3,7 +3,6 @@ use Rattle.wasm_disassembly.specs.operators.below.Source.{rest}
 use Rattle.wasm_module_listing.specs.Headers.{ShowsSections}
 use Rattle.wasm_module_listing.proofs.headers.list_sections.Given as goal
 
--- These sections were read, and their lines written.
 abbrev pub invariant-sections : goal.invariant-sections
 invariant-sections g l = ShowsSections l.initial.reader l.reader (g.W.Write.contents l.fn.writer) (g.W.Write.contents l.writer)
 

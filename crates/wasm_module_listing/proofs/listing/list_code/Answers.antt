@@ -47,6 +47,14 @@ bodies-preserved g c =
           both_true c.bodies.whole c.in-Ok-list_asked.one (all split.0) (c.in-Ok-list_asked.ensures.whole split.1),
     )
 
+pub returns-in-Err-clause-lists : goal.returns-in-Err-clause-lists
+returns-in-Err-clause-lists g c = (
+  [],
+  inl (refl, c.in-Err.ensures.refused),
+  [],
+  writes_none g.C.Complaints.reports c.args.functions.now c.args.only c.args.complaints.now (g.W.Write.contents c.args.writer.now),
+)
+
 pub returns-in-Err-clause-whole : goal.returns-in-Err-clause-whole
 returns-in-Err-clause-whole g c =
     λ all code asked. c.no_refusal.ensures c.args.code all [] c.in-Err.e code (inl (refl, c.in-Err.ensures.refused))

@@ -3,7 +3,6 @@ use Rattle.wasm_disassembly.specs.operators.below.Source.{Reader}
 use Rattle.wasm_module_listing.specs.Listing.{BodiesOccur, Refusals, Writes, are_none, AreAsked, IsFunction}
 use Rattle.wasm_module_listing.proofs.listing.list_code.Given as goal
 
--- These bodies were read, and their functions written.
 abbrev pub invariant-bodies : goal.invariant-bodies
 invariant-bodies g l = (bodies : List Reader) × BodiesOccur l.initial.items.reader bodies l.items.reader ×
     (length bodies + l.items.remaining ≡ l.initial.items.remaining) × (l.items.refused ≡ false) × (l.place ≡ length bodies) × (reported : Refusals) ×

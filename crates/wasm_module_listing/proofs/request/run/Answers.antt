@@ -24,3 +24,15 @@ returns-in-Ok-write_table-clause-lists g c = not_on_false c.args.requested.censu
 
 pub returns-in-Ok-write_table-clause-listed : goal.returns-in-Ok-write_table-clause-listed
 returns-in-Ok-write_table-clause-listed g c = not_on_false c.args.requested.census _ c.if-not-requested.false
+
+pub returns-in-Err-clause-lists : goal.returns-in-Err-clause-lists
+returns-in-Err-clause-lists g c = not_on_false c.args.requested.census _ c.if-not-requested.false
+
+pub returns-in-Err-clause-listed : goal.returns-in-Err-clause-listed
+returns-in-Err-clause-listed g c = not_on_false c.args.requested.census _ c.if-not-requested.false
+
+pub returns-in-Ok-write_table-clause-counted : goal.returns-in-Ok-write_table-clause-counted
+returns-in-Ok-write_table-clause-counted g c = on_true c.args.requested.census _ c.in-Ok.ensures.whole
+
+pub returns-in-Err-write_table-clause-lists : goal.returns-in-Err-write_table-clause-lists
+returns-in-Err-write_table-clause-lists g c = not_on_false c.args.requested.census _ c.if-not-requested.false

@@ -2,6 +2,5 @@ use Rattle.std.proofs.Common.{◌≡◌, ◌++◌, take, string_bytes}
 use Rattle.wasm_module_listing.specs.CountTable.{table_text}
 use Rattle.wasm_module_listing.proofs.table.push_rows.Given as goal
 
--- The lines of the rows before this one.
 abbrev pub invariant-loop-row : goal.invariant-loop-row
 invariant-loop-row l = string_bytes l.out ≡ string_bytes l.initial.out ++ table_text (take l.row-index l.rows)

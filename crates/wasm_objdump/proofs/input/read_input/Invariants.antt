@@ -2,7 +2,6 @@ use Rattle.std.proofs.Common.{◌-◌, ◌^◌, vec_len}
 use Rattle.std.specs.Io.KnownBytes.{Consumes}
 use Rattle.wasm_objdump.proofs.input.read_input.Given as goal
 
--- The bytes in `input` are those that were read from the reader.
 abbrev pub invariant-loop-count : goal.invariant-loop-count
 invariant-loop-count g l = Consumes (g.R.Read.remaining l.initial.reader) (g.R.Read.remaining l.reader) l.input.items
 

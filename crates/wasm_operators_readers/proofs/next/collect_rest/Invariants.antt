@@ -7,7 +7,7 @@ use Rattle.wasm_operators_readers.specs.Next.{state_of}
 use Rattle.wasm_operators_readers.specs.Reading.{TakesOperators}
 use Rattle.wasm_operators_readers.proofs.next.collect_rest.Given as goal
 
--- The items so far are made of the operators that were read so far, and the capacity has not shrunk.
+-- The items are made of the operators read so far, and the capacity has not shrunk.
 abbrev pub invariant-operators : goal.invariant-operators
 invariant-operators g l = (placed : Placed) × Collects g.T.HoldOperator.holds l.fn.list.items.items l.list.items.items placed × TakesOperators (state_of l.fn.reader l.fn.control) (state_of l.reader l.control) placed × (vec_capacity l.fn.list.items ≤ vec_capacity l.list.items)
 
