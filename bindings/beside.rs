@@ -2,12 +2,11 @@
 //!
 //!     beside [--time ROUNDS] BODIES..
 //!
-//! A file of BODIES has bodies one after the other: each is a length in four bytes, little-endian, and its bytes. For
-//! each body, both libraries list the operators and the locals, call visitors with and without SIMD, and read each kind
-//! of value at the first positions. All results must be equal: values by `Debug`, errors by `Display`.
+//! In a file of BODIES, each body is a length in four bytes, little-endian, and its bytes. Both libraries list operators
+//! and locals, call visitors, and read values at the first positions. Values must have the same `Debug`, errors the same
+//! `Display`.
 //!
-//! With `--time`, both then read all bodies of a file ROUNDS times, in several ways. The best time of each way is printed
-//! in nanoseconds for each operator, and as a ratio to wasmparser's list.
+//! `--time` prints the best of ROUNDS for each way, in nanoseconds per operator and as a ratio to wasmparser's list.
 
 use std::cell::RefCell;
 use std::hint::black_box;
@@ -71,7 +70,7 @@ fn iterated(bytes: &[u8]) -> Vec<String> {
     out
 }
 
-/// Feature sets with which both libraries read the same. Without features 16 and 32, wasmparser's alignments have more bits.
+/// Feature sets with which both libraries read the same.
 const FEATURES: [u32; 4] = [63, 62, 61, 63 - 4 - 8];
 
 /// Returns the name of the first way in which the libraries differ.

@@ -1,4 +1,4 @@
-// What a library finds in a body. `beside.rs` includes this file once for each library, as `library`.
+// What a library finds in a body. `beside.rs` includes this file for each, as `library`.
 
 use self::library::*;
 

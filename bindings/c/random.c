@@ -1,7 +1,7 @@
 /* random CALLS MODULE..: calls the library on changed and cut modules, and on random structs.
  *
- * A call that fails changes nothing but `*refusal`, and a text's length if the text does not fit. A body lies within its
- * module. A reader keeps its other fields. The first call that does otherwise is named, and the status is 1. */
+ * A call that fails may change only `*refusal`, and a text's length. A body lies within its module. The first call that
+ * does otherwise is named, and the status is 1. */
 #include "wasm_operators.h"
 
 #include <stdint.h>
@@ -22,9 +22,9 @@ static uint64_t below(uint64_t limit) {
 }
 
 /* Ends the program unless this is true. */
-static void require(int is_true, const char *told) {
+static void require(int is_true, const char *what) {
   if (is_true) return;
-  printf("%s\n", told);
+  printf("%s\n", what);
   exit(1);
 }
 
@@ -67,20 +67,20 @@ static void look_at_text(uint32_t refused, const uint8_t *text, size_t length, s
 static void try_texts(const uint8_t *bytes, size_t length) {
   uint8_t text[TEXT];
   wasm_refusal refusal;
-  size_t room = (size_t)below(TEXT), needed = 7;
+  size_t capacity = (size_t)below(TEXT), needed = 7;
   uint64_t offset = below(3), at = below(length + 5);
   uint32_t features = (uint32_t)below(70);
   memset(text, 0x5a, sizeof text);
-  uint32_t refused = wasm_function_name(bytes, length, (uint32_t)below(5), text, room, &needed, &refusal);
-  look_at_text(refused, text, room, needed, "wasm_function_name");
+  uint32_t refused = wasm_function_name(bytes, length, (uint32_t)below(5), text, capacity, &needed, &refusal);
+  look_at_text(refused, text, capacity, needed, "wasm_function_name");
   memset(text, 0x5a, sizeof text);
   needed = 7;
-  refused = wasm_operator_text(bytes, length, offset, features, at, text, room, &needed, &refusal);
-  look_at_text(refused, text, room, needed, "wasm_operator_text");
+  refused = wasm_operator_text(bytes, length, offset, features, at, text, capacity, &needed, &refusal);
+  look_at_text(refused, text, capacity, needed, "wasm_operator_text");
   memset(text, 0x5a, sizeof text);
   needed = 7;
-  refused = wasm_operator_text_name(bytes, length, offset, features, at, text, room, &needed, &refusal);
-  look_at_text(refused, text, room, needed, "wasm_operator_text_name");
+  refused = wasm_operator_text_name(bytes, length, offset, features, at, text, capacity, &needed, &refusal);
+  look_at_text(refused, text, capacity, needed, "wasm_operator_text_name");
 }
 
 /* Checks that only the position and the number of frames changed, or nothing. */

@@ -1,8 +1,7 @@
 /* rows ROWS: calls the library on the rows of crates/wasm_tests_c/stdin, and compares the results.
  *
- * tools/c_answers.py describes the rows. Rows of bodies are read by wasm_next_plain, as constant expressions and as
- * locals; rows of lists are left to replay.c. The last line has the numbers of rows and of differences. The status is 1
- * if there is a difference. */
+ * tools/c_answers.py describes the rows. Bodies are read by wasm_next_plain, as constant expressions and as locals; lists
+ * are left to replay.c. The last line counts rows and differences; with differences the status is 1. */
 #include "wasm_operators.h"
 
 #include <inttypes.h>
@@ -37,7 +36,7 @@ static void compare(const char *call, const text *found, const char *expected) {
   if (differ++ < 10) printf("%s: %s, and not %s\n", call, found->bytes, expected);
 }
 
-/* Returns the bytes of a hexadecimal text. Frees nothing. */
+/* Returns the bytes of a hexadecimal text. */
 static uint8_t *bytes_of(const char *hex, size_t *length) {
   *length = strlen(hex) / 2;
   uint8_t *bytes = malloc(*length + 1);
@@ -114,19 +113,19 @@ static void look_at_locals(const uint8_t *bytes, size_t length, uint32_t feature
 }
 
 static void look_at_plain(const uint8_t *bytes, size_t length, uint32_t features, const char *expected) {
-  size_t room = wasm_frames_needed(length), count = 0;
-  uint8_t *frames = malloc(room);
+  size_t capacity = wasm_frames_needed(length), count = 0;
+  uint8_t *frames = malloc(capacity);
   if (frames == NULL) exit(2);
   wasm_reader reader;
   wasm_operator op;
   wasm_refusal refusal;
   text found = {"", 0};
-  uint32_t refused = wasm_open_body(bytes, length, 0, features, frames, room, &reader, &refusal);
+  uint32_t refused = wasm_open_body(bytes, length, 0, features, frames, capacity, &reader, &refusal);
   while (refused == 0 && reader.position < length) {
-    refused = wasm_next_plain(bytes, length, frames, room, &reader, &op, &refusal);
+    refused = wasm_next_plain(bytes, length, frames, capacity, &reader, &op, &refusal);
     if (refused == 0) count++;
   }
-  if (refused == 0) refused = wasm_finish(bytes, length, frames, room, &reader, &refusal);
+  if (refused == 0) refused = wasm_finish(bytes, length, frames, capacity, &reader, &refusal);
   add(&found, "%zu ", count);
   if (refused == 0) {
     add(&found, "Ok");
@@ -147,8 +146,7 @@ static void look_at_body(char *const *cells) {
   free(bytes);
 }
 
-/* Compares the text of an operator and its name, which ends at the first space. With an array that is one byte too
- * short, nothing is written. */
+/* Compares the text of an operator and its name, also with an array that is one byte too short. */
 static void look_at_text(const char *hex, const char *expected) {
   size_t length, needed = 0, name_length = 0, again = 0;
   uint8_t *bytes = bytes_of(hex, &length);

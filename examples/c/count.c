@@ -1,4 +1,4 @@
-/* count: how many operators of each proposal stand in the function body on standard input. */
+/* count: counts the operators of the function body on standard input by proposal. */
 #include "wasm_operators.h"
 
 #include <inttypes.h>
@@ -14,13 +14,13 @@ static const char *const proposals[] = {
 };
 enum { PROPOSALS = sizeof proposals / sizeof *proposals };
 
-/* A body of at most this many bytes. */
+/* The longest body. */
 static uint8_t body[1 << 20];
 
 int main(void) {
   size_t length = fread(body, 1, sizeof body, stdin);
 
-  /* How many there are is asked first, with no room for any; then there is room for all. */
+  /* The first call, with an empty array, returns the count. */
   wasm_operator none;
   size_t count = 0;
   wasm_refusal refusal;

@@ -1,11 +1,11 @@
-/* list BODY: lists the operators of a function body, which a file holds: an offset and a name a line. */
+/* list BODY: lists the operators of the function body in a file, each with its offset and name. */
 #include "wasm_operators.h"
 
 #include <inttypes.h>
 #include <stdio.h>
 #include <stdlib.h>
 
-/* The bytes of a file, or null where it can't be read. */
+/* Returns the bytes of a file, or null if it can't be read. */
 static uint8_t *read_file(const char *path, size_t *length) {
   FILE *file = fopen(path, "rb");
   if (file == NULL) return NULL;
@@ -35,7 +35,7 @@ int main(int argc, char **argv) {
     return 2;
   }
 
-  /* An operator takes a byte or more, so this is room enough. */
+  /* An operator has at least one byte. */
   wasm_operator *operators = malloc((length + 1) * sizeof *operators);
   if (operators == NULL) return 2;
   size_t count = 0;
@@ -44,14 +44,14 @@ int main(int argc, char **argv) {
 
   for (size_t i = 0; i < count; i++) {
     uint8_t name[WASM_LONGEST_NAME];
-    size_t told = wasm_operator_name(&operators[i], name, sizeof name);
-    printf("%" PRIu64 " %.*s\n", operators[i].offset, (int)told, (const char *)name);
+    size_t written = wasm_operator_name(&operators[i], name, sizeof name);
+    printf("%" PRIu64 " %.*s\n", operators[i].offset, (int)written, (const char *)name);
   }
   if (refused != 0) {
     uint8_t text[128];
-    size_t told = wasm_refusal_text(&refusal, text, sizeof text);
-    if (told > sizeof text) told = sizeof text;
-    fprintf(stderr, "error at %" PRIu64 ": %.*s\n", refusal.offset, (int)told, (const char *)text);
+    size_t written = wasm_refusal_text(&refusal, text, sizeof text);
+    if (written > sizeof text) written = sizeof text;
+    fprintf(stderr, "error at %" PRIu64 ": %.*s\n", refusal.offset, (int)written, (const char *)text);
   }
   free(operators);
   free(bytes);

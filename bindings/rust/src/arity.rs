@@ -1,44 +1,40 @@
-//! How many operands an operator takes, and how many values it leaves.
-//!
-//! Numbers that do not depend on the module come from the table of operators (`for_each_operator!`).
+//! How many operands an operator takes and leaves. Numbers that do not depend on the module are in `for_each_operator!`.
 
 use crate::frames::FrameKind;
 use crate::operator::Operator;
 use crate::{BlockType, MemArg, MemArgTarget, for_each_operator};
 
-/// What the arities of some operators depend on: the types of a module, and the open frames.
-///
-/// A pair is a number of parameters and a number of results.
+/// What arities depend on: the types of a module, and the open frames. A pair is the numbers of parameters and results.
 pub trait ModuleArity {
-    /// Returns the numbers of parameters and results of the function type with this index.
+    /// Returns the arity of a function type.
     fn func_type_arity(&self, type_index: u32) -> Option<(u32, u32)>;
 
-    /// Returns the number of fields of the struct type with this index.
+    /// Returns the number of fields of a struct type.
     fn struct_type_fields(&self, type_index: u32) -> Option<u32>;
 
-    /// Returns the index of the function type of the continuation type with this index.
+    /// Returns the function type of a continuation type.
     fn cont_type_func(&self, type_index: u32) -> Option<u32>;
 
-    /// Returns the index of the continuation type that is the last parameter of the function type with this index.
+    /// Returns the continuation type that is the last parameter of a function type.
     fn cont_type_of_last_param(&self, type_index: u32) -> Option<u32>;
 
-    /// Returns the numbers of parameters and results of the tag with this index.
+    /// Returns the arity of a tag.
     fn tag_type_arity(&self, tag_index: u32) -> Option<(u32, u32)>;
 
-    /// Returns the type index of the function with this index.
+    /// Returns the type of a function.
     fn type_index_of_function(&self, function_index: u32) -> Option<u32>;
 
     /// Returns the number of open frames.
     fn control_stack_height(&self) -> u32;
 
-    /// Returns the block type and the kind of the frame at this depth. The innermost frame has depth 0.
+    /// Returns the block type and kind of the frame at this depth; the innermost has 0.
     fn label_block(&self, depth: u32) -> Option<(BlockType, FrameKind)>;
 }
 
-/// A number of operands or parameters, and a number of results.
+/// The numbers of operands and results.
 type Arity = Option<(u32, u32)>;
 
-/// Returns how many operands the target of an access is, besides the address.
+/// Returns the number of arrays that an access takes.
 fn arrays(memarg: &MemArg) -> u32 {
     match memarg.target {
         MemArgTarget::Memory(_) => 0,
@@ -52,7 +48,7 @@ fn one_more(arity: Arity) -> Arity {
     Some((takes.checked_add(1)?, leaves))
 }
 
-/// Removes the results: the operators that follow are not reached.
+/// Removes the results.
 fn leaving(arity: Arity) -> Arity {
     let (takes, _) = arity?;
     Some((takes, 0))
@@ -70,13 +66,13 @@ impl<M: ModuleArity> Rules<'_, M> {
         }
     }
 
-    /// Returns the numbers of parameters and results of the block of a frame.
+    /// Returns the arity of a frame's block.
     fn frame(&self, depth: u32) -> Arity {
         let (ty, _) = self.0.label_block(depth)?;
         self.block(ty)
     }
 
-    /// Returns the number of values that a branch to this depth carries.
+    /// Returns how many values a branch carries.
     fn label(&self, depth: u32) -> Option<u32> {
         let (ty, kind) = self.0.label_block(depth)?;
         let (parameters, results) = self.block(ty)?;
@@ -108,7 +104,7 @@ impl<M: ModuleArity> Rules<'_, M> {
         Some((results, parameters))
     }
 
-    /// Returns the arity of an operator that takes the results of the frame at a depth.
+    /// Returns the arity of an operator that keeps a frame's results.
     fn results(&self, depth: u32) -> Arity {
         let (_, results) = self.frame(depth)?;
         Some((results, results))
@@ -169,7 +165,7 @@ impl<M: ModuleArity> Rules<'_, M> {
         Some((self.0.struct_type_fields(index)?, 1))
     }
 
-    /// Returns the arity of an operator of a block, a branch or the end of one.
+    /// Returns the arity of an operator of blocks or branches.
     fn control(&self, op: &Operator<'_>) -> Arity {
         match op {
             Operator::Block { blockty }
@@ -258,9 +254,9 @@ macro_rules! arity_of {
 }
 
 impl Operator<'_> {
-    /// Returns how many operands the operator takes, and how many values it leaves.
+    /// Returns how many operands the operator takes and leaves.
     ///
-    /// Returns `None` if the module does not have what the operator names, or if a number does not fit in 32 bits.
+    /// Returns `None` if the module lacks what the operator names, or if a number exceeds 32 bits.
     #[allow(unused_variables)] // most arities do not depend on the fields
     pub fn operator_arity(&self, module: &impl ModuleArity) -> Option<(u32, u32)> {
         let (rules, op) = (Rules(module), self);

@@ -1,4 +1,4 @@
-//! Readers of bytes. The library reads each value.
+//! Readers of bytes.
 
 use crate::frames::{FrameKind, FrameStack};
 use crate::native::{self, PlainOperator, PlainReader, PlainValue, ValueKind};
@@ -8,7 +8,7 @@ use crate::{BlockType, Error, FromReader, Ieee32, Ieee64, Result, VisitOperator,
 use std::marker::PhantomData;
 use std::ops::Range;
 
-/// The greatest length of a string that `read_string` and `skip_string` read.
+/// The limit of `read_string` and `skip_string`.
 const LONGEST_STRING: usize = 100_000;
 
 /// A reader of values at a position in bytes.
@@ -32,11 +32,7 @@ impl<'a> BinaryReader<'a> {
         BinaryReader::new_features(data, original_offset, WasmFeatures::all())
     }
 
-    /// Creates a reader over `data`, with these features. `original_offset` is the offset of the first byte.
-    ///
-    /// # Panics
-    ///
-    /// Panics if the offset of the end does not fit in 64 bits, which [`max_data_len`](Self::max_data_len) tests.
+    /// Creates a reader over `data` with these features, like [`new`](Self::new).
     pub fn new_features(
         data: &[u8],
         original_offset: u64,
@@ -66,7 +62,7 @@ impl<'a> BinaryReader<'a> {
         }
     }
 
-    /// Returns the greatest length of data from this offset on.
+    /// Returns the greatest length of data at this offset.
     pub fn max_data_len(original_offset: u64) -> usize {
         usize::try_from(u64::MAX - original_offset).unwrap_or(usize::MAX)
     }
@@ -87,7 +83,7 @@ impl<'a> BinaryReader<'a> {
         self.features = features;
     }
 
-    /// Returns the offsets of all bytes, also of those that were read.
+    /// Returns the offsets of all bytes.
     pub fn range(&self) -> Range<u64> {
         self.original_offset..self.original_offset + self.buffer.len() as u64
     }
@@ -102,7 +98,7 @@ impl<'a> BinaryReader<'a> {
         &self.buffer[self.position..]
     }
 
-    /// Returns all bytes, also those that were read.
+    /// Returns all bytes.
     pub(crate) fn buffer(&self) -> &'a [u8] {
         self.buffer
     }
@@ -131,7 +127,7 @@ impl<'a> BinaryReader<'a> {
         self.bytes_remaining() == 1 && read_last().is_ok_and(|op| op.is_end())
     }
 
-    /// Returns the reader as a C struct, with this many open frames.
+    /// Returns a C struct with this many open frames.
     fn plain(&self, depth: u64) -> PlainReader {
         PlainReader {
             offset: self.original_offset,
@@ -166,15 +162,13 @@ impl<'a> BinaryReader<'a> {
         T::from_reader(self)
     }
 
-    /// Reads a number of variable length of at most `limit`. The error's text names what it counts, `desc`.
+    /// Reads a number of at most `limit`. `desc` says in an error what it counts.
     pub fn read_size(&mut self, limit: usize, desc: &str) -> Result<usize> {
         let size = self.read_value(ValueKind::Size, limit as u64);
         Ok(size.map_err(|error| error.of_size(desc))?.number as usize)
     }
 
-    /// Reads a count of at most `limit`, and returns an iterator that reads as many values.
-    ///
-    /// Values that are not taken from the iterator are read when it is dropped, up to an error.
+    /// Reads a count of at most `limit`, and returns an iterator over as many values. Dropping it reads the rest.
     pub fn read_iter<'me, T>(
         &'me mut self,
         limit: usize,
@@ -197,7 +191,7 @@ impl<'a> BinaryReader<'a> {
         Ok(&self.buffer[self.position - size..self.position])
     }
 
-    /// Reads a length and that many bytes, and returns a reader of these bytes.
+    /// Reads a length, and returns a reader of that many bytes.
     pub fn read_reader(&mut self) -> Result<BinaryReader<'a>> {
         let length = self.read_number(ValueKind::Sized)? as usize;
         Ok(self.part(self.position - length))
@@ -213,11 +207,7 @@ impl<'a> BinaryReader<'a> {
         }
     }
 
-    /// Calls `f`, which reads, and returns a reader of the bytes that it has read.
-    ///
-    /// # Panics
-    ///
-    /// Panics if `f` replaces the reader by one at an earlier position.
+    /// Returns a reader of the bytes that `f` reads. Panics if `f` goes back.
     pub fn skip(&mut self, f: impl FnOnce(&mut Self) -> Result<()>) -> Result<Self> {
         let mut after = self.clone();
         f(&mut after)?;
@@ -242,30 +232,30 @@ impl<'a> BinaryReader<'a> {
         Ok(self.read_number(ValueKind::U8)? as u8)
     }
 
-    /// Reads an unsigned number of 32 bits, of one to five bytes.
+    /// Reads an unsigned LEB128 number of 32 bits.
     #[inline]
     pub fn read_var_u32(&mut self) -> Result<u32> {
         Ok(self.read_number(ValueKind::VarU32)? as u32)
     }
 
-    /// Reads an unsigned number of 64 bits, of one to ten bytes.
+    /// Reads an unsigned LEB128 number of 64 bits.
     #[inline]
     pub fn read_var_u64(&mut self) -> Result<u64> {
         self.read_number(ValueKind::VarU64)
     }
 
-    /// Reads a signed number of 32 bits, of one to five bytes.
+    /// Reads a signed LEB128 number of 32 bits.
     #[inline]
     pub fn read_var_i32(&mut self) -> Result<i32> {
         Ok(self.read_number(ValueKind::VarI32)? as i32)
     }
 
-    /// Reads a signed number of 33 bits, of one to five bytes.
+    /// Reads a signed LEB128 number of 33 bits.
     pub fn read_var_s33(&mut self) -> Result<i64> {
         Ok(self.read_number(ValueKind::VarS33)? as i64)
     }
 
-    /// Reads a signed number of 64 bits, of one to ten bytes.
+    /// Reads a signed LEB128 number of 64 bits.
     pub fn read_var_i64(&mut self) -> Result<i64> {
         Ok(self.read_number(ValueKind::VarI64)? as i64)
     }
@@ -295,13 +285,13 @@ impl<'a> BinaryReader<'a> {
         self.read_text(usize::MAX)
     }
 
-    /// Reads a length of at most 100000, and skips that many bytes, which need not be a string.
+    /// Reads a length of at most 100000, and skips that many bytes.
     pub fn skip_string(&mut self) -> Result<()> {
         (_, *self) = self.string_bytes(LONGEST_STRING)?;
         Ok(())
     }
 
-    /// Reads a length of at most `limit` and that many bytes. Returns them, and a reader after them.
+    /// Returns a length-prefixed string's bytes, and a reader after them.
     fn string_bytes(&self, limit: usize) -> Result<(&'a [u8], BinaryReader<'a>)> {
         let mut after = self.clone();
         let length = after.read_var_u32()? as usize;
@@ -313,7 +303,7 @@ impl<'a> BinaryReader<'a> {
         Ok((bytes, after))
     }
 
-    /// Reads a length of at most `limit` and a string of that many bytes.
+    /// Reads a string of at most `limit` bytes.
     fn read_text(&mut self, limit: usize) -> Result<&'a str> {
         let (bytes, after) = self.string_bytes(limit)?;
         let last = after.original_position() - 1;
@@ -324,7 +314,7 @@ impl<'a> BinaryReader<'a> {
     }
 }
 
-/// An iterator over values, which [`BinaryReader::read_iter`] returns. It ends after an error.
+/// The iterator of [`BinaryReader::read_iter`]. It ends after an error.
 pub struct BinaryReaderIter<'a, 'me, T: FromReader<'a>> {
     remaining: usize,
     reader: &'me mut BinaryReader<'a>,
@@ -360,23 +350,23 @@ where
     }
 }
 
-/// The bytes of the frames for one operator: the caller's, and one that the operator may open.
+/// The frames for one operator: the caller's, and one that it may open.
 type TwoFrames = [u8; 2];
 
 impl<'a> BinaryReader<'a> {
-    /// Checks that an expression ends here: no frame of the stack is open, and no byte is left.
+    /// Checks that no frame of the stack is open and no byte is left.
     pub fn finish_expression(&self, stack: &impl FrameStack) -> Result<()> {
         let (frames, reader) = self.in_frame(stack.current_frame());
         Ok(native::finish(self.buffer, &frames, &reader)?)
     }
 
-    /// Returns the frames and the reader for one operator inside this frame.
+    /// Returns the C structs for one operator inside this frame.
     fn in_frame(&self, frame: Option<FrameKind>) -> (TwoFrames, PlainReader) {
         let innermost = frame.unwrap_or(FrameKind::Block).byte();
         ([innermost, 0], self.plain(u64::from(frame.is_some())))
     }
 
-    /// Reads the operator inside this frame, and goes after it.
+    /// Reads the operator inside this frame.
     fn read_in_frame(&mut self, frame: Option<FrameKind>) -> Result<PlainOperator> {
         let (mut frames, mut reader) = self.in_frame(frame);
         let op = native::next(self.buffer, &mut frames, &mut reader)?;
@@ -384,7 +374,7 @@ impl<'a> BinaryReader<'a> {
         Ok(op)
     }
 
-    /// Returns the error of a visitor without SIMD at the operator inside this frame.
+    /// Returns the error of a visitor without SIMD.
     #[cold]
     fn error_without_simd(&self, frame: Option<FrameKind>) -> Error {
         let (mut frames, mut reader) = self.in_frame(frame);
@@ -394,8 +384,7 @@ impl<'a> BinaryReader<'a> {
         }
     }
 
-    /// Reads an operator in the visitor's current frame, and calls the visitor's method for it. The visitor keeps its
-    /// frames.
+    /// Reads an operator in the visitor's current frame, and calls the visitor's method.
     pub fn visit_operator<T>(&mut self, visitor: &mut T) -> Result<<T as VisitOperator<'a>>::Output>
     where
         T: VisitOperator<'a> + FrameStack,
@@ -416,7 +405,7 @@ impl<'a> BinaryReader<'a> {
         Err(self.error_without_simd(frame))
     }
 
-    /// Reads an operator in the current frame of the stack, without advancing.
+    /// Returns the next operator in the stack's current frame, without advancing.
     pub fn peek_operator<T: FrameStack>(&self, stack: &T) -> Result<Operator<'a>> {
         let bytes = self.remaining_buffer();
         let op = self.clone().read_in_frame(stack.current_frame())?;

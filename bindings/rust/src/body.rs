@@ -1,11 +1,12 @@
-//! Whole bodies, which the library reads by one call. wasmparser does not have these.
+//! Whole bodies by one call, which wasmparser does not have.
 
 use crate::native::{self, PlainOperator};
 use crate::operator::{Operator, operator_of};
 use crate::{Error, Result, WasmFeatures};
 
-/// Reads all operators of a body as C structs into `out`, whose elements are replaced and whose allocation is kept.
-/// On failure, `out` is the longest prefix that begins a body. `offset` is the offset of the first byte.
+/// Replaces the elements of `out` by the operators of a body. `offset` is the offset of the first byte.
+///
+/// On failure, `out` is the longest prefix that begins a body; it may be shorter if allocation fails.
 pub fn read_plain(
     bytes: &[u8],
     offset: u64,
@@ -31,9 +32,7 @@ pub struct Body<'a> {
 }
 
 impl<'a> Body<'a> {
-    /// Reads a body, which starts with its locals. `offset` is the offset of the first byte.
-    ///
-    /// [`error`](Body::error) returns the error, if there is one, also if the offset of the end does not fit in 64 bits.
+    /// Reads a body. `offset` is the offset of the first byte. [`error`](Body::error) returns the error, if there is one.
     pub fn read(bytes: &'a [u8], offset: u64, features: WasmFeatures) -> Body<'a> {
         let mut operators = Vec::new();
         let end = read_plain(bytes, offset, features, &mut operators).err();

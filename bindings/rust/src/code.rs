@@ -25,7 +25,7 @@ impl<'a> FunctionBody<'a> {
         self.reader.clone()
     }
 
-    /// Reads the count of the declarations of locals, and returns a reader of them.
+    /// Reads the count of declarations of locals, and returns a reader of them.
     pub fn get_locals_reader(&self) -> Result<LocalsReader<'a>> {
         let mut reader = self.reader.clone();
         let declaration_count = reader.read_var_u32()?;
@@ -49,7 +49,7 @@ impl<'a> FunctionBody<'a> {
         Ok(OperatorsReader::new(reader))
     }
 
-    /// Returns the offsets of the reader's bytes, also of those before the body.
+    /// Returns the offsets of the reader's bytes.
     pub fn range(&self) -> Range<u64> {
         self.reader.range()
     }
@@ -74,7 +74,7 @@ pub struct LocalsReader<'a> {
 }
 
 impl<'a> LocalsReader<'a> {
-    /// Returns the number of declarations, also of those that were read.
+    /// Returns the number of all declarations.
     pub fn get_count(&self) -> u32 {
         self.declaration_count
     }
@@ -84,7 +84,7 @@ impl<'a> LocalsReader<'a> {
         self.reader.original_position()
     }
 
-    /// Reads a declaration: how many locals it has, and their type. Fails if there are more locals than fit in 32 bits.
+    /// Reads a declaration: a number of locals, and their type. Fails if their total exceeds 32 bits.
     pub fn read(&mut self) -> Result<(u32, ValType)> {
         let total = u64::from(self.total_count);
         let value = self.reader.read_value(ValueKind::Local, total)?;

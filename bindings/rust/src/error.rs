@@ -72,7 +72,7 @@ impl Error {
         self.inner.offset
     }
 
-    /// Returns the number of the error in the library's header, or 0 for an error in a string. wasmparser has no numbers.
+    /// Returns the library's number of the error, or 0 for an error in a string. wasmparser has no numbers.
     pub fn number(&self) -> u32 {
         self.inner.number
     }
@@ -85,7 +85,7 @@ impl From<Refusal> for Error {
     }
 }
 
-/// Returns the text of the library's error. It has texts up to 25.
+/// Returns the text of the library's error.
 fn text_of(refusal: &Refusal) -> String {
     let value = refusal.value;
     match refusal.number {

@@ -17,7 +17,7 @@ macro_rules! features {
                 pub const $name: WasmFeatures = WasmFeatures($bit);
             )*
 
-            /// The names of the features, with the sets that have only them.
+            /// The names of the features.
             const NAMED: &[(&'static str, WasmFeatures)] =
                 &[$((stringify!($name), WasmFeatures::$name)),*];
 
@@ -75,7 +75,7 @@ impl WasmFeatures {
         }
     }
 
-    /// Returns the set with these bits. Bits that belong to no feature are left out.
+    /// Returns the set with these bits, without bits that belong to no feature.
     pub const fn from_bits_truncate(bits: u32) -> WasmFeatures {
         WasmFeatures(bits & ALL)
     }
@@ -86,14 +86,14 @@ impl WasmFeatures {
         found.map(|(_, features)| *features)
     }
 
-    /// Returns the names of the features in the set, with the sets that have only them.
+    /// Returns the features in the set with their names.
     pub fn iter_names(&self) -> impl Iterator<Item = (&'static str, WasmFeatures)> + use<> {
         let features = *self;
         let named = WasmFeatures::NAMED.iter().copied();
         named.filter(move |(_, one)| features.contains(*one))
     }
 
-    /// Returns the sets that have one feature of the set each.
+    /// Returns the features in the set.
     pub fn iter(&self) -> impl Iterator<Item = WasmFeatures> + use<> {
         self.iter_names().map(|(_, one)| one)
     }
@@ -128,7 +128,7 @@ impl WasmFeatures {
         self.0 &= !other.0;
     }
 
-    /// Removes those features of the other set that the set has, and adds those that it does not have.
+    /// Adds or removes each feature of the other set.
     pub const fn toggle(&mut self, other: WasmFeatures) {
         self.0 ^= other.0;
     }
@@ -152,12 +152,12 @@ impl WasmFeatures {
         WasmFeatures(self.0 & other.0)
     }
 
-    /// Returns the features that the other set does not have.
+    /// Returns the features that only this set has.
     pub const fn difference(self, other: WasmFeatures) -> WasmFeatures {
         WasmFeatures(self.0 & !other.0)
     }
 
-    /// Returns the features that only one of the sets has.
+    /// Returns the features of exactly one set.
     pub const fn symmetric_difference(self, other: WasmFeatures) -> WasmFeatures {
         WasmFeatures(self.0 ^ other.0)
     }
@@ -168,7 +168,7 @@ impl WasmFeatures {
     }
 }
 
-/// Defines an operator of sets by a method, and its assigning form.
+/// Defines operators by a method.
 macro_rules! operators {
     ($($trait:ident, $call:ident, $assign_trait:ident, $assign:ident, $method:ident;)*) => {
         $(

@@ -2,7 +2,7 @@
 
 use std::fmt;
 
-/// The kind of a frame: of what is open around an operator.
+/// The kind of a frame.
 #[derive(Clone, Copy, Debug, PartialEq, Eq)]
 pub enum FrameKind {
     /// A `block`, a function body or an expression.
@@ -15,11 +15,11 @@ pub enum FrameKind {
     Loop,
     /// A `try_table`.
     TryTable,
-    /// A `try` of the legacy exceptions.
+    /// A legacy `try`.
     LegacyTry,
-    /// A `catch` of the legacy exceptions.
+    /// A legacy `catch`.
     LegacyCatch,
-    /// A `catch_all` of the legacy exceptions.
+    /// A legacy `catch_all`.
     LegacyCatchAll,
 }
 
@@ -49,7 +49,7 @@ impl FrameKind {
     }
 }
 
-/// A stack of frames, whose innermost frame decides which operators may follow.
+/// A stack whose innermost frame decides which operators may follow.
 pub trait FrameStack {
     /// Returns the kind of the innermost frame, or `None` after the last `end`.
     fn current_frame(&self) -> Option<FrameKind>;
@@ -102,9 +102,9 @@ impl ControlStack {
     }
 }
 
-/// The memory of an [`OperatorsReader`](crate::OperatorsReader) for its frames, which another reader can use again.
+/// The memory of an [`OperatorsReader`](crate::OperatorsReader), for another reader.
 #[derive(Default)]
 pub struct OperatorsReaderAllocations {
-    /// The array of frames. Its contents have no meaning.
+    /// Its contents have no meaning.
     pub(crate) frames: Vec<u8>,
 }

@@ -19,7 +19,7 @@ pub enum BlockType {
 pub struct MemArg {
     /// The alignment, as the exponent of a power of two.
     pub align: u8,
-    /// The operator's natural alignment, as the exponent of a power of two. It is not in the bytes.
+    /// The operator's natural alignment, as such an exponent. It is not in the bytes.
     pub max_align: u8,
     /// The static offset in bytes.
     pub offset: u64,
@@ -56,9 +56,9 @@ pub enum MemArgOrdering {
 /// A memory ordering.
 #[derive(Clone, Copy, Debug, PartialEq, Eq, Hash)]
 pub enum Ordering {
-    /// A load acquires, and a store releases.
+    /// Acquire-release.
     AcqRel,
-    /// All threads see the operations in the same order.
+    /// Sequentially consistent.
     SeqCst,
 }
 

@@ -1,7 +1,6 @@
 //! The operators of WebAssembly function bodies, by a decoder that is proved (`libwasm_c.a`).
 //!
-//! The items have the names and signatures of the operators layer of `wasmparser` 0.263. A program on that layer
-//! compiles unchanged with this line in its `Cargo.toml`:
+//! A program on the operators layer of `wasmparser` 0.263 compiles unchanged with this line in its `Cargo.toml`:
 //!
 //! ```toml
 //! wasmparser = { package = "wasm-operators", path = ".." }
@@ -17,8 +16,7 @@
 //! # Ok::<(), wasm_operators::Error>(())
 //! ```
 //!
-//! The library is proved to decode. This crate converts its C structs, and is tested. `API.md` lists the items, with the
-//! function of the library that each one calls.
+//! The library is proved; this crate converts its C structs, and is tested. `API.md` lists what proves each item.
 
 #![deny(unsafe_code)]
 

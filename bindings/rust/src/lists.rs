@@ -7,10 +7,10 @@ use std::fmt;
 use std::marker::PhantomData;
 use std::vec;
 
-/// The labels of a `br_table`. The targets stay in the bytes, and the library reads them again.
+/// The labels of a `br_table`, which stay in the bytes.
 #[derive(Clone)]
 pub struct BrTable<'a> {
-    /// The bytes, which start with the operator.
+    /// Starts with the operator.
     bytes: &'a [u8],
     features: u32,
     count: u32,
@@ -76,7 +76,7 @@ impl<'a> BrTable<'a> {
     }
 }
 
-/// Two tables are equal if the counts, the default targets and the bytes of the targets are equal.
+/// Compares counts, default targets and the bytes of the targets.
 impl PartialEq for BrTable<'_> {
     fn eq(&self, other: &BrTable<'_>) -> bool {
         self.count == other.count
@@ -98,7 +98,7 @@ impl fmt::Debug for BrTable<'_> {
     }
 }
 
-/// An iterator over the targets of a [`BrTable`], without the default one. Each is `Ok`.
+/// An iterator over the targets of a [`BrTable`]. Each is `Ok`.
 pub struct BrTableTargets<'a> {
     targets: vec::IntoIter<u32>,
     table: PhantomData<&'a BrTable<'a>>,
@@ -121,11 +121,11 @@ impl Iterator for BrTableTargets<'_> {
 pub struct TryTable {
     /// The type of the block.
     pub ty: BlockType,
-    /// The clauses. The first that matches an exception catches it.
+    /// The clauses.
     pub catches: Vec<Catch>,
 }
 
-/// A clause of a `try_table`: the tag that it catches, if not all, and the label that it branches to.
+/// A clause of a `try_table`.
 #[derive(Clone, Copy, Debug, PartialEq, Eq, Hash)]
 pub enum Catch {
     /// `catch`
@@ -153,7 +153,7 @@ impl Catch {
 /// The clauses of a `resume`, `resume_throw` or `resume_throw_ref`.
 #[derive(Clone, Debug, PartialEq, Eq)]
 pub struct ResumeTable {
-    /// The clauses. The first that matches a suspension handles it.
+    /// The clauses.
     pub handlers: Vec<Handle>,
 }
 
@@ -184,13 +184,13 @@ impl Handle {
     }
 }
 
-/// Reads the types of a `select` that has none or several. `bytes` starts with the operator.
+/// Reads the types of a `select` at the start of `bytes`.
 pub(crate) fn select_types(op: &PlainOperator, bytes: &[u8], features: u32) -> Vec<ValType> {
     let types = native::select_types(bytes, features, op.first);
     types.iter().map(|ty| val_type(ty.kind, ty.index)).collect()
 }
 
-/// Reads the clauses of a `try_table`. `bytes` starts with the operator.
+/// Reads a `try_table` at the start of `bytes`.
 pub(crate) fn try_table(op: &PlainOperator, bytes: &[u8], features: u32) -> TryTable {
     let catches = native::catches(bytes, features, op.second);
     let catch = |&PlainHandler { kind, tag, label }: &PlainHandler| Catch::of(kind, tag, label);
@@ -200,7 +200,7 @@ pub(crate) fn try_table(op: &PlainOperator, bytes: &[u8], features: u32) -> TryT
     }
 }
 
-/// Reads this many clauses of a `resume` and its like. `bytes` starts with the operator.
+/// Reads the clauses of a `resume` and its like.
 pub(crate) fn resume_table(bytes: &[u8], features: u32, count: u32) -> ResumeTable {
     let handlers = native::handlers(bytes, features, count);
     let handle = |&PlainHandler { kind, tag, label }: &PlainHandler| Handle::of(kind, tag, label);

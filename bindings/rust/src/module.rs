@@ -1,4 +1,4 @@
-//! The functions of a module. wasmparser's operators layer does not have these.
+//! The functions of a module, which wasmparser's operators layer does not have.
 
 use crate::native::{self, PlainBodies, PlainBody};
 use crate::{BinaryReader, Error, FunctionBody, Result, WasmFeatures};
@@ -6,7 +6,7 @@ use crate::{BinaryReader, Error, FunctionBody, Result, WasmFeatures};
 /// A function that a module defines.
 #[derive(Clone, Debug)]
 pub struct Function<'a> {
-    /// The index of the function. Imported functions have the lowest indices.
+    /// The index of the function.
     pub index: u32,
     /// The index of its type.
     pub type_index: u32,
@@ -45,7 +45,7 @@ pub struct Functions<'a> {
 const NO_BODY: u32 = 111;
 
 impl<'a> Functions<'a> {
-    /// Reads the sections of a module that describe functions. The readers of the bodies get these features.
+    /// Reads a module's sections about functions. Bodies are read with these features.
     pub fn new(bytes: &'a [u8], features: WasmFeatures) -> Result<Functions<'a>> {
         Ok(Functions {
             bytes,
@@ -91,7 +91,7 @@ impl<'a> Iterator for Functions<'a> {
 
 /// Returns the name of a function that a module defines, or `None` if it has none or if the name is not UTF-8.
 ///
-/// A name in the custom section `name` replaces the name of an export. Each call reads the sections again.
+/// A name in the section `name` precedes an export. Each call reads the sections again.
 pub fn function_name(module: &[u8], index: u32) -> Result<Option<String>> {
     let name = native::function_name(module, index)?;
     Ok((!name.is_empty()).then_some(name))

@@ -1,16 +1,15 @@
-//! Safe calls of `libwasm_c.a`, as `wasm_operators.h` declares its functions. No other module has `unsafe`.
+//! Safe calls of the functions of `wasm_operators.h`. No other module has `unsafe`.
 //!
-//! Each `unsafe` block is one call. All are safe for the same reasons:
+//! Each `unsafe` block is one call, safe for these reasons:
 //!
-//! - The library is proved to read within its inputs, to write within its outputs, and to keep no pointer.
-//! - The pointers come from live borrows, with their lengths. The pointer of an empty slice is not null.
-//! - The structs have the library's layout: they are `repr(C)`, and `check_version` compares the versions. They hold
-//!   only integers, so the library may write any bits to them.
+//! - The library is proved to stay within its inputs and outputs, and to keep no pointer.
+//! - Pointers come from live borrows, with their lengths, and are never null.
+//! - The structs are `repr(C)`, as in the library's version (`check_version`), and hold only integers.
 
 /// The version of the structs and functions.
 const VERSION: u32 = 4;
 
-/// An operator as a C struct: `wasm_operator` of the header, which says what each field means.
+/// An operator as a C struct: `wasm_operator` of the header, which describes the fields.
 #[repr(C)]
 #[derive(Clone, Copy, Debug, Default, PartialEq, Eq)]
 pub struct PlainOperator {
@@ -31,7 +30,7 @@ pub struct PlainOperator {
     pub bytes: [u8; 16],
 }
 
-/// An error as a C struct: `wasm_refusal` of the header.
+/// `wasm_refusal` of the header.
 #[repr(C)]
 #[derive(Clone, Copy, Debug, Default, PartialEq, Eq)]
 pub struct Refusal {
@@ -42,7 +41,7 @@ pub struct Refusal {
     pub reserved: u32,
 }
 
-/// A position in bytes, with the number of open frames: `wasm_reader` of the header.
+/// `wasm_reader` of the header.
 #[repr(C)]
 #[derive(Clone, Copy, Debug, Default, PartialEq, Eq)]
 pub struct PlainReader {
@@ -53,7 +52,7 @@ pub struct PlainReader {
     pub reserved: u32,
 }
 
-/// A value type: `wasm_type` of the header.
+/// `wasm_type` of the header.
 #[repr(C)]
 #[derive(Clone, Copy, Debug, Default, PartialEq, Eq)]
 pub struct PlainType {
@@ -61,7 +60,7 @@ pub struct PlainType {
     pub index: u32,
 }
 
-/// A clause of a `try_table` or a `resume`: `wasm_handler` of the header.
+/// `wasm_handler` of the header.
 #[repr(C)]
 #[derive(Clone, Copy, Debug, Default, PartialEq, Eq)]
 pub struct PlainHandler {
@@ -70,7 +69,7 @@ pub struct PlainHandler {
     pub label: u32,
 }
 
-/// A value: `wasm_value` of the header.
+/// `wasm_value` of the header.
 #[repr(C)]
 #[derive(Clone, Copy, Debug, Default, PartialEq, Eq)]
 pub struct PlainValue {
@@ -79,7 +78,7 @@ pub struct PlainValue {
     pub index: u32,
 }
 
-/// A place between the bodies of a module: `wasm_bodies` of the header.
+/// `wasm_bodies` of the header.
 #[repr(C)]
 #[derive(Clone, Copy, Debug, Default, PartialEq, Eq)]
 pub struct PlainBodies {
@@ -91,7 +90,7 @@ pub struct PlainBodies {
     pub reserved: u32,
 }
 
-/// The body of a function of a module: `wasm_body` of the header.
+/// `wasm_body` of the header.
 #[repr(C)]
 #[derive(Clone, Copy, Debug, Default, PartialEq, Eq)]
 pub struct PlainBody {
@@ -101,7 +100,7 @@ pub struct PlainBody {
     pub type_index: u32,
 }
 
-/// What `read_value` reads: `wasm_value_kind` of the header.
+/// `wasm_value_kind` of the header.
 #[repr(u32)]
 #[derive(Clone, Copy, Debug, PartialEq, Eq)]
 pub enum ValueKind {
@@ -127,7 +126,7 @@ pub enum ValueKind {
     Clause = 19,
 }
 
-/// A function that opens an expression.
+/// Opens an expression.
 type Open = unsafe extern "C" fn(
     *const u8,
     usize,
@@ -139,7 +138,7 @@ type Open = unsafe extern "C" fn(
     *mut Refusal,
 ) -> u32;
 
-/// A function that reads the next operator.
+/// Reads the next operator.
 type Next = unsafe extern "C" fn(
     *const u8,
     usize,
@@ -150,7 +149,7 @@ type Next = unsafe extern "C" fn(
     *mut Refusal,
 ) -> u32;
 
-/// A function that writes the members of a list.
+/// Writes the members of a list.
 type List<T> = unsafe extern "C" fn(
     *const u8,
     usize,
@@ -164,7 +163,7 @@ type List<T> = unsafe extern "C" fn(
     *mut Refusal,
 ) -> u32;
 
-/// A function that writes the text of an operator.
+/// Writes the text of an operator.
 type Text = unsafe extern "C" fn(
     *const u8,
     usize,
@@ -351,7 +350,7 @@ unsafe extern "C" {
     fn wasm_refusal_text(refusal: *const Refusal, text: *mut u8, text_length: usize) -> usize;
 }
 
-/// Panics unless the library has the version that this file declares.
+/// Panics unless the library has this version.
 pub fn check_version() {
     assert_eq!(
         wasm_operators_version(),
@@ -360,7 +359,7 @@ pub fn check_version() {
     );
 }
 
-/// Reads all operators of a body into `out`, whose elements are replaced. Returns how reading ended.
+/// Reads a body into `out`, whose elements are replaced. Returns how reading ended.
 pub fn read_body(
     bytes: &[u8],
     offset: u64,
@@ -368,12 +367,12 @@ pub fn read_body(
     out: &mut Vec<PlainOperator>,
 ) -> Refusal {
     check_version();
-    // An operator has at least one byte, so all of them fit.
+    // An operator has at least one byte.
     out.clear();
     out.reserve(bytes.len());
     let mut count = 0;
     let mut refusal = Refusal::default();
-    // SAFETY: see the head of this file. The library has written the first `count` elements, as far as they fit.
+    // SAFETY: see the head. `count` elements are written, as far as they fit.
     unsafe {
         wasm_read_body(
             bytes.as_ptr(),
@@ -390,7 +389,7 @@ pub fn read_body(
     refusal
 }
 
-/// Opens an expression by one of the functions that do so. `frames` becomes long enough for the frames of `ahead` bytes.
+/// Opens an expression. `frames` becomes long enough for `ahead` bytes.
 fn open_by(
     open: Open,
     bytes: &[u8],
@@ -402,14 +401,14 @@ fn open_by(
     check_version();
     let needed = wasm_frames_needed(ahead);
     if frames.capacity() == 0 {
-        // The allocator's zeroed memory costs nothing for the frames that are never opened.
+        // Zeroed memory is free until it is used.
         *frames = vec![0; needed];
     } else if frames.len() < needed {
         frames.resize(needed, 0);
     }
     let mut reader = PlainReader::default();
     let mut refusal = Refusal::default();
-    // SAFETY: see the head of this file.
+    // SAFETY: see the head.
     let number = unsafe {
         open(
             bytes.as_ptr(),
@@ -429,7 +428,7 @@ fn open_by(
     }
 }
 
-/// Opens the expression at a position of the bytes, with these frames, whose contents are replaced.
+/// Opens the expression at a position. The contents of `frames` are replaced.
 pub fn open(
     bytes: &[u8],
     position: usize,
@@ -443,7 +442,6 @@ pub fn open(
     Ok(reader)
 }
 
-/// Opens the expression of a body, after its locals.
 pub fn open_body(
     bytes: &[u8],
     offset: u64,
@@ -453,7 +451,7 @@ pub fn open_body(
     open_by(wasm_open_body, bytes, bytes.len(), offset, features, frames)
 }
 
-/// Reads the next operator by one of the functions that do so. On failure, nothing changes.
+/// Reads the next operator by a function.
 fn next_by(
     next: Next,
     bytes: &[u8],
@@ -462,7 +460,7 @@ fn next_by(
 ) -> Result<PlainOperator, Refusal> {
     let mut operator = PlainOperator::default();
     let mut refusal = Refusal::default();
-    // SAFETY: see the head of this file.
+    // SAFETY: see the head.
     let number = unsafe {
         next(
             bytes.as_ptr(),
@@ -481,7 +479,7 @@ fn next_by(
     }
 }
 
-/// Reads the next operator. On failure, nothing changes.
+/// Reads the next operator.
 #[inline]
 pub fn next(
     bytes: &[u8],
@@ -491,7 +489,7 @@ pub fn next(
     next_by(wasm_next, bytes, frames, reader)
 }
 
-/// Reads the next operator for a visitor without SIMD. On failure, nothing changes.
+/// Reads the next operator for a visitor without SIMD.
 pub fn next_plain(
     bytes: &[u8],
     frames: &mut [u8],
@@ -500,8 +498,7 @@ pub fn next_plain(
     next_by(wasm_next_plain, bytes, frames, reader)
 }
 
-/// Reads as many operators as `out` has capacity for, up to the end of the bytes or an error, which is returned. The
-/// elements of `out` are replaced.
+/// Replaces the elements of `out` by operators, up to its capacity, the end or an error, which is returned.
 pub fn read(
     bytes: &[u8],
     frames: &mut [u8],
@@ -510,7 +507,7 @@ pub fn read(
 ) -> Refusal {
     let mut count = 0;
     let mut refusal = Refusal::default();
-    // SAFETY: see the head of this file. The library has written the first `count` elements.
+    // SAFETY: see the head. `count` elements are written.
     unsafe {
         wasm_read(
             bytes.as_ptr(),
@@ -528,10 +525,10 @@ pub fn read(
     refusal
 }
 
-/// Checks whether an expression ends at the reader's position.
+/// Checks that an expression ends here.
 pub fn finish(bytes: &[u8], frames: &[u8], reader: &PlainReader) -> Result<(), Refusal> {
     let mut refusal = Refusal::default();
-    // SAFETY: see the head of this file.
+    // SAFETY: see the head.
     let number = unsafe {
         wasm_finish(
             bytes.as_ptr(),
@@ -545,7 +542,7 @@ pub fn finish(bytes: &[u8], frames: &[u8], reader: &PlainReader) -> Result<(), R
     if number == 0 { Ok(()) } else { Err(refusal) }
 }
 
-/// Reads a value at the reader's position. On failure, nothing changes.
+/// Reads a value at the reader's position.
 #[inline]
 pub fn read_value(
     bytes: &[u8],
@@ -555,7 +552,7 @@ pub fn read_value(
 ) -> Result<PlainValue, Refusal> {
     let mut value = PlainValue::default();
     let mut refusal = Refusal::default();
-    // SAFETY: see the head of this file.
+    // SAFETY: see the head.
     let number = unsafe {
         wasm_read_value(
             bytes.as_ptr(),
@@ -570,12 +567,12 @@ pub fn read_value(
     if number == 0 { Ok(value) } else { Err(refusal) }
 }
 
-/// Reads the `count` members of the list of the operator that begins with these bytes.
+/// Reads the members of the list of the operator at the start of `bytes`.
 fn members<T: Copy + Default>(list: List<T>, bytes: &[u8], features: u32, count: u32) -> Vec<T> {
     let mut out = vec![T::default(); count as usize];
     let mut found = 0;
     let mut refusal = Refusal::default();
-    // SAFETY: see the head of this file.
+    // SAFETY: see the head.
     let number = unsafe {
         list(
             bytes.as_ptr(),
@@ -597,30 +594,26 @@ fn members<T: Copy + Default>(list: List<T>, bytes: &[u8], features: u32, count:
     out
 }
 
-/// Reads the targets of a `br_table`, without the default target.
 pub fn branch_targets(bytes: &[u8], features: u32, count: u32) -> Vec<u32> {
     members(wasm_br_table_targets, bytes, features, count)
 }
 
-/// Reads the types of a `select` that has none or several.
 pub fn select_types(bytes: &[u8], features: u32, count: u32) -> Vec<PlainType> {
     members(wasm_select_types, bytes, features, count)
 }
 
-/// Reads the catches of a `try_table`.
 pub fn catches(bytes: &[u8], features: u32, count: u32) -> Vec<PlainHandler> {
     members(wasm_try_table_catches, bytes, features, count)
 }
 
-/// Reads the clauses of a `resume`, `resume_throw` or `resume_throw_ref`.
 pub fn handlers(bytes: &[u8], features: u32, count: u32) -> Vec<PlainHandler> {
     members(wasm_resume_handlers, bytes, features, count)
 }
 
-/// The library's number if an array is too short.
+/// The error of an array that is too short.
 const NO_ROOM: u32 = 102;
 
-/// Returns the text that a function writes. It is called with an array, and a second time if the text is longer.
+/// Returns the text that a function writes, in a second call if it is long.
 fn text_of(
     mut write: impl FnMut(&mut [u8], &mut usize, &mut Refusal) -> u32,
 ) -> Result<String, Refusal> {
@@ -638,7 +631,7 @@ fn text_of(
     Ok(String::from_utf8_lossy(&text[..length]).into_owned())
 }
 
-/// Returns the text of the operator at an offset, by one of the functions that write it.
+/// Returns the text of the operator at an offset, by a function.
 fn operator_text_by(
     text_by: Text,
     bytes: &[u8],
@@ -648,7 +641,7 @@ fn operator_text_by(
 ) -> Result<String, Refusal> {
     check_version();
     text_of(|text, length, refusal| {
-        // SAFETY: see the head of this file.
+        // SAFETY: see the head.
         unsafe {
             text_by(
                 bytes.as_ptr(),
@@ -665,12 +658,10 @@ fn operator_text_by(
     })
 }
 
-/// Returns the text of the operator at an offset.
 pub fn operator_text(bytes: &[u8], offset: u64, features: u32, at: u64) -> Result<String, Refusal> {
     operator_text_by(wasm_operator_text, bytes, offset, features, at)
 }
 
-/// Returns the name of the operator at an offset in the text format.
 pub fn operator_text_name(
     bytes: &[u8],
     offset: u64,
@@ -680,12 +671,11 @@ pub fn operator_text_name(
     operator_text_by(wasm_operator_text_name, bytes, offset, features, at)
 }
 
-/// Opens the bodies of a module.
 pub fn open_bodies(bytes: &[u8]) -> Result<PlainBodies, Refusal> {
     check_version();
     let mut bodies = PlainBodies::default();
     let mut refusal = Refusal::default();
-    // SAFETY: see the head of this file.
+    // SAFETY: see the head.
     let number =
         unsafe { wasm_open_bodies(bytes.as_ptr(), bytes.len(), &mut bodies, &mut refusal) };
     if number == 0 {
@@ -695,21 +685,20 @@ pub fn open_bodies(bytes: &[u8]) -> Result<PlainBodies, Refusal> {
     }
 }
 
-/// Reads the next body of a module. On failure, nothing changes.
 pub fn next_body(bytes: &[u8], bodies: &mut PlainBodies) -> Result<PlainBody, Refusal> {
     let mut body = PlainBody::default();
     let mut refusal = Refusal::default();
-    // SAFETY: see the head of this file.
+    // SAFETY: see the head.
     let number =
         unsafe { wasm_next_body(bytes.as_ptr(), bytes.len(), bodies, &mut body, &mut refusal) };
     if number == 0 { Ok(body) } else { Err(refusal) }
 }
 
-/// Returns the name of a function that a module defines. It is empty without a name.
+/// Returns the name of a defined function, or an empty text.
 pub fn function_name(bytes: &[u8], index: u32) -> Result<String, Refusal> {
     check_version();
     text_of(|name, length, refusal| {
-        // SAFETY: see the head of this file.
+        // SAFETY: see the head.
         unsafe {
             wasm_function_name(
                 bytes.as_ptr(),
@@ -727,10 +716,10 @@ pub fn function_name(bytes: &[u8], index: u32) -> Result<String, Refusal> {
 /// The longest text of an error is shorter.
 const LONGEST_TEXT: usize = 128;
 
-/// Returns the text of an error, or an empty text for the numbers of the library that have none.
+/// Returns the text of an error, which is empty for the library's numbers.
 pub fn refusal_text(refusal: &Refusal) -> String {
     let mut text = [0; LONGEST_TEXT];
-    // SAFETY: see the head of this file.
+    // SAFETY: see the head.
     let length = unsafe { wasm_refusal_text(refusal, text.as_mut_ptr(), text.len()) };
     String::from_utf8_lossy(&text[..length.min(text.len())]).into_owned()
 }

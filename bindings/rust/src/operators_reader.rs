@@ -1,4 +1,4 @@
-//! Readers of operators, which keep the open frames, and iterators over operators.
+//! Readers of operators, and iterators over operators.
 
 use crate::frames::{FrameKind, FrameStack, OperatorsReaderAllocations};
 use crate::native::{self, PlainOperator, PlainReader};
@@ -20,7 +20,7 @@ impl<'a> OperatorsReader<'a> {
         OperatorsReader::new_with_allocs(reader, OperatorsReaderAllocations::default())
     }
 
-    /// Creates a reader of the expression at the position of `reader`, with the memory of an earlier reader.
+    /// Creates a reader with the memory of an earlier reader.
     pub fn new_with_allocs(reader: BinaryReader<'a>, allocs: OperatorsReaderAllocations) -> Self {
         let mut frames = allocs.frames;
         let bytes = reader.buffer();
@@ -31,7 +31,7 @@ impl<'a> OperatorsReader<'a> {
             reader.features().bits(),
             &mut frames,
         );
-        // A `BinaryReader` has known features and an end that fits in 64 bits, and there is space for a frame.
+        // The features are known, the end fits in 64 bits, and a frame fits.
         let opened = opened.unwrap_or_else(|refusal| panic!("no expression opens: {refusal:?}"));
         OperatorsReader {
             bytes,
@@ -40,7 +40,7 @@ impl<'a> OperatorsReader<'a> {
         }
     }
 
-    /// Creates a reader of the operators of a body, after its locals. `offset` is the offset of the first byte.
+    /// Creates a reader of the operators of a body. `offset` is the offset of the first byte.
     pub fn of_body(
         bytes: &'a [u8],
         offset: u64,
@@ -84,7 +84,7 @@ impl<'a> OperatorsReader<'a> {
         }
     }
 
-    /// Reads the next operator. On failure, nothing changes.
+    /// Reads the next operator.
     pub fn read(&mut self) -> Result<Operator<'a>> {
         let at = self.reader.position as usize;
         let op = native::next(self.bytes, &mut self.frames, &mut self.reader)?;
@@ -102,7 +102,7 @@ impl<'a> OperatorsReader<'a> {
     /// ```
     /// use wasm_operators::{BinaryReader, OperatorsReader, VisitOperator, for_each_visit_operator};
     ///
-    /// /// Prints the name of each method that is called.
+    /// /// Prints the name of each method.
     /// struct Names;
     ///
     /// macro_rules! print_name {
@@ -162,7 +162,7 @@ impl<'a> OperatorsReader<'a> {
         }
     }
 
-    /// Reads all operators, and returns them with their offsets. Fails unless the expression ends after them.
+    /// Reads all operators with their offsets. Fails unless the expression ends after them.
     pub fn read_all(self) -> Result<Vec<(Operator<'a>, u64)>> {
         let mut operators = self.into_iter_with_offsets();
         let found: Vec<(Operator<'a>, u64)> = operators.by_ref().collect::<Result<_>>()?;
@@ -170,7 +170,7 @@ impl<'a> OperatorsReader<'a> {
         Ok(found)
     }
 
-    /// Checks that the expression ends here: no frame is open, and no byte is left.
+    /// Checks that no frame is open and no byte is left.
     pub fn finish(&self) -> Result<()> {
         Ok(native::finish(self.bytes, &self.frames, &self.reader)?)
     }
@@ -197,7 +197,7 @@ impl<'a> IntoIterator for OperatorsReader<'a> {
 /// The number of operators in a batch.
 const BATCH: usize = 64;
 
-/// An iterator over the operators of an expression, up to the end of the bytes or an error.
+/// An iterator over operators, which ends after an error.
 pub struct OperatorsIterator<'a> {
     operators: OperatorsIteratorWithOffsets<'a>,
 }
@@ -217,7 +217,7 @@ impl<'a> Iterator for OperatorsIterator<'a> {
     }
 }
 
-/// An iterator over the operators of an expression with their offsets, up to the end of the bytes or an error.
+/// An iterator over operators with their offsets, which ends after an error.
 pub struct OperatorsIteratorWithOffsets<'a> {
     reader: OperatorsReader<'a>,
     batch: Vec<PlainOperator>,

@@ -5,7 +5,7 @@ use std::fmt;
 use std::marker::PhantomData;
 use std::ops::Range;
 
-/// A section: a count, and as many items of type `T` up to the end of the bytes.
+/// A section: a count, and as many items of type `T`.
 pub struct SectionLimited<'a, T> {
     reader: BinaryReader<'a>,
     count: u32,
@@ -85,7 +85,7 @@ where
     }
 }
 
-/// An iterator over the items of a section. After the last one it checks that no byte is left. It ends after an error.
+/// An iterator over the items of a section, which must fill it. It ends after an error.
 pub struct SectionLimitedIntoIter<'a, T> {
     section: SectionLimited<'a, T>,
     remaining: u32,

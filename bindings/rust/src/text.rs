@@ -1,8 +1,8 @@
-//! Operators in the text format. wasmparser does not have these.
+//! Operators in the text format, which wasmparser does not have.
 
 use crate::{Result, WasmFeatures, native};
 
-/// Returns the text of the operator at the offset `at`, with its operands. `offset` is the offset of the first byte.
+/// Returns the text of the operator at the offset `at`. `offset` is the offset of the first byte.
 ///
 /// ```
 /// use wasm_operators::{WasmFeatures, operator_text};
@@ -15,7 +15,7 @@ pub fn operator_text(bytes: &[u8], offset: u64, features: WasmFeatures, at: u64)
     Ok(native::operator_text(bytes, offset, features.bits(), at)?)
 }
 
-/// Returns the name of the operator at the offset `at` in the text format, such as `i32.const`.
+/// Returns the name of the operator at the offset `at`, such as `i32.const`.
 pub fn operator_text_name(
     bytes: &[u8],
     offset: u64,

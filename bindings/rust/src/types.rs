@@ -12,13 +12,13 @@ pub enum ValType {
 }
 
 impl ValType {
-    /// Nullable references to functions.
+    /// `(ref null func)`
     pub const FUNCREF: ValType = ValType::Ref(RefType::FUNCREF);
-    /// Nullable references to objects of the host.
+    /// `(ref null extern)`
     pub const EXTERNREF: ValType = ValType::Ref(RefType::EXTERNREF);
-    /// Nullable references to exceptions.
+    /// `(ref null exn)`
     pub const EXNREF: ValType = ValType::Ref(RefType::EXNREF);
-    /// Nullable references to continuations.
+    /// `(ref null cont)`
     pub const CONTREF: ValType = ValType::Ref(RefType::CONTREF);
 
     /// Returns whether this is a reference type.
@@ -48,10 +48,10 @@ pub struct RefType {
     heap_type: HeapType,
 }
 
-/// The greatest index of a type that a reference type may have.
+/// The greatest index of a heap type.
 const GREATEST_INDEX: u32 = 1_048_575;
 
-/// Defines the reference types of the abstract heap types that are not shared.
+/// Defines reference types to unshared abstract heap types.
 macro_rules! reference_types {
     ($($ty:ident, $plain:ident, $nullable:ident, $is:ident, $what:literal;)*) => {
         impl RefType {
@@ -104,7 +104,7 @@ impl RefType {
         }
     }
 
-    /// Creates a reference type, or returns `None` if the index of the heap type is above 1048575.
+    /// Creates a reference type, or returns `None` if its index is above 1048575.
     pub const fn new(nullable: bool, heap_type: HeapType) -> Option<RefType> {
         match heap_type {
             HeapType::Concrete(index) | HeapType::Exact(index) if index > GREATEST_INDEX => None,
@@ -137,13 +137,13 @@ impl RefType {
         matches!(self.heap_type, HeapType::Concrete(_))
     }
 
-    /// Returns whether the heap type is the type with an index, without its subtypes.
+    /// Returns whether the heap type is exact.
     pub const fn is_exact_type_ref(&self) -> bool {
         matches!(self.heap_type, HeapType::Exact(_))
     }
 }
 
-/// A heap type: the type of what a reference refers to.
+/// A heap type.
 #[derive(Clone, Copy, Debug, PartialEq, Eq, Hash)]
 pub enum HeapType {
     /// An abstract heap type, shared between threads or not.
@@ -173,8 +173,7 @@ pub enum AbstractHeapType {
     NoCont,
 }
 
-// The flags that the library adds to the byte of a heap type: shared between threads, nullable, a reference type as a
-// value type.
+// The library's flags of a heap type: shared, nullable, a reference type as a value type.
 const SHARED: u32 = 256;
 const NULLABLE: u32 = 512;
 const REFERENCE: u32 = 1024;

@@ -12,16 +12,13 @@ macro_rules! declare {
 
 /// A visitor with a method for each operator that is not a SIMD operator.
 ///
-/// [`for_each_visit_operator!`](crate::for_each_visit_operator) defines the methods. [`VisitAny`] is a trait with one
-/// method for all operators.
+/// [`for_each_visit_operator!`](crate::for_each_visit_operator) defines the methods. [`VisitAny`] has one for all operators.
 #[allow(missing_docs)]
 pub trait VisitOperator<'a> {
     /// The type that the methods return.
     type Output: 'a;
 
     /// Calls the method of this operator with copies of its fields.
-    ///
-    /// # Panics
     ///
     /// Panics if it is a SIMD operator and [`simd_visitor`](Self::simd_visitor) returns `None`.
     fn visit_operator(&mut self, op: &Operator<'a>) -> Self::Output {
@@ -36,9 +33,7 @@ pub trait VisitOperator<'a> {
         for_each_visit_operator!(visit)
     }
 
-    /// Returns the visitor of SIMD operators: `Some(self)` in a visitor that implements [`VisitSimdOperator`].
-    ///
-    /// If it is `None`, reading a SIMD operator fails.
+    /// Returns the visitor of SIMD operators. If it is `None`, reading a SIMD operator fails.
     ///
     /// ```
     /// use wasm_operators::{VisitOperator, VisitSimdOperator};
@@ -102,7 +97,7 @@ where
     for_each_visit_simd_operator!(visit)
 }
 
-/// Defines the method of each operator by a call of the method of `V`.
+/// Defines each method by `V`'s.
 macro_rules! delegate {
     ($(@$proposal:ident $op:ident $({ $($field:ident: $ty:ty),* })? => $visit:ident ($($ann:tt)*))*) => {
         $(
@@ -142,9 +137,7 @@ macro_rules! implement_for {
 implement_for!(&mut V);
 implement_for!(Box<V>);
 
-/// A visitor with one method for all operators. wasmparser does not have it.
-///
-/// [`EachVisit`] makes it a [`VisitOperator`] and a [`VisitSimdOperator`].
+/// A visitor with one method for all operators, which wasmparser does not have. [`EachVisit`] makes it a [`VisitOperator`].
 ///
 /// ```
 /// use wasm_operators::{BinaryReader, EachVisit, Operator, OperatorsReader, VisitAny};
@@ -176,11 +169,11 @@ pub trait VisitAny<'a> {
     fn visit_any(&mut self, op: Operator<'a>) -> Self::Output;
 }
 
-/// A visitor whose methods call [`VisitAny::visit_any`] of the value in it.
+/// A visitor whose methods call [`VisitAny::visit_any`].
 #[derive(Clone, Copy, Debug, Default, PartialEq, Eq, Hash)]
 pub struct EachVisit<V>(pub V);
 
-/// Defines the method of each operator by `visit_any`.
+/// Defines each method by `visit_any`.
 macro_rules! visit_any {
     ($(@$proposal:ident $op:ident $({ $($field:ident: $ty:ty),* })? => $visit:ident ($($ann:tt)*))*) => {
         $(

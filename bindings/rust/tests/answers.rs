@@ -34,8 +34,7 @@ fn fingerprint(sum: u64, text: &str) -> u64 {
     })
 }
 
-/// Checks that a body is read as these cells say: status, number, offset and text of the error, the number of operators,
-/// and the fingerprint of their lines.
+/// Checks a body by the cells: status, number, offset and text of the error, number of operators, fingerprint of lines.
 fn look_at(body: &Body<'_>, cells: &[&str]) {
     let mut lines = 14695981039346656037;
     let mut found = 0;
@@ -234,7 +233,7 @@ fn iterators() {
     }
 }
 
-/// Returns the members of an operator's list as the samples write them, or the only type of a `select`.
+/// Returns the members of an operator's list as in the samples.
 fn list_of(operator: &Operator<'_>) -> Option<String> {
     let type_of = |ty: &ValType| match ty {
         ValType::Ref(ty) => format!("{}Func", if ty.is_nullable() { "?" } else { "!" }),

@@ -1,4 +1,4 @@
-//! Tests of the items that wasmparser's operators layer has, on bytes whose meaning is known.
+//! Tests of the items that wasmparser's operators layer has.
 
 use wasm_operators::{
     AbstractHeapType, BinaryReader, BlockType, BrTable, Catch, CodeSectionReader, ConstExpr,
@@ -118,7 +118,6 @@ fn parts_and_items() -> Result<()> {
         .read_iter::<u32>(3, "items")?
         .collect::<Result<Vec<_>>>()?;
     assert_eq!(items, [1, 2, 3]);
-    // Items that are not taken are read when the iterator is dropped.
     assert_eq!(
         reader.clone().read_iter::<u32>(3, "items")?.size_hint(),
         (3, Some(3))
