@@ -27,7 +27,8 @@ pub fn refusals()
     module_laws::refusals();
 }
 
-/// States that a module has one number of imported functions and one list of their types.
+/// States that a module has one number of imported functions, and one list of the type indices of
+/// the functions that it defines.
 pub fn own_functions()
     ensures { (whole : Reader) → (t u : ModuleFunctions) → DescribesFunctions whole t → DescribesFunctions whole u → (t.imported ≡ u.imported) × (t.types ≡ u.types) }
 {

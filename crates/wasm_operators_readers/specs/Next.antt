@@ -17,7 +17,7 @@ use Rattle.wasm_operators_readers.specs.Reading.{Taking, Refusing, Allocating, S
 abbrev pub ListMayAllocate : Taking → Allocating
 ListMayAllocate Encodes s = (kind : FrameKind) × (innermost s.frames ≡ Some kind) × MayAllocate (Encodes s.reader.features kind) s.reader
 
--- The next operator opens a frame without capacity for it, or owns a list.
+-- The next opcode opens a frame without capacity, or `ListMayAllocate`.
 abbrev pub NextMayAllocate : Taking → Allocating
 NextMayAllocate Encodes s = FrameMayAllocate s ⊎ ListMayAllocate Encodes s
 

@@ -91,7 +91,8 @@ NoMemory Allocates e s = (e.message ≡ message.OutOfMemory) × (e.offset ≡ of
 abbrev pub Anywhere : Allocating
 Anywhere s = Unit {0}
 
--- The next operator opens a frame inside others, without capacity for it.
+-- The next opcode opens a frame inside others, without capacity for it. What follows it may be in
+-- error.
 abbrev pub FrameMayAllocate : Allocating
 FrameMayAllocate s = (kind : FrameKind) × (innermost s.frames ≡ Some kind) × (byte : ℕ) × BeginsWith byte (rest s.reader) × LeadsFrame byte × (s.room ≡ 0)
 
