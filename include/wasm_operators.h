@@ -934,7 +934,7 @@ uint32_t wasm_read_body(const uint8_t *bytes, size_t bytes_length, uint64_t offs
                         wasm_operator *out, size_t out_length, size_t *count, wasm_refusal *refusal);
 
 /* Writes the text of a refusal in ASCII, truncated to `text_length` bytes. Returns the length of the whole text in
- * bytes, or 0 if the struct is not a refusal. */
+ * bytes, or 0 if it has none: not a refusal, or one from 100 on. */
 size_t wasm_refusal_text(const wasm_refusal *refusal, uint8_t *text, size_t text_length);
 
 /* Writes the name of an operator in ASCII, truncated to `name_length` bytes. Returns the length of the whole name in

@@ -48,10 +48,10 @@ def is_ruled(enum, ops):
 
 
 def fixed_arity_specs(ops):
-    body = ["-- The numbers of operands and results; for `gc_pair`, `None` if they depend on the module."]
+    body = ["-- The numbers of operands and results; for `gc_pair`, `None` if `arity_of` has a rule."]
     for enum in held():
         body += enum_pairs(enum, [op for op in ops if op.group == enum.group])
-    body += ["-- The numbers of operands and results of any operator; `None` if they depend on the module.", "abbrev pub fixed_arity : Operator → Option (ℕ × ℕ)"]
+    body += ["-- The numbers of operands and results of any operator; `None` if `arity_of` has a rule.", "abbrev pub fixed_arity : Operator → Option (ℕ × ℕ)"]
     for (pair, _), those in by_pair([op for op in ops if op.group == "Own"]):
         body += [f"fixed_arity {argument_pattern(op, 'operator')} = Some {pair}" for op in those]
     for enum in held():
@@ -147,7 +147,7 @@ def operator_arity(ops):
     own = [op for op in ops if op.group == "Own"]
     out = [
         "impl<'a> Operator<'a> {",
-        "/// Returns the numbers of operands and results, or `None` if they depend on the module.",
+        "/// Returns the numbers of operands and results, or `None` if `operator_arity` computes them.",
         "pub(crate) fn fixed_arity(&self) -> Option<(u32, u32)>",
         "ensures { result ≡ pair_of self.now }",
         "{",

@@ -223,7 +223,7 @@ def names_spec(ops):
         "-- Specification: Appendix, Index of Instructions.",
         "use Rattle.std.specs.Prelude.{◌==◌, ℕ, List, [], codes, if◌then◌else◌}",
         "",
-        "-- The name of an operator's variant, or an empty text. Its number is the opcode, or prefix byte * 0x10000 + subopcode.",
+        "-- The variant's name by the operator's number: opcode, or prefix byte * 0x10000 + subopcode. Empty if this function lacks it.",
     ]
     for at in range(len(parts) - 1, -1, -1):
         name, those = parts[at]
@@ -234,7 +234,7 @@ def names_spec(ops):
         lines.append("")
     first, second = [next(op for op in ops if op.name == name) for name in SHARED]
     lines += [
-        "-- The name by number and shape: two operators share a number, and shape 19 selects the first.",
+        "-- The name by number and shape: two operators share 0x1c, and shape 19 selects `TypedSelect`.",
         "abbrev pub name_at : ℕ → ℕ → List ℕ",
         "name_at number shape =",
         f'    if number == 0x{number(first):x} then (if shape == {ONE_TYPE} then codes "{first.name}" else codes "{second.name}") else {parts[0][0]} number',

@@ -118,7 +118,7 @@ def made_source(ops):
         "",
         f"pub const COUNT: u32 = {len(those)};",
         "",
-        "/// Returns the operator with this number, which no constant can make; `None` if allocation fails.",
+        "/// Returns operator `number`, made by calls; `None` from `COUNT` on or if allocation fails.",
         "pub fn made(alloc: Global, number: u32) -> Option<Operator<'static>> {",
         "Some(match number {",
         *arms,

@@ -14,7 +14,7 @@ abbrev pub HaveArities : List (ℕ × ℕ) → List ℕ → Placed → Type 0
 HaveArities types functions [] = Unit {0}
 HaveArities types functions (p ∷ ps) = HasArity types functions p.0 × HaveArities types functions ps
 
--- The module is unchanged, and a fault is kept.
+-- The module is unchanged, and no fault is cleared.
 pub record KeepsModule (before after : Heights) : Type 0 where
   pub types : after.context.types.now ≡ before.context.types.now
   pub functions : after.context.functions.now ≡ before.context.functions.now

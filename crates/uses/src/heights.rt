@@ -48,7 +48,7 @@ fn is_stack_polymorphic(op: &Operator<'_>) -> bool {
     )
 }
 
-/// Returns the kind that the operator gives the innermost frame, if it changes it.
+/// Returns the new kind of the innermost frame, if the operator changes it.
 fn turned(op: &Operator<'_>) -> Option<FrameKind> {
     match op {
         Operator::Else => Some(FrameKind::Else),
@@ -77,7 +77,7 @@ fn add_frame(frames: &mut Vec<Frame>, frame: Frame) -> bool {
 }
 
 impl<'m> Heights<'m> {
-    /// Takes `takes` operands from a frame, or all if the frame ends.
+    /// Takes `takes` operands from `frame`; if `all`, others left are a fault.
     fn take(&mut self, frame: Frame, takes: u32, all: bool)
         ensures { KeepsModule self.old self.new }
     {

@@ -16,7 +16,8 @@ use wasm_operators::{
     WasmFeatures, expression_laws,
 };
 
-/// Creates a reader with capacity for all frames, and reserves capacity for all operators in `list`.
+/// Creates a reader with capacity for all frames, and reserves capacity in `list` for all
+/// operators.
 fn reserve<'a>(
     alloc: Global,
     reader: BinaryReader<'a>,
@@ -39,8 +40,8 @@ fn reserve<'a>(
     }
 }
 
-/// Reads the rest of an expression with reserved capacity: allocation can fail only for a list that
-/// an operator owns. With more capacity, the frames' memory stays the same.
+/// Reads the rest of an expression with reserved capacity: allocation can fail only for an
+/// operator's list. With more capacity (clause `same`), the frames' memory stays the same.
 ///
 /// The clauses `kept` and `runs` of `read_all` say that no capacity is lost. By `depth` and the law
 /// `layouts`, one frame for two bytes and one operator a byte are enough.
@@ -61,8 +62,8 @@ pub fn read_reserved<'a>(
     operators.read_all(list)
 }
 
-/// Returns the operators of an expression, for which all capacity is reserved before the first is
-/// read.
+/// Returns the operators of an expression. Reserves capacity for them and their frames before
+/// reading.
 pub fn operators_reserved<'a>(
     alloc: Global,
     features: WasmFeatures,

@@ -24,8 +24,8 @@ impl FrameStack for Inside {
     }
 }
 
-/// Returns the operator at the reader's position, inside a frame of this kind, without consuming
-/// it. On an error other than `OutOfMemory`, no operator is encoded there.
+/// Returns, without consuming it, the next operator if a frame of this kind allows it. Any error
+/// except `OutOfMemory` means that no such operator is next.
 pub fn operator_inside<'a>(
     alloc: Global,
     reader: &BinaryReader<'a>,

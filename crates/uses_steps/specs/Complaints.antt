@@ -19,7 +19,7 @@ abbrev pub IsRefusal : Option Error → State → State → Type 0
 IsRefusal (Some e) old new = StopsNext EncodesAllowed OperatorFault e old new
 IsRefusal None old new = (op : Operator) × TakesOperator EncodesAllowed op old new
 
--- The next operator needs legacy exceptions, or the innermost frame does not allow it.
+-- `Feature`: the next operator's is disabled. `Frame`: the innermost forbids it. `Other`: no claim.
 abbrev pub IsComplaint : State → Complaint → Type 0
 IsComplaint s complaint.Feature = (g : Guard) × BeginsGuarded g s.reader × LacksFeature s.reader.features g
 IsComplaint s complaint.Frame =

@@ -4,7 +4,7 @@ use Rattle.wasm_operators.specs.Expression.{Placed, operators, AreEncoded}
 use Rattle.wasm_operators.specs.MainTheorem.{ClosesFrom}
 use Rattle.wasm_operators.specs.Reading.{State}
 
--- The added operators encode all bytes that were left, and close every frame.
+-- All bytes that were left encode the added operators, which close every frame.
 pub record AddsRest (old : State) (before after : Placed) : Type 0 where
   pub placed : Placed
   pub added : after ≡ before ++ placed

@@ -67,7 +67,7 @@ pub fn allowed_operators<'a>(
     }
 }
 
-/// Returns the number of operators in the longest prefix of an expression. There is one such prefix
+/// Returns the number of operators in the longest prefix of an expression. That prefix is unique
 /// (laws `one_longest_beginning` and `one_expression`).
 pub fn beginning_len(alloc: Global, features: WasmFeatures, bytes: &[u8]) -> Result<usize>
     ensures longest { (longest : Placed) → IsLongestBeginning (input features bytes.now) longest

@@ -87,7 +87,7 @@ pub fn asked_twice(operators: &mut OperatorsReader<'_>) -> Option<(Error, Error)
     }
 }
 
-/// Reads the next operator from two readers in the same state. Both results and effects are equal
+/// Reads the next operator from two readers in the same state. On `Ok`, results and effects agree
 /// (law `same_result`).
 pub fn read_in_step<'a>(
     first: &mut OperatorsReader<'a>,

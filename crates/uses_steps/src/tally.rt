@@ -53,7 +53,7 @@ pub fn tally_next(alloc: Global, reader: &mut BinaryReader<'_>, tally: &mut Tall
     reader.visit_operator_simd(alloc, tally)
 }
 
-/// Counts the operator at the reader's position. Fails if it is a SIMD operator.
+/// Reads and counts the operator at the reader's position. Fails at a SIMD operator.
 pub fn tally_next_scalar(
     alloc: Global,
     reader: &mut BinaryReader<'_>,

@@ -11,11 +11,10 @@ use wasm_operators::{
     BinaryReader, Message, OperatorsReader, Result, WasmFeatures, expression_laws,
 };
 
-/// Returns whether an expression, up to its first error, has SIMD operators.
+/// Returns `true` if an expression, up to its first error, has SIMD operators.
 ///
 /// By the clause `vector` of `visit_all`, the error is `UnexpectedSimd` if the longest prefix has
-/// one. The longest prefix exists (law `longest_exists`), and starts with each other
-/// (`one_layout`).
+/// one. This prefix exists (law `longest_exists`), and starts with all others (`one_layout`).
 pub fn has_vectors(alloc: Global, features: WasmFeatures, bytes: &[u8]) -> Result<bool>
     ensures found { (longest : Placed) → IsLongestBeginning (input features bytes.now) longest → ¬ IsScalar longest
         → IfOk result (λ has. has ≡ true) }
@@ -40,8 +39,7 @@ pub fn has_vectors(alloc: Global, features: WasmFeatures, bytes: &[u8]) -> Resul
     }
 }
 
-/// Returns how many operators precede the first SIMD operator of an expression, up to its first
-/// error.
+/// Returns how many operators precede the first SIMD operator or error of an expression.
 ///
 /// The clause `beginning` of `visit_all` gives the visited list, and the law `scalar_longest`
 /// relates it to the longest prefix.

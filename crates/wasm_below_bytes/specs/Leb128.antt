@@ -14,7 +14,7 @@ abbrev pub AllGoOn : List ℕ → Type 0
 AllGoOn [] = Unit {0}
 AllGoOn (c ∷ text) = (128 ≤ c) × (c < 256) × AllGoOn text
 
--- The low seven bits of each byte, as one number.
+-- The low seven bits of continuation bytes, as one number.
 abbrev pub low_bits : List ℕ → ℕ
 low_bits [] = 0
 low_bits (c ∷ text) = 128 * low_bits text + (c - 128)

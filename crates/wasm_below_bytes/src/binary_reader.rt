@@ -185,7 +185,7 @@ impl<'a> BinaryReader<'a> {
         self.position = position;
     }
 
-    /// Moves to a position that a copy of the reader has reached.
+    /// Moves to `to`, for example a position that a copy reached.
     #[inline(always)]
     pub fn set_position(&mut self, to: usize)
         requires { to ≤ length self.old.buffer }
@@ -246,7 +246,7 @@ impl<'a> BinaryReader<'a> {
         Error::new(Message::EndOfData, self.original_position())
     }
 
-    /// Creates a reader over `bytes` at `offset` with the same features.
+    /// Creates a reader with the same features. `bytes` start at `offset`.
     pub fn part(&self, bytes: &'a [u8], offset: u64) -> BinaryReader<'a>
         requires { offset + length bytes.now ≤ end_of self.now }
         ensures { result ≡ reader_of self.now.features offset bytes.now }

@@ -5,8 +5,7 @@ use Rattle.wasm_operators_readers.specs.imm.control.block_type.BlockType.TheVari
 use Rattle.wasm_operators_readers.specs.imm.BranchTables.{BranchTable}
 use Rattle.wasm_operators_readers.specs.imm.Lists.{EncodesEach}
 
--- If the bytes encode values one after another, `outcome` is the sum of what each counts, in 64
--- bits.
+-- If `bytes` encode values one after another, `outcome` is the sum of their `counts` modulo 2^64.
 abbrev pub IsSumOf : {X : Type 0} → (List ℕ → X → Type 0) → (X → ℕ) → List ℕ → ℕ → Type 0
 IsSumOf {X} Encodes counts bytes outcome = (values : List X) → EncodesEach Encodes bytes values → outcome ≡ sum_by counts values % 2 ^ 64
 

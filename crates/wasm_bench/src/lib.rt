@@ -50,7 +50,7 @@ pub extern "C" fn wasm_bench_u32(_alloc: Global, bytes: &[u8]) -> u64
     sum
 }
 
-/// Returns the sum of signed numbers of 32 bits, each reinterpreted as unsigned.
+/// Returns the sum of signed 32-bit LEB128 numbers, each reinterpreted as unsigned.
 #[unsafe(no_mangle)]
 pub extern "C" fn wasm_bench_i32(_alloc: Global, bytes: &[u8]) -> u64
     ensures { IsSumOf (EncodesSigned 32) (cast_unsigned w32) bytes.now result }
@@ -66,7 +66,7 @@ pub extern "C" fn wasm_bench_i32(_alloc: Global, bytes: &[u8]) -> u64
     sum
 }
 
-/// Returns the sum of signed numbers of 64 bits, each reinterpreted as unsigned.
+/// Returns the sum of signed 64-bit LEB128 numbers, each reinterpreted as unsigned.
 #[unsafe(no_mangle)]
 pub extern "C" fn wasm_bench_i64(_alloc: Global, bytes: &[u8]) -> u64
     ensures { IsSumOf (EncodesSigned 64) (cast_unsigned w64) bytes.now result }
@@ -82,7 +82,7 @@ pub extern "C" fn wasm_bench_i64(_alloc: Global, bytes: &[u8]) -> u64
     sum
 }
 
-/// Returns the sum of the offsets and alignments of memory arguments.
+/// Returns the sum of offsets and alignment exponents of memory arguments.
 #[unsafe(no_mangle)]
 pub extern "C" fn wasm_bench_memarg(_alloc: Global, bytes: &[u8]) -> u64
     ensures { IsSumOf (EncodesMemArg all_features MemArgKind.Plain 2) argument_counts bytes.now result }

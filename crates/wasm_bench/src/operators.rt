@@ -4,7 +4,7 @@ use wasm_operators_readers::OperatorsReader;
 use wasm_operators_readers::below::{BinaryReader, ValType};
 use wasm_operators_readers::instr::Operator;
 
-/// Creates a reader of the operators after the locals (section Code Section).
+/// Creates a reader after `body`'s locals; `None` if reading these fails.
 fn operators_of(alloc: Global, body: &[u8]) -> Option<OperatorsReader<'_>> {
     let mut reader = BinaryReader::new(body, 0);
     let count = reader.read_var_u32().ok()?;
@@ -42,8 +42,7 @@ pub extern "C" fn wasm_bench_count_some(alloc: Global, body: &[u8]) -> u64 {
     count.operators
 }
 
-/// Returns a sum over the operators before any error: the immediate of four operators, and 1 for
-/// each other.
+/// Returns a sum over the operators before any error: an immediate for four kinds, otherwise 1.
 #[unsafe(no_mangle)]
 pub extern "C" fn wasm_bench_read(alloc: Global, body: &[u8]) -> u64 {
     let Some(mut operators) = operators_of(alloc, body) else {

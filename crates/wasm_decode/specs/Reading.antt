@@ -10,7 +10,7 @@ use Rattle.wasm_visit.specs.opcodes.Allowed.{EncodesAllowed, EncodesIn}
 use Rattle.wasm_visit.specs.opcodes.Decoding.{RefusesOperator}
 use Rattle.wasm_visit.specs.opcodes.OperatorFaults.{OperatorFault, FaultIn}
 
--- Unless allocation fails, an operator is read as `Reads` says. On `Err`, `Fault` holds.
+-- On `Ok`, the bytes taken encode the operator. On `Err`, `RefusesOperator` holds.
 abbrev pub DecodesOperator : (List ℕ → Operator → Type 0) → (Message → Reader → ℕ → Type 0) → Result Operator Error → Reader → Reader → Type 0
 DecodesOperator Encodes Fault (Ok op) old new = (text : List ℕ) × Encodes text op × Takes old new text
 DecodesOperator Encodes Fault (Err e) old new = RefusesOperator Encodes Fault e old new

@@ -137,7 +137,7 @@ fn read_simd(reader: &mut BinaryReader<'_>, start: usize) -> Result<Operator<'st
     }
 }
 
-/// Makes an operator without immediates itself: the factory's method would return it through
+/// Reads a SIMD operator's immediates. Without any, avoids the factory, which returns through
 /// memory.
 #[inline(always)]
 fn read_simd_of(reader: &mut BinaryReader<'_>, start: usize, code: u32) -> Result<Operator<'static>>

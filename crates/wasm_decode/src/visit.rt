@@ -14,7 +14,7 @@ use wasm_visit::{VisitOperator, VisitSimdOperator};
 
 /// Reads and visits the operator at the start of the rest. `frame` is the innermost frame.
 ///
-/// Fails with `OperatorsRemaining` at the position if no frame is open, otherwise with `EndOfData`,
+/// Fails with `OperatorsRemaining` there if no frame is open, otherwise with `EndOfData`,
 /// `FeatureRequired`, `WrongFrame`, `IllegalOpcode`, `UnknownSubopcode`, or the error of an
 /// immediate (`docs/ERRORS-AND-FEATURES.md`). `OutOfMemory` has the offset of the operator's start,
 /// and occurs only for an operator that owns a list.

@@ -15,7 +15,7 @@ use Rattle.wasm_decode_opcodes.specs.Kinds.{EncodesKinds}
 use Rattle.wasm_decode_opcodes.specs.OperatorFaults.{KindsFault, OperatorFault, ScalarOperatorFault, FaultIn}
 use Rattle.wasm_decode_opcodes.specs.Refused.{IsRefusedOperator}
 
--- The call fails: the reader is unchanged, no operator of `Encodes` follows, and the error is one of `Fault`.
+-- The call fails: the reader is unchanged. Unless allocation failed, no operator of `Encodes` follows, and `Fault` holds.
 abbrev pub RefusesOperator : (List ℕ → Operator → Type 0) → (Message → Reader → ℕ → Type 0) → Error → Reader → Reader → Type 0
 RefusesOperator Encodes Fault e old new = (new ≡ old) × IsRefusedOperator Encodes e old × HasFault Fault e old
 
@@ -61,7 +61,7 @@ pub record IsAfterCode (start : ℕ) (prefix : Option ℕ) (code : ℕ) (r : Rea
 abbrev pub VisitsRow : {V A : Type 0} → (V → Operator → A → V → Type 0) → Option ℕ → ℕ → List Immediate → V → A → V → Type 0
 VisitsRow visits prefix code is v a w = (op : Operator) × (prefix_of op ≡ prefix) × (opcode_of op ≡ code) × (immediates_of op ≡ is) × visits v op a w
 
--- The bytes after an opcode do not encode a value, so the call fails, for an operator that began at the position `start`.
+-- The call fails. Unless allocation failed, the bytes after an opcode do not encode a value. The operator began at `start`.
 pub record IsRefusedAfterCode {X : Type 0} (Encodes : List ℕ → X → Type 0) (takes_memory : Bool) (start : ℕ) (e : Error) (old : Reader) : Type 0 where
   pub refuses : Refuses Encodes (rest old) e.message
   pub ahead : IsAhead (at_position old start) e.offset

@@ -35,8 +35,8 @@ pub record MayAllocate (Encodes : List ℕ → Operator → Type 0) (old : Reade
   pub sized : SomePrefix EncodesListStart (rest old)
   pub owns : NoPrefix (λ text op. Encodes text op × ¬ HoldsList op) (rest old)
 
--- No prefix of the rest encodes an operator of `Encodes`, even with more bytes unless the message is `EndOfData`. `OutOfMemory` has the offset where the call
--- began, and occurs only if `MayAllocate` holds.
+-- Unless allocation fails, no prefix of the rest `Encodes` an operator; for messages except `EndOfData`, whatever bytes follow. `OutOfMemory` has the offset
+-- where the call began, and occurs only if `MayAllocate` holds.
 pub record IsRefusedOperator (Encodes : List ℕ → Operator → Type 0) (e : Error) (old : Reader) : Type 0 where
   pub refuses : Refuses Encodes (rest old) e.message
   pub ahead : IsAhead old e.offset

@@ -38,7 +38,7 @@ abbrev pub callee_of : List (List ℕ) → Operator → List ℕ
 callee_of names (operator.Call index) = name_of names index
 callee_of names op = []
 
--- The text of an operator, and the name of the function that it calls.
+-- The text of an operator, and for `call` the function's name.
 abbrev pub called_text : List (List ℕ) → Operator → List ℕ
 called_text names op = text_of op ++ shown_name (callee_of names op)
 
@@ -50,7 +50,7 @@ local_lines h body locals after = declaration_lines body.offset body.bytes after
 abbrev pub operator_lines : Heading → Source → Placed → ℕ → List ℕ
 operator_lines h body placed end = lines_of (called_text h.names) body.offset body.bytes end placed
 
--- Some of the declarations that a body announces are read.
+-- Any number of the declarations a body announces are read.
 pub record ReadsLocals (body : Reader) (unread read : Locals) (locals : PlacedLocals) : Type 0 where
   pub opens : OpensLocals (Ok unread) body
   pub takes : TakesDeclarations unread read locals

@@ -24,7 +24,7 @@ pub fn name_of<'a>(names: &'a [String], index: u32) -> &'a str
     }
 }
 
-/// Returns the name of the function that an operator calls, or an empty one.
+/// Returns the name of the function that `call` calls, otherwise an empty one.
 fn callee_of<'a>(names: &'a [String], op: &Operator<'_>) -> &'a str
     ensures { result.now ≡ callee_of (map string_bytes names.now) op.now }
 {

@@ -36,9 +36,9 @@ fn write_heading<W: Write>(
     write_text(writer, line.as_str())
 }
 
-/// Writes the text of a function: its header, its locals and its operators. Each line is written
-/// before the data after it is read. `names` are the names of all functions by index; a name may be
-/// empty. The `parameters` are the first locals.
+/// Writes the text of a function: its header, locals and operators. Each line is written before the
+/// next declaration or operator is read. `names` are the names of all functions by index; a name
+/// may be empty. The first `parameters` locals are parameters.
 ///
 /// Fails with `Refused` if the bytes are not a body, after the lines before the error.
 pub fn disassemble<W: Write>(

@@ -29,7 +29,7 @@ fn main(rt: HostRuntime) -> ExitCode {
 }
 
 /// Returns the features that the argument names. Returns `None` if there are more arguments, or if
-/// one is not UTF-8 or names no feature. Fails with `Memory`.
+/// one is not UTF-8 or unknown. Fails with `Memory`.
 fn read_features<R: Env + AllocGlobal>(rt: &R) -> Result<Option<WasmFeatures>, DumpFault> {
     let mut words = match env::args(rt) {
         Ok(words) => words,

@@ -1,4 +1,4 @@
--- Errors in the order of the checks. Specification: Binary Format, Memory Instructions.
+-- The first failed check gives the error. Specification: Binary Format, Memory Instructions.
 use Rattle.std.specs.Prelude.{◌≡◌, ℕ, ◌⊎◌, true}
 use Rattle.wasm_imm_control.specs.below.bytes.features.WasmFeatures.{WasmFeatures}
 use Rattle.wasm_imm_control.specs.below.bytes.message.Message.{Message}
@@ -42,8 +42,8 @@ FaultAfterOrdering f flags start = CheckFault (IsReserved f flags) message.Reser
 abbrev pub FaultAfterTarget : WasmFeatures → MemArgKind → ℕ → ℕ → Message → Reader → ℕ → Type 0
 FaultAfterTarget f k flags start = CheckFault (OrdersPlain f k flags) message.OrderingOnPlain start (ThenFault (IsOrdering f k flags) (OrderingFault f k flags) (λ o. FaultAfterOrdering f flags start))
 
--- `MemoryAndArray` if the flags number, at `start`, has both bits, otherwise the error of the index
--- or of what follows.
+-- `MemoryAndArray` at `start` if `NamesBoth` holds, otherwise the error of the index or of what
+-- follows.
 abbrev pub FlagsFault : WasmFeatures → MemArgKind → ℕ → ℕ → Message → Reader → ℕ → Type 0
 FlagsFault f k flags start = CheckFault (NamesBoth f flags) message.MemoryAndArray start (ThenFault (IsTarget f flags) (TargetFault f flags) (λ t. FaultAfterTarget f k flags start))
 

@@ -24,7 +24,7 @@ EncodesFence f text o = (HasFeature acquire_release_atomics f × EncodesOrdering
 abbrev pub OrderingByteFault : Message → Reader → ℕ → Type 0
 OrderingByteFault m r offset = CheckedByteFault (λ byte. (o : Ordering) → byte ≢ ordering_byte o) (λ byte. message.InvalidOrdering byte false) (offset_of r) m r offset
 
--- With acquire_release_atomics, `OrderingByteFault`. Without, the data ends, or the byte is not 0,
+-- With acquire_release_atomics, `OrderingByteFault`. Without, the data ends, or a nonzero byte is
 -- reported at `start`.
 abbrev pub FenceFault : WasmFeatures → ℕ → Message → Reader → ℕ → Type 0
 FenceFault f start m r offset = (HasFeature acquire_release_atomics f × OrderingByteFault m r offset) ⊎ (¬ HasFeature acquire_release_atomics f × ZeroFault message.NonzeroAfterFence start m r offset)

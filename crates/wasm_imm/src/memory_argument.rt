@@ -145,8 +145,8 @@ fn read_announced(
     outcome
 }
 
-/// Reads a memory argument whose flags number announces something. `read_rest` occurs in it twice:
-/// for a memory index alone, the compiler drops the other checks.
+/// Reads a memory argument after its flags number. For a memory index alone, `read_rest` is inlined
+/// here, so that the compiler drops the other checks.
 fn read_announced_out_of_line(
     reader: &mut BinaryReader<'_>,
     start: usize,

@@ -34,7 +34,7 @@ impl Ordering {
 
     /// Reads the byte of an `atomic.fence` that starts at the offset `start`. Proposal threads.
     ///
-    /// With acquire-release atomics, reads like `read`. Without them, reads the byte 0, and fails
+    /// With acquire-release atomics, reads like `read`. Without them, reads the byte 0, or fails
     /// with `EndOfData`, or with `NonzeroAfterFence` at `start`.
     #[inline(never)]
     pub fn read_fence(reader: &mut BinaryReader<'_>, start: u64) -> Result<Ordering>

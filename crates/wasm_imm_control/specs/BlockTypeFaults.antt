@@ -6,7 +6,7 @@ use Rattle.wasm_below.specs.Number.{EncodesSigned}
 use Rattle.wasm_below.specs.Source.{Reader, rest, offset_of, BeginsWith, S33Fault}
 use Rattle.wasm_below.specs.TypeEncoding.{ValTypeFault}
 
--- A first byte of a value type: negative as seven bits, and not 0x40.
+-- A first byte that announces a value type: 0x41 to 0x7f.
 abbrev pub LeadsValType : ℕ → Type 0
 LeadsValType byte = (0x41 ≤ byte) × (byte ≤ 0x7f)
 

@@ -35,8 +35,8 @@ abbrev pub before_number : Bool → ℕ → ℕ → List ℕ → List ℕ
 before_number true byte n numbers = byte ∷ n ∷ numbers
 before_number false byte n numbers = (128 * n + (byte - 128)) ∷ numbers
 
--- The numbers whose encodings a byte and these numbers give: a byte below 128 is a number, another
--- is the low seven bits of the first number.
+-- The numbers encoded by a byte before these numbers' encodings: a byte below 128 is a number,
+-- another becomes the low seven bits of the first number.
 abbrev pub with_byte : ℕ → List ℕ → List ℕ
 with_byte byte [] = byte ∷ []
 with_byte byte (n ∷ numbers) = before_number (ltb byte 128) byte n numbers

@@ -11,7 +11,7 @@ use Rattle.wasm_imm_control.specs.BlockTypes.{EncodesBlockType}
 use Rattle.wasm_imm_control.specs.Handlers.{EncodesCatch, EncodesHandle}
 use Rattle.wasm_imm_control.specs.Lists.{EncodesList}
 
--- The greatest counts of catches, clauses and types of a select: limits of this project.
+-- The greatest counts of catches, clauses and a select's types: limits of this project.
 abbrev pub max_catches : ℕ
 max_catches = 10000
 

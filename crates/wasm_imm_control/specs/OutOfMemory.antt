@@ -6,6 +6,6 @@ use Rattle.wasm_below.specs.bytes.message.Message.TheVariants as message
 abbrev pub IsOutOfMemoryAt : ℕ → Error → Type 0
 IsOutOfMemoryAt offset e = (e.message ≡ message.OutOfMemory) × (e.offset ≡ offset)
 
--- The error `f` is `e`, with this offset, the call's start, if `e` is `OutOfMemory`.
+-- The error `f` is `e`, except that `OutOfMemory` has this offset, the call's start.
 abbrev pub IsRefusedFrom : ℕ → Error → Error → Type 0
 IsRefusedFrom offset e f = (f.message ≡ e.message) × ((IsOutOfMemoryAt offset f) ⊎ ((e.message ≢ message.OutOfMemory) × (f.offset ≡ e.offset)))

@@ -47,7 +47,7 @@ arity_of_function m i = option_and_then m.func_type_arity (m.type_index_of_funct
 abbrev pub arity_of_continuation : ModuleFacts → ℕ → Arity
 arity_of_continuation m i = option_and_then m.func_type_arity (m.cont_type_func i)
 
--- The arity of block, loop, try and try_table.
+-- block, loop, try and try_table pass on parameters.
 abbrev pub arity_of_entry : ModuleFacts → BlockType → Arity
 arity_of_entry m ty = option_map (λ a. (a.0, a.0)) (arity_of_block m ty)
 
@@ -126,12 +126,12 @@ arity_of_resume_throw m i tag = option_and_then (λ t. option_and_then (λ a. ta
 abbrev pub arity_of_resume_throw_ref : ModuleFacts → ℕ → Arity
 arity_of_resume_throw_ref m i = option_map (λ a. (2, a.1)) (arity_of_continuation m i)
 
--- The arity of the continuation type that a switch resumes, to which its last parameter refers.
+-- The arity of the continuation type that is the last parameter of a switch's continuation type.
 abbrev pub arity_of_switched : ModuleFacts → ℕ → Arity
 arity_of_switched m i = option_and_then (arity_of_continuation m) (option_and_then m.cont_type_of_last_param (m.cont_type_func i))
 
--- switch takes the parameters of its continuation type, and returns the parameters of the resumed
--- one.
+-- switch takes one value per parameter of its continuation type, and returns the last parameter's
+-- parameters.
 abbrev pub arity_of_switch : ModuleFacts → ℕ → Arity
 arity_of_switch m i = option_and_then (λ a. option_map (λ b. (a.0, b.0)) (arity_of_switched m i)) (arity_of_continuation m i)
 

@@ -26,7 +26,7 @@ arrays_in (target.Memory _) = 0
 abbrev pub reaching : MemArg → ℕ → ℕ
 reaching m takes = takes + arrays_in m.target
 
--- The numbers of operands and results; for `gc_pair`, `None` if they depend on the module.
+-- The numbers of operands and results; for `gc_pair`, `None` if `arity_of` has a rule.
 abbrev pub numeric_pair : NumericOperator → ℕ × ℕ
 numeric_pair numeric.I32Eqz = (1, 1)
 numeric_pair numeric.I64Eqz = (1, 1)
@@ -291,7 +291,7 @@ atomic_pair (atomic.ArrayAtomicSet _ _) = (3, 0)
 atomic_pair (atomic.ArrayAtomicRmwCmpxchg _ _) = (4, 1)
 atomic_pair _ = (2, 1)
 
--- The numbers of operands and results of any operator; `None` if they depend on the module.
+-- The numbers of operands and results of any operator; `None` if `arity_of` has a rule.
 abbrev pub fixed_arity : Operator → Option (ℕ × ℕ)
 fixed_arity operator.Unreachable = Some (0, 0)
 fixed_arity operator.Nop = Some (0, 0)

@@ -304,7 +304,7 @@ pub fn atomic_fixed_arity(op: &AtomicOperator) -> (u32, u32)
 }
 
 impl<'a> Operator<'a> {
-    /// Returns the numbers of operands and results, or `None` if they depend on the module.
+    /// Returns the numbers of operands and results, or `None` if `operator_arity` computes them.
     pub(crate) fn fixed_arity(&self) -> Option<(u32, u32)>
         ensures { result ≡ pair_of self.now }
     {

@@ -11,7 +11,7 @@ offset_text offset =
     then byte_text (offset / 2 ^ 16) ++ (byte_text (offset / 2 ^ 8 % 2 ^ 8) ++ byte_text (offset % 2 ^ 8))
     else radix_digits 16 false offset
 
--- An address, at most nine bytes, and three spaces for each missing byte.
+-- An address, at most nine bytes, three spaces per missing byte, a bar.
 abbrev pub column : ℕ → List ℕ → List ℕ
 column offset bytes =
     (codes " " ++ (offset_text offset ++ codes ":")) ++ (flat_map spaced_byte bytes ++ (repeat (9 - length bytes) (codes "   ") ++ codes " | "))

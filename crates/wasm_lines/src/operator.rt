@@ -82,8 +82,8 @@ pub fn bytes_between(bytes: &[u8], start: u64, from: u64, to: u64) -> &[u8]
     &left[..needed as usize]
 }
 
-/// Writes the lines of the operator at `offset`, which has these bytes and calls `callee` (it may
-/// be empty). Takes and returns how many constructs are open.
+/// Writes the lines of the operator at `offset`, with its `bytes` and the name `callee` unless that
+/// is empty. Takes and returns how many constructs are open.
 pub fn write_line(
     out: &mut String,
     depth: usize,

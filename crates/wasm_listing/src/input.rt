@@ -5,7 +5,7 @@ use crate::fault::DumpFault;
 use std::alloc::Global;
 use std::io::Read;
 
-/// Reads until a read returns no bytes. Fails with `Reading` at any error.
+/// Reads until no bytes are returned. Fails with `Reading` if a read fails.
 pub fn read_input<R: Read>(alloc: Global, reader: &mut R) -> Result<Vec<u8>, DumpFault>
     ensures bytes { IfOk result (λ input. IfSome (R.remaining reader.old) (λ bytes. input.items ≡ bytes)) }
     ensures fault { IfErr result (λ fault. WritesNothing fault) }

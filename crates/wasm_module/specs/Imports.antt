@@ -1,4 +1,4 @@
--- Only the kind of what is imported is kept. Specification: Binary Format, Types; Modules, Import
+-- Of an import's type, only the kind is kept. Specification: Binary Format, Types; Modules, Import
 -- Section.
 use Rattle.std.specs.Prelude.{◌≡◌, ◌≢◌, ℕ, zero, suc, ◌%◌, ◌⊎◌, List, []}
 use Rattle.wasm_below.specs.bytes.message.Message.{Message}
@@ -28,7 +28,7 @@ IsMost flags text done = ((flags % 2 ≡ 1) × SomeOf (EncodesUnsigned 64) text 
 abbrev pub MostFault : ℕ → SkipFault
 MostFault flags m r offset = (flags % 2 ≡ 1) × U64Fault m r offset
 
--- Only the lowest bit of the flags is checked.
+-- What follows `flags`: only the flags' lowest bit matters.
 --   limits ::= 0x00 n:u64 | 0x01 n:u64 m:u64 | 0x04 n:u64 | 0x05 n:u64 m:u64
 abbrev pub IsBounds : ℕ → Skipped
 IsBounds flags = Then (EncodesUnsigned 64) (λ least. IsMost flags)

@@ -38,6 +38,6 @@ EncodesSection features text s = Both IsByte (EncodesReader features) text (s.id
 abbrev pub PreambleFault : Message → Reader → ℕ → Type 0
 PreambleFault = ThenFault (EncodesFixed w32) (EndsWithin 4) (λ magic. EndsWithin 4)
 
--- The number is missing, or length or contents are in error.
+-- The number is missing, length in error, or contents incomplete.
 abbrev pub SectionFault : Message → Reader → ℕ → Type 0
 SectionFault = ThenFault IsByte EndFault (λ id. ReaderFault)

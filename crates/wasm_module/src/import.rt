@@ -99,7 +99,7 @@ impl<'a> Import<'a> {
         self.name.bytes()
     }
 
-    /// Returns the kind, a byte as of `Export::kind`.
+    /// Returns the kind as a byte, like `Export::kind`.
     pub fn kind(&self) -> u8
         ensures { result ≡ self.now.kind }
     {

@@ -9,7 +9,7 @@ use Rattle.wasm_listing.specs.Census.{proposals}
 abbrev pub Row : Type 0
 Row = Reverse ℕ × ℕ
 
--- The counts above 0, each with its index, which is `place` for the first.
+-- The counts above 0, each with its index, counted from `place`.
 abbrev pub rows_from : ℕ → List ℕ → List Row
 rows_from place [] = []
 rows_from place (n ∷ ns) = (if n == 0 then [] else (record { 0 = n }, place) ∷ []) ++ rows_from (place + 1) ns

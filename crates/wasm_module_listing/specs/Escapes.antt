@@ -7,7 +7,7 @@ use Rattle.wasm_disassembly.specs.lines.text.Values.{byte_text}
 abbrev pub escape : ℕ → List ℕ
 escape byte = 92 ∷ byte_text byte
 
--- A byte as shown in UTF-8: bytes below 0x20 and 0x7f are escaped.
+-- A byte as shown in UTF-8: 0x7f and bytes below 0x20 are escaped.
 abbrev pub utf8_byte : ℕ → List ℕ
 utf8_byte byte = if nat_lt byte 32 then escape byte else (if byte == 127 then escape byte else byte ∷ [])
 

@@ -41,7 +41,7 @@ range_text contents =
     codes " start=0x" ++ (hex_text (offset_of contents) ++ (codes " end=0x" ++ (hex_text (end_of contents) ++
     (codes " (size=0x" ++ (hex_text (length (rest contents)) ++ codes ") ")))))
 
--- The name of a custom section, the start function, or the number of items.
+-- A custom section's name, the start function, number of items, or unknown section's number.
 abbrev pub detail_text : Detail → List ℕ
 detail_text (detail.Custom name) = codes "\"" ++ (escaped name.now ++ codes "\"")
 detail_text (detail.Start index) = codes "start: " ++ decimal index
@@ -52,7 +52,7 @@ detail_text (detail.Unknown id) = codes "id: " ++ decimal id
 abbrev pub is_numbered : ℕ → ℕ
 is_numbered id = if id == 0 then 0 else (if nat_lt id 14 then 1 else 2)
 
--- What the contents say, or the error of their name or number.
+-- The section's `Detail`, or the error of reading a name or number.
 abbrev pub HasDetail : SectionParts → Result Detail Error → Type 0
 HasDetail s (Ok (detail.Custom name)) = (s.id ≡ 0) × (after : Reader) × Reads EncodesName (Ok name.now) s.contents after
 HasDetail s (Ok (detail.Start index)) = (s.id ≡ 8) × (after : Reader) × Reads (EncodesUnsigned 32) (Ok index) s.contents after
@@ -77,7 +77,7 @@ pub record ShowsSections (first next : Reader) (old new : Option (List ℕ)) : T
   pub shown : AreShown sections text
   pub appends : Appends old new text
 
--- The next section, its name or its number is in error.
+-- The next section, its name or first number is in error.
 abbrev pub StopsSections : Error → Reader → Type 0
 StopsSections e next =
     IsRefusal (EncodesSection next.features) e next ⊎

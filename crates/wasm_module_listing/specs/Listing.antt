@@ -22,8 +22,8 @@ use Rattle.wasm_module_listing.specs.declared.fault.Fault.{Fault}
 use Rattle.wasm_module_listing.specs.declared.fault.Fault.TheVariants as fault
 use Rattle.wasm_module_listing.specs.declared.fault.MissingFunction.{MissingFunction}
 
--- Between the two readers, the bytes encode these bodies, each after its length. Their offsets are
--- the section's.
+-- Between the two readers, the bytes encode these bodies, each after its length, with the section's
+-- offsets.
 abbrev pub BodiesOccur : Reader → List Reader → Reader → Type 0
 BodiesOccur r [] end = end ≡ r
 BodiesOccur r (b ∷ bs) end = (mid : Reader) × ReadsValue (EncodesReader r.features) false (Ok b) r mid × (end_of b ≡ offset_of mid) × BodiesOccur mid bs end
@@ -45,7 +45,7 @@ pub record StopsCode (e : Error) (contents : Reader) (bodies : List Reader) : Ty
   pub occur : BodiesOccur first bodies end
   pub stops : StopsSection (EncodesReader end.features) ReaderFault false e (record { remaining = remaining; reader = end; refused = false })
 
--- The number of bodies is in error, or the section after some bodies.
+-- The number of bodies is in error, or what follows these bodies is.
 abbrev pub RefusesCode : Error → Reader → List Reader → Type 0
 RefusesCode e contents bodies = ((bodies ≡ []) × IsRefusal (EncodesUnsigned 32) e contents) ⊎ StopsCode e contents bodies
 
@@ -98,7 +98,7 @@ AreWritten t only place (b ∷ bs) reported text =
     (one others : Refusals) × (own more : List ℕ) × (reported ≡ one ++ others) × (text ≡ own ++ more) × IsWritten t only place b one own ×
     AreWritten t only (place + 1) bs others more
 
--- The functions with these bodies were written and their errors reported.
+-- The requested functions with these bodies were written and errors reported.
 pub record Writes {S : Type 0} (reports : S → ℕ → Error → S → Type 0) (t : ModuleFunctions) (only : Option ℕ) (bodies : List Reader) (reported : Refusals)
     (before after : S) (old new : Option (List ℕ)) : Type 0 where
   pub text : List ℕ
@@ -124,7 +124,7 @@ ListsFound reports t only (Some contents) result before after old new = ListsCod
 ListsFound reports t only None (Ok whole) before after old new = (whole ≡ true) × (after ≡ before) × Keeps old new
 ListsFound reports t only None (Err f) before after old new = Unit {0}
 
--- The title: the names of the file and the module. Both are escaped.
+-- The title's line with the module's name, escaped; none if it is empty.
 abbrev pub name_line : List ℕ → List ℕ
 name_line [] = []
 name_line (n ∷ ns) = codes "module name: <" ++ (escaped (n ∷ ns) ++ codes ">\n")
@@ -135,7 +135,7 @@ file_line file = codes "\n" ++ (escaped file ++ codes ":\tfile format wasm 0x1\n
 abbrev pub title_of : List ℕ → List ℕ → List ℕ
 title_of file name = file_line file ++ name_line name
 
--- The title, unless there is no file name, and what is listed.
+-- The title, unless there is no file name, and the heading `listed`.
 abbrev pub heading_of : Option (List ℕ) → List ℕ → List ℕ → List ℕ
 heading_of None name listed = listed
 heading_of (Some file) name listed = title_of file name ++ listed

@@ -46,7 +46,7 @@ AreAdded features t only place (b ∷ bs) reported before after =
 abbrev pub no_counts : List ℕ
 no_counts = replicate 19 0
 
--- The functions with these bodies were counted and their errors reported.
+-- The requested functions with these bodies were counted and errors reported.
 pub record Adds {S : Type 0} (reports : S → ℕ → Error → S → Type 0) (features : WasmFeatures) (t : ModuleFunctions) (only : Option ℕ) (bodies : List Reader)
     (reported : Refusals) (before after : S) (counts : List ℕ) : Type 0 where
   pub added : AreAdded features t only 0 bodies reported no_counts counts

@@ -8,8 +8,8 @@ use wasm_disassembly::operators::{Error, WasmFeatures};
 use wasm_functions::module::read_section;
 use wasm_functions::{function_laws, open_sections};
 
-/// Returns the number of bytes before a module's first section in error, and the error; `None` if
-/// none is, or the preamble is.
+/// Returns how many bytes precede a module's first section in error, and the error; `None` if no
+/// section is, or the preamble is.
 pub fn find_cut(features: WasmFeatures, bytes: &[u8]) -> Option<(usize, Error)>
     ensures cut { IsFirstCut (reader_of features 0 bytes.now) result }
     ensures within { IfSome result (λ cut. cut.0 ≤ length bytes.now) }

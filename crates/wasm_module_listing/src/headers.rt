@@ -93,7 +93,7 @@ fn write_detail(alloc: Global, out: &mut String, detail: Detail<'_>) -> Written
     }
 }
 
-/// Returns what the contents of a section say. Fails with the error of its name or number.
+/// Returns the section's `Detail`. Fails with the error of reading a name or number.
 fn detail_of<'a>(section: &Section<'a>) -> Result<Detail<'a>, Error>
     ensures { HasDetail section.now result }
 {

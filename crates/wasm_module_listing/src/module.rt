@@ -45,7 +45,7 @@ fn push_file(alloc: Global, out: &mut String, file: &str) -> Result<(), AllocErr
     out.push_str(":\tfile format wasm 0x1\n")
 }
 
-/// Appends a title, unless `file` is `None`, and what is listed.
+/// Appends a title, unless `file` is `None`, and the heading `listed`.
 fn push_heading(
     alloc: Global,
     out: &mut String,

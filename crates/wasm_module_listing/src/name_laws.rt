@@ -3,7 +3,7 @@ ghost use Rattle.std.specs.Prelude.{ℕ, List};
 ghost use Rattle.std.specs.List.{All};
 ghost use Rattle.wasm_module_listing.specs.Escapes.{AreBytes, IsShown, escaped};
 
-/// States that a name is shown without control characters.
+/// States that names are shown without ASCII control characters.
 pub fn shown()
     ensures { (name : List ℕ) → AreBytes name → All IsShown (escaped name) }
 {}

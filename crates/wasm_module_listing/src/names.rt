@@ -88,7 +88,7 @@ fn write_ascii(out: &mut String, name: &[u8]) -> Written
 }
 
 #[tactic(auto, using(crate::proofs::Escaped::in_utf8, crate::proofs::Escaped::in_ascii))]
-/// Writes a name with escaped control characters. If it is not UTF-8, all bytes from 0x80 on are
+/// Writes a name with escaped ASCII control characters. If it is not UTF-8, bytes from 0x80 on are
 /// escaped too.
 pub fn write_escaped(alloc: Global, out: &mut String, name: &[u8]) -> Written
     ensures { OnOk result (string_bytes out.new ≡ string_bytes out.old ++ escaped name.now) }

@@ -44,7 +44,7 @@ fn push_rows(out: &mut String, rows: &[(Reverse<u64>, usize)]) -> Result<(), All
 }
 
 /// Writes the count and the name of each proposal whose operators occur, the largest count first.
-/// The counts are in the order of `census` of `wasm_listing`.
+/// `counts` has the order of `census` of `wasm_listing`.
 pub fn write_table<W: Write>(alloc: Global, counts: &[u64; 19], writer: &mut W) -> Result<(), Fault>
     ensures ok { OnOk result ((rows : List Row) × IsTable counts.now rows
         × Appends (W.contents writer.old) (W.contents writer.new) (table_text rows)) }

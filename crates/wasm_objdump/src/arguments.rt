@@ -226,8 +226,8 @@ fn read_short(mut options: Options, word: String) -> Result<Options, Mistake> {
     }
 }
 
-/// Completes the request: disassembly unless something else is requested, standard input if no file
-/// is named.
+/// Completes the request: disassembly unless sections are listed, standard input if no file is
+/// named.
 fn finished(alloc: Global, mut options: Options) -> Words {
     options.functions |= !options.headers;
     if options.files.is_empty() {

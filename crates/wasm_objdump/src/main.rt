@@ -79,7 +79,7 @@ fn words_of<R: Env + AllocGlobal>(rt: &R) -> Result<Vec<String>, Mistake> {
     Ok(words)
 }
 
-/// Returns the name of a path in messages and titles.
+/// Returns a path as shown in messages: `<stdin>` for `-`.
 fn shown_path(path: &str) -> &str {
     if path == "-" { "<stdin>" } else { path }
 }

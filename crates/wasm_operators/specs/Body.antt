@@ -33,15 +33,15 @@ pub record NoLocals (e : Error) (body : Reader) (placed : Placed) : Type 0 where
   pub refused : RefusesLocals e body
   pub nothing : placed ≡ []
 
--- No expression follows the locals. These operators are the longest list that begins one.
+-- Reading these operators after the locals stops at this error, as `ReadsBeginning` says.
 pub record NoExpression (e : Error) (body : Reader) (placed : Placed) : Type 0 where
   pub opened : State
   pub opens : OpensBody (Ok opened) body
   pub stopped : State
   pub reads : ReadsBeginning IsAny EncodesAllowed OperatorFault Anywhere [] e opened stopped placed
 
--- The bytes encode no body. These operators were read: none if the locals are in error, otherwise
--- the longest prefix of an expression, unless allocation fails.
+-- Except after `OutOfMemory`: the bytes encode no body; these operators are the longest prefix of
+-- an expression, or none if the locals are in error.
 abbrev pub StopsBody : Error → Reader → Placed → Type 0
 StopsBody e body placed = NoLocals e body placed ⊎ NoExpression e body placed
 

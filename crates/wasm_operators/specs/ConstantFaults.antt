@@ -34,13 +34,14 @@ abbrev pub EndsInside : Message → Reader → List FrameKind → ℕ → Type 0
 EndsInside m r frames offset =
     BeginsWith 0x0b (rest r) × (without_innermost frames ≢ []) × (m ≡ message.FramesRemainConst) × (offset ≡ offset_of r + 1)
 
--- After operators other than `end`, no operator is encoded, or an `end` that leaves a frame open.
+-- After operators other than `end`, no allowed operator is encoded, or an `end` leaves a frame
+-- open.
 abbrev pub ConstantFault : Message → Reader → ℕ → Type 0
 ConstantFault m r offset =
     (after : Reader) × (frames : List FrameKind) × PassesOperators r after frames × (IsNoOperator m after frames offset ⊎ EndsInside m after frames offset)
 
--- After operators other than `end`, the next owns a list, or opens more frames than were open
--- before.
+-- After operators other than `end`, the next owns a list, or opens a frame beyond the previous
+-- maximum.
 abbrev pub ConstantMayAllocate : Reader → Type 0
 ConstantMayAllocate r =
     (opened after : State) × (placed : Placed) × (opened.reader ≡ r) × IsFresh opened × TakesOperators opened after placed ×

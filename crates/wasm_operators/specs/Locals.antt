@@ -59,12 +59,12 @@ pub record Locals : Type 0 where
   pub count : ℕ
   pub total : ℕ
 
--- A reader of a body's locals after their count, or its error.
+-- A reader after a body's count of declarations, or the count's error.
 abbrev pub OpensLocals : Result Locals Error → Reader → Type 0
 OpensLocals (Ok l) body = (text : List ℕ) × EncodesUnsigned 32 text l.count × Takes body l.reader text × (l.total ≡ 0)
 OpensLocals (Err e) body = IsRefusal (EncodesUnsigned 32) e body × U32Fault e.message body e.offset
 
--- The bytes encode a declaration that keeps the total within the limit.
+-- The bytes encode a declaration that keeps the total within `max_locals`.
 abbrev pub EncodesNext : ℕ → List ℕ → Declaration → Type 0
 EncodesNext total text d = EncodesDeclaration text d × (total + d.0 ≤ max_locals)
 

@@ -52,7 +52,7 @@ impl<'a> FunctionBody<'a> {
         FunctionBody { reader }
     }
 
-    /// Reads a length of 32 bits and the body. Specification: Code Section. Fails as `read_reader`
+    /// Reads a u32 and a body of that length. Specification: Code Section. Fails as `read_reader`
     /// does.
     pub fn read(reader: &mut BinaryReader<'a>) -> Result<FunctionBody<'a>>
         ensures reads { Reads (EncodesReader reader.old.features) result reader.old reader.new }

@@ -26,7 +26,7 @@ impl<'a, T> Model for SectionLimited<'a, T> {
 }
 
 impl<'a, T: FromReader<'a>> SectionLimited<'a, T> {
-    /// Reads the number of items, which are read with this allocator. Fails as `read_var_u32` does.
+    /// Reads the number of items; `alloc` is kept for reading them. Fails as `read_var_u32` does.
     pub fn new(alloc: Global, mut reader: BinaryReader<'a>) -> Result<SectionLimited<'a, T>>
         ensures count { IfOk result (λ s. Reads (EncodesUnsigned 32) (Ok s.count) reader.entry s.reader) }
         ensures refused { IfErr result (λ e. IsRefusal (EncodesUnsigned 32) e reader.entry) }

@@ -52,7 +52,8 @@ TakesBytes = (op : Operator) (old new : State) → TakesOperator EncodesAllowed 
 abbrev pub AddsFewFrames : Type 0
 AddsFewFrames = (op : Operator) (old new : State) → TakesOperator EncodesAllowed op old new → IsWithinDepth old new
 
--- The bound on memory holds over two runs, if the first added at most one frame for two bytes.
+-- The bound `GrowsLittle` holds over two runs, if the first consumes two bytes or more per added
+-- frame.
 abbrev pub MemoryAddsUp : Type 0
 MemoryAddsUp = (first second : ℕ) (old mid new : State) → GrowsLittle first old mid → 2 * length mid.frames ≤ 2 * length old.frames + first →
     GrowsLittle second mid new → GrowsLittle (first + second) old new

@@ -20,7 +20,7 @@ pub record ReadSoFar (before : List Operator) (s : State) : Type 0 where
   pub encodes : AreEncoded s.reader.features before
   pub path : OpenPath (roles_of before) s.frames
 
--- The operators complete the one expression that the bytes encode. No byte and no frame is left.
+-- The bytes encode the operators, which after `before` make one tree. No byte or frame is left.
 pub record ReadsTree (before : List Operator) (old new : State) (placed : Placed) : Type 0 where
   pub encodes : EncodesRest before (source_of old.reader) placed
   pub tree : Expression Operator
@@ -70,7 +70,7 @@ IsWithinDepth old new = 2 * length new.frames + old.reader.position ≤ 2 * leng
 abbrev pub with_after : Source → List ℕ → Source
 with_after s more = record { features = s.features; offset = s.offset; bytes = s.bytes ++ more }
 
--- With more bytes after them, the bytes encode the rest of a `Kept` expression.
+-- With more bytes after them, the bytes encode a `Kept` rest of an expression.
 pub record IsCut (Kept : OfPlaced) (before : List Operator) (s : Source) : Type 0 where
   pub more : List ℕ
   pub some : more ≡ [] → ⊥
@@ -100,11 +100,11 @@ pub record ReadsRest {X : Type 0} (Effect Kept : OfPlaced) (Encodes : Taking) (F
     (result : Result X Error) (old new : State) : Type 0 where
   -- `Ok`: the operators complete the walk of the one tree.
   pub tree : OnOk result (SomeCame Effect (ReadsTree before old new))
-  -- For the rest of a `Kept` expression, only allocation can fail.
+  -- For a `Kept` rest of an expression, only allocation can fail.
   pub only : (whole : Placed) → EncodesRest before (source_of old.reader) whole → Kept whole → IfErr result (λ e. e.message ≡ message.OutOfMemory)
-  -- `Err`: the operators are the longest `Kept` list that begins an expression.
+  -- `Err`: the longest `Kept` list that begins an expression, unless allocation fails.
   pub beginning : IfErr result (λ e. SomeCame Effect (ReadsBeginning Kept Encodes Fault Allocates before e old new))
-  -- If more bytes would complete a `Kept` expression, the error is a `CutFault`.
+  -- If more bytes would complete a `Kept` rest, the error is a `CutFault`.
   pub cut : IsCut Kept before (source_of old.reader) → IfErr result (λ e. CutFault e.message (rest new.reader))
   -- If only frames are left open, bytes 0x0b complete the expression.
   pub completed : IsCompletedIfCut before result old new

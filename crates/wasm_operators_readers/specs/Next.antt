@@ -38,7 +38,7 @@ VisitsNextScalar visits = VisitsOperator visits EncodesScalar ScalarOperatorFaul
 abbrev pub state_of : Reader → OpenFrames → State
 state_of r s = record { reader = r; frames = s.frames; room = s.room }
 
--- Only the capacity may have changed, and the error describes the next bytes.
+-- Only the capacity may have grown. `StopsRead` holds for the error.
 abbrev pub StopsNext : Taking → Refusing → Error → State → State → Type 0
 StopsNext Encodes Fault e old new = IsUnchanged old new × StopsRead Encodes Fault (NextMayAllocate Encodes) e new
 

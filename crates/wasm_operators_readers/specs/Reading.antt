@@ -51,7 +51,7 @@ KeepsMemory old new = frame_memory old.frames old.room ≤ frame_memory new.fram
 abbrev pub HoldsMostOpen : State → Placed → State → Type 0
 HoldsMostOpen old placed new = most_open (Some old.frames) placed ≤ frame_memory new.frames new.room + 1
 
--- Only the capacity may have grown, within the bound.
+-- Only the capacity may have grown, within `GrowsLittle`.
 abbrev pub IsUnchanged : State → State → Type 0
 IsUnchanged old new = (new.reader ≡ old.reader) × (new.frames ≡ old.frames) × (old.room ≤ new.room) × GrowsLittle 0 old new
 
@@ -75,7 +75,7 @@ pub record TakesOperator (Encodes : Taking) (op : Operator) (old new : State) : 
 abbrev pub NoFrameOpen : Error → State → Type 0
 NoFrameOpen e s = (s.frames ≡ []) × (e.message ≡ message.OperatorsRemaining) × (e.offset ≡ offset_of s.reader)
 
--- No operator is encoded next, and the error describes the bytes.
+-- No operator of `Encodes` is next; the error describes the bytes.
 pub record IsRefusedThere (Encodes : Taking) (Fault : Refusing) (e : Error) (s : State) : Type 0 where
   pub kind : FrameKind
   pub open_frame : innermost s.frames ≡ Some kind

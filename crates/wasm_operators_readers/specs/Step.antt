@@ -19,7 +19,7 @@ step_of turns_catch_all = step.TurnsCatchAll
 step_of (delegates depth) = step.Delegates
 step_of ends = step.Ends
 
--- The role whose step this is. It carries `tt` in place of an operator, the tag 0 or the depth 0.
+-- A role with this step. It carries `tt` as an operator, and 0 as a tag or depth.
 abbrev pub role_of_step : FrameStep → Role (Unit {0})
 role_of_step step.Stays = plain tt
 role_of_step step.OpensBlock = opens block tt

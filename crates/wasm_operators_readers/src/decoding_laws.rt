@@ -14,7 +14,7 @@ ghost use Rattle.wasm_operators_readers.specs.Reading.{State, StopsRead, StopsRu
 use wasm_decode::below::{FrameName, InstructionName, Message, WasmFeatures};
 use wasm_decode::grammar::FrameKind;
 
-/// States that operators have no errors about open frames, data left, or allocation.
+/// States that `OperatorFault` and `ScalarOperatorFault` exclude E3, E8 to E11, E23 and E25.
 pub fn refusal_messages(features: WasmFeatures, frame: FrameKind)
     ensures any { (m : Message) (r : Reader) (offset : ℕ) → OperatorFault features frame m r offset → IsReadFault m }
     ensures scalar { (m : Message) (r : Reader) (offset : ℕ) → ScalarOperatorFault features frame m r offset
@@ -29,8 +29,8 @@ pub fn vector_refusals(features: WasmFeatures, frame: FrameKind)
         → ¬ BeginsWith 0xfd (rest r) → OperatorFault features frame m r offset }
 {}
 
-/// States that `FeatureRequired` is returned if and only if the next operator is `try`, `catch` or
-/// `catch_all` without its feature, at the opcode.
+/// States that `FeatureRequired`, at the opcode, is returned if and only if the next operator is
+/// `try`, `catch` or `catch_all` without its feature.
 pub fn features_required(features: WasmFeatures, frame: FrameKind)
     ensures only { (name : InstructionName) (r : Reader) (offset : ℕ)
         → OperatorFault features frame (Message.FeatureRequired name) r offset
@@ -51,8 +51,8 @@ pub fn wrong_frames(features: WasmFeatures, frame: FrameKind)
         → OperatorFault features frame (Message.WrongFrame (guarded_instruction g) (needed_frame g)) r (offset_of r + 1) }
 {}
 
-/// States that reading to the end fails with `OperatorsRemaining` if and only if no frame is open,
-/// and with `FramesRemain` if and only if one is and all data was read.
+/// States that an error of reading to the end, except `OutOfMemory`, is `OperatorsRemaining` if no
+/// frame is open. It is `FramesRemain` if one is and all data was read, otherwise neither.
 pub fn run_messages()
     ensures closed { (e : Error) (s : State) → StopsRun EncodesAllowed OperatorFault Anywhere e s
         → (e.message ≡ Message.OutOfMemory → ⊥) → (e.message ≡ Message.OperatorsRemaining) ↔ (s.frames ≡ []) }
@@ -72,8 +72,8 @@ pub fn run_messages()
         → (e.message ≡ Message.FramesRemain) ↔ ((rest s.reader ≡ []) × (s.frames ≡ [] → ⊥)) }
 {}
 
-/// States that if allocation fails, the next operator owns a list, or opens a frame without
-/// capacity for it.
+/// States that allocation fails only if the next operator may own a list, or opens a frame without
+/// capacity.
 pub fn memory_asked()
     ensures read { (e : Error) (s : State) → StopsRead EncodesAllowed OperatorFault (NextMayAllocate EncodesAllowed) e s
         → e.message ≡ Message.OutOfMemory → NextMayAllocate EncodesAllowed s }

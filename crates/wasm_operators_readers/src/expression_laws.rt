@@ -44,7 +44,8 @@ pub fn ranges(features: WasmFeatures)
         → LaidOut old.features (offset_of old) (before ++ p ∷ []) text → EndsAt old.features p (offset_of new) }
 {}
 
-/// States that no encoding of an expression is a proper prefix of another, and each has one list.
+/// States that no encoding of an expression is a proper prefix of another, and each encodes one
+/// list.
 pub fn one_expression(features: WasmFeatures)
     ensures { (offset : ℕ) (first second : Placed) (a b x y : List ℕ)
         → EncodesExpression (record { features = features; offset = offset; bytes = a }) first
@@ -59,7 +60,7 @@ pub fn one_longest_beginning()
 {}
 
 /// States that it is impossible that no longest list exists, with or without SIMD operators, by
-/// trees or by frames. `read_all` finds it.
+/// trees or by frames. Drivers find it.
 pub fn longest_exists()
     ensures any { (before : List Operator) (s : State) → ReadSoFar before s
         → ¬ ((placed : Placed) → ¬ IsLongestAfter before (source_of s.reader) placed) }
@@ -70,7 +71,7 @@ pub fn longest_exists()
         → ¬ ((placed : Placed) → ¬ IsFlatOf IsScalar frames s placed) }
 {}
 
-/// States that if all bytes encode the rest of an expression, its operators are the longest list.
+/// States that if all bytes encode the rest of an expression, their operators are the longest list.
 pub fn whole_is_longest()
     ensures { (before : List Operator) (s : Source) (whole : Placed)
         → AreEncoded s.features before → EncodesRest before s whole → IsLongestAfter before s whole }

@@ -11,7 +11,7 @@ pub fn steps_are_roles<T>()
         frames_after frames role ≡ frames_after frames (role_of_step (step_of role)) }
 {}
 
-/// States that operators from the byte 0x20 on keep the frames.
+/// States that operators with opcodes from 0x20 on keep the frames.
 pub fn high_bytes_stay()
     ensures { (byte : ℕ) → 0x20 ≤ byte → step_at byte ≡ FrameStep.Stays }
 {}

@@ -106,7 +106,7 @@ impl<'a> OperatorsReader<'a> {
     ///
     /// Fails with `OperatorsRemaining` if no frame is open, otherwise as
     /// `docs/ERRORS-AND-FEATURES.md` says for operators; with `OutOfMemory` only if the operator
-    /// owns a list, or opens a frame without capacity for it. Then nothing is consumed.
+    /// owns a list, or opens a frame without capacity for it. An error consumes nothing.
     ///
     /// # Examples
     ///
@@ -144,8 +144,8 @@ impl<'a> OperatorsReader<'a> {
         visit_next_simd(self.alloc, v, &mut self.reader, &mut self.control)
     }
 
-    /// Visits the next operator. Fails with `UnexpectedSimd` at the position if the next byte is
-    /// 0xfd, otherwise as `visit_operator_simd` does.
+    /// Visits the next operator. Fails with `UnexpectedSimd` at the prefix 0xfd if a frame is open,
+    /// otherwise as `visit_operator_simd` does.
     #[inline(always)]
     pub fn visit_operator<V: VisitOperator<'a>>(&mut self, v: &mut V) -> Result<V::Output>
         ensures { VisitsNextScalar V.visits result self.old self.new v.old v.new }

@@ -17,7 +17,7 @@ pub fn fresh_readers()
     ensures { (s : State) → IsFresh s → ReadSoFar [] s }
 {}
 
-/// States that a read adds its operator to those before the reader. So the clauses of drivers apply
+/// States that a read or visit adds its operator to `ReadSoFar`. So the clauses of drivers apply
 /// after single reads and visits.
 pub fn one_operator()
     ensures any { (before : List Operator) (op : Operator) (old new : State)

@@ -147,7 +147,7 @@ impl ControlStack {
         Ok(())
     }
 
-    /// Opens a frame inside the others. Fails with `OutOfMemory` at offset 0, unless the stack is
+    /// Opens a frame inside others. Can fail with `OutOfMemory` at offset 0, unless the stack is
     /// empty or has capacity.
     pub fn push(&mut self, frame: FrameKind) -> Result<()>
         ensures frames { OnOk result (self.new.frames ≡ self.old.frames ++ frame ∷ []) }

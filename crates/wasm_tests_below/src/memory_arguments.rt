@@ -40,8 +40,8 @@ pub fn print_memory_arguments<R: Print>(rt: &R, extent: Extent) -> io::Result<()
     Ok(())
 }
 
-/// Counts the results for each flags number from 0 to 255, cut after it and before each tail. A
-/// short run has all features or none.
+/// Counts the results for flags 0 to 255, cut to two bytes and with each tail. A short run tries
+/// only all features and none.
 fn count(kind: MemArgKind, extent: Extent) -> Counts {
     let mut counts = Counts {
         outcomes: [0; 26],

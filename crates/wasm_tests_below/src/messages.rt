@@ -50,7 +50,7 @@ const MESSAGES: [Message; 38] = [
     Message::DataAfterSection,
 ];
 
-/// Writes the number, offset, kind and text of an error at offset 26 with this message.
+/// Writes the number, offset, kind and text of an error at offset 26 with message `name`.
 pub fn write_message(text: &mut String, name: &str) -> Written {
     for message in MESSAGES {
         write!(text, "{message:?}")?;

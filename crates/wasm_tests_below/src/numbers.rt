@@ -142,7 +142,7 @@ pub fn short_strings(extent: Extent) -> Tally {
     tally
 }
 
-/// Returns a LEB128 encoding of the number in `length` bytes, without the bits that do not fit.
+/// Returns a LEB128 encoding of `number` in the first `length` bytes, without bits that do not fit.
 fn encodes(number: i64, length: usize) -> [u8; 11] {
     let mut bytes = [0u8; 11];
     let mut left = number;

@@ -54,7 +54,7 @@ impl Rows {
     }
 }
 
-/// Writes the text of a row. A row of `memory` is repeated if allocation failed outside the tested
+/// Writes the result of a row. Repeats a `memory` row if allocation failed outside the tested
 /// calls.
 fn evaluate(alloc: Global, row: &Row<'_>, text: &mut String) -> Written {
     match evaluate_once(alloc, row, text) {

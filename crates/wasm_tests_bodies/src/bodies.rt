@@ -4,8 +4,8 @@ use std::alloc::Global;
 use wasm_listing::operators::{FunctionBody, LocalsReader};
 use wasm_tests_texts::{Written, write_value_type};
 
-/// Writes the number of a body's declarations, then as many of them as the row's argument says, and
-/// where its operators start.
+/// Writes the count of local declarations, the results of as many reads as the row's argument says,
+/// and where the operators start.
 pub fn write_locals(given: Given<'_>, out: &mut String) -> Written {
     let body = FunctionBody::new(given.reader());
     match body.get_locals_reader() {
@@ -38,7 +38,7 @@ fn write_declarations(reads: u32, mut locals: LocalsReader<'_>, out: &mut String
     Ok(())
 }
 
-/// Writes the declarations of the iterator over locals, each after its `size_hint`, and whether one
+/// Writes three results of the locals' iterator, each after a `size_hint`, and whether only one
 /// `end` follows.
 pub fn write_locals_items(alloc: Global, given: Given<'_>, out: &mut String) -> Written {
     let mut items = match FunctionBody::new(given.reader()).get_locals_reader() {

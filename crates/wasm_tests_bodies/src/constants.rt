@@ -56,8 +56,8 @@ fn only_constant(alloc: Global, given: Given<'_>) -> Result<Option<(u64, u64)>> 
     }
 }
 
-/// Writes whether two equal expressions at different offsets, a clone and another expression are
-/// equal, and what `Debug` prints.
+/// Compares constant expressions: other offset, other bytes, a clone. Writes the results, and
+/// whether `Debug` prints nothing.
 pub fn write_equal_constants(alloc: Global, out: &mut String) -> Written {
     let first = ConstExpr::new(BinaryReader::new(&[0x41, 0x2a, 0x0b], 0));
     let second = ConstExpr::new(BinaryReader::new(&[0x41, 0x2a, 0x0b], 7));

@@ -24,7 +24,7 @@ fn four_names(alloc: Global) -> Result<Vec<String>, AllocError> {
     Ok(names)
 }
 
-/// Writes how the disassembly of the function 3, `f`, ended, and its text. The argument is the
+/// Writes the result and the text of disassembling function 3, named `f`. The row's argument is the
 /// number of parameters.
 pub fn write_disassembly(alloc: Global, given: Given<'_>, out: &mut String) -> Written {
     let body = FunctionBody::new(given.reader());

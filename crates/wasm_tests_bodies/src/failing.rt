@@ -64,7 +64,7 @@ impl Write for OneTaken {
     }
 }
 
-/// Lists a body from a reader whose call with the argument's number, from 0, fails.
+/// Lists a body from a reader that fails after `given.number()` calls.
 pub fn write_failing_read(alloc: Global, given: Given<'_>, out: &mut String) -> Written {
     let mut reader = OneByte {
         bytes: given.bytes,
@@ -80,7 +80,7 @@ pub fn write_failing_read(alloc: Global, given: Given<'_>, out: &mut String) -> 
     write_run(end, written.as_slice(), out)
 }
 
-/// Lists a body to a writer whose call with this number fails.
+/// Lists a body to a writer that fails after `given.number()` calls.
 pub fn write_failing_write(alloc: Global, given: Given<'_>, out: &mut String) -> Written {
     let mut reader = given.bytes;
     let mut writer = OneTaken {

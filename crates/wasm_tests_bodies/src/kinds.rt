@@ -13,8 +13,8 @@ use wasm_tests_texts::Written;
 
 /// Makes the calls of this kind of row, and writes their results. Fails if allocation failed.
 ///
-/// A kind that starts with `memory_` repeats such a call, which must succeed then; the first must
-/// change nothing.
+/// Kinds that start with `memory_` repeat a call whose allocation failed; it must change nothing,
+/// and the second succeed.
 pub fn write_found(
     alloc: Global,
     kind: &str,

@@ -37,8 +37,8 @@ fn write_fault(fault: DumpFault, out: &mut String) -> Written {
     write!(out, "{fault}, status {status}")
 }
 
-/// Lists a body of the argument's number of `nop` and no `end`, and writes the error and the
-/// length. The time is linear.
+/// Lists a body of `given.number()` `nop` without `end`. Writes the error and the listing's length
+/// in bytes. The time is linear.
 pub fn write_nops(alloc: Global, given: Given<'_>, out: &mut String) -> Written {
     let nops = vec![in alloc; 0x01; given.number() as usize]?;
     let mut body = Vec::new(alloc);
@@ -78,7 +78,7 @@ fn write_counts(counts: &[u64; 19], out: &mut String) -> Written {
     Ok(())
 }
 
-/// Writes the bits of the features that a word names. `-` is no word.
+/// Writes the bits of the features that the row's argument names; `-` means all.
 pub fn write_features(given: Given<'_>, out: &mut String) -> Written {
     let features = if given.argument == "-" {
         features_of(None)

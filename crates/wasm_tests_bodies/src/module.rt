@@ -10,7 +10,7 @@ use wasm_tests_texts::Written;
 
 const ITEMS: u32 = 8;
 
-/// Writes the kind of module, and each section's number and range.
+/// Writes the module's kind, and each section's number and contents' range.
 pub fn write_sections(given: Given<'_>, out: &mut String) -> Written {
     let mut reader = given.reader();
     match read_preamble(&mut reader) {
@@ -43,7 +43,7 @@ fn write_range(out: &mut String, reader: &BinaryReader<'_>) -> Written {
     write!(out, "{start}..{end}")
 }
 
-/// Writes the range and the items of the first section with the argument's number: types (1),
+/// Writes the range and at most 8 items of the first section numbered `given.number()`: types (1),
 /// imports (2), exports (7), or names of functions (0).
 pub fn write_section(given: Given<'_>, out: &mut String) -> Written {
     match contents_of(given) {
@@ -111,7 +111,7 @@ fn write_type(contents: &mut BinaryReader<'_>, out: &mut String) -> Written {
     }
 }
 
-/// Writes the argument's number of recursive types: how many sub types each has, and these.
+/// Writes `given.number()` recursive types: how many sub types each has, and these.
 pub fn write_rec_types(given: Given<'_>, out: &mut String) -> Written {
     let mut reader = given.reader();
     for _ in 0..given.number() {

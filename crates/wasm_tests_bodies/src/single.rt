@@ -118,8 +118,8 @@ fn write_visited(out: &mut String, visited: Visited) -> Written {
     }
 }
 
-/// Clones the operator, visits it borrowed, and clones its resume table; each again if allocation
-/// failed, with an error at offset 0.
+/// Clones an operator, visits it borrowed, and clones its resume table. Repeats each that fails
+/// with `OutOfMemory` at offset 0.
 pub fn write_clones(alloc: Global, given: Given<'_>, out: &mut String) -> Written {
     let reader = given.reader();
     let mut under = Under(given.frame());

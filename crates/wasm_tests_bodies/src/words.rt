@@ -34,7 +34,7 @@ pub fn write_name(out: &mut String, name: &[u8]) -> Written {
     out.push_str(str::from_utf8(name).unwrap_or("(not UTF-8)"))
 }
 
-/// Writes lines in quotation marks, with `\n` for each line feed.
+/// Writes `text` in quotation marks, with `\n` for each line feed.
 pub fn write_lines(out: &mut String, text: &[u8]) -> Written {
     let Ok(text) = str::from_utf8(text) else {
         return out.push_str(" (not UTF-8)");

@@ -26,7 +26,7 @@ fn write_start(out: &mut String, text: &[u8], length: usize) -> Written {
     }
 }
 
-/// Writes the name of a function. An array that is one byte too short stays unchanged.
+/// Writes a function's name. Checks that an array one byte too short stays unchanged.
 fn write_name(alloc: Global, out: &mut String, bytes: &[u8], index: u32) -> Written {
     let mut name = [0u8; 64];
     let (mut length, mut end) = (0, UNWRITTEN);

@@ -69,7 +69,7 @@ fn open(alloc: Global, source: &Source<'_>) -> Result<Opened, AllocError> {
     })
 }
 
-/// Returns what was read after the last call, which is `wasm_finish` unless an earlier one failed.
+/// Calls `wasm_finish` unless an earlier call failed. Returns the operators and how reading ended.
 fn finished(opened: Opened, bytes: &[u8], operators: Vec<WasmOperator>) -> Found {
     let Opened {
         frames,

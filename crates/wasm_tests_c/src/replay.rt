@@ -146,8 +146,7 @@ impl Replay {
         compare(alloc, rt, &mut self.open, &found, body)
     }
 
-    /// Compares reading a body without SIMD operators, and its bytes as a constant expression and
-    /// as locals.
+    /// Compares reading a body by `wasm_next_plain`, as a constant expression and as locals.
     fn other_ways<R: Print>(
         &mut self,
         rt: &R,

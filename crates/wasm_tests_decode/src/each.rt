@@ -117,7 +117,7 @@ fn compare_factory(
     }
 }
 
-/// Writes whether a visit is of the operator that was read, and by which call.
+/// Writes which visitor method received the operator that was read; otherwise, the visit's result.
 fn compare_visit(texts: &mut Texts, reported: (Reported, usize), end: usize) -> Written {
     let is_same = texts.teller.text == texts.read && reported.1 == end;
     match reported.0 {
@@ -152,8 +152,8 @@ fn compare_ways(
     write_way(line, direct, reported, other, &mut boxed.text)
 }
 
-/// Writes whether `decode_simd_low` or `decode_simd_high` alone visits that SIMD operator, in the
-/// four ways of `compare_ways`. Writes nothing for other operators.
+/// Writes whether `decode_simd_low` or `decode_simd_high` makes the `direct` visit, also in the
+/// ways of `compare_ways`. Writes nothing without the prefix 0xfd.
 fn compare_halves(
     texts: &mut Texts,
     task: Task,
@@ -222,7 +222,8 @@ fn write_half(
     write_way(line, direct, reported, other, text)
 }
 
-/// Writes the offset of `EndOfData` if reading and visiting cut data fail with it; otherwise more.
+/// Writes `EndOfData`'s offset if reading and visiting cut data fail with it; otherwise both
+/// results.
 fn write_cut(alloc: Global, texts: &mut Texts, task: Task, bytes: &[u8]) -> Written {
     let (outcome, position) = run_read(alloc, task, bytes);
     let reported = run_simd(alloc, &mut texts.teller, task, bytes);

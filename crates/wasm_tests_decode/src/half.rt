@@ -9,7 +9,8 @@ use crate::teller::Teller;
 use wasm_decode::below::{BinaryReader, Result};
 use wasm_decode::visitors::{VisitSimdOperator, Visitor};
 
-/// Returns the result of the call and the position; `None` without the byte 0xfd and a subopcode.
+/// Returns the decoding call's result and the position; `None` without the byte 0xfd and a
+/// subopcode.
 fn run_half<V: VisitSimdOperator>(
     v: &mut V,
     task: Task,

@@ -10,7 +10,7 @@ use wasm_decode::visitors::OperatorFactory;
 use wasm_decode::{read_operator, visit_operator, visit_operator_simd};
 use wasm_tests_texts::{Written, write_operator};
 
-/// Creates a reader at a task's operator, or at the end of data that is too short.
+/// Creates a reader at a task's operator, or at the start of data that is too short.
 pub fn reader_at<'a>(task: Task, bytes: &'a [u8]) -> BinaryReader<'a> {
     let mut reader = BinaryReader::new_features(bytes, 0, task.features);
     let _ = reader.read_bytes(task.before);

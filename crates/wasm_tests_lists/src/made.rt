@@ -8,7 +8,7 @@ use wasm_visit::instr::{GcOperator, Operator, SimdOperator};
 
 pub const COUNT: u32 = 13;
 
-/// Returns the operator with this number, which no constant can make; `None` if allocation fails.
+/// Returns operator `number`, made by calls; `None` from `COUNT` on or if allocation fails.
 pub fn made(alloc: Global, number: u32) -> Option<Operator<'static>> {
     Some(match number {
         0 => Operator::BrTable {

@@ -61,7 +61,7 @@ pub fn row_of(room: &mut [u8], line: &str) -> Option<(Features, usize)> {
     Some((features, size))
 }
 
-/// Parses the features: a number, `+` and a feature, or `-` and a feature.
+/// Parses `N` (one set), `+N` (sets with a feature) or `-N` (without).
 fn features_of(word: &str) -> Option<Features> {
     if let Some(feature) = word.strip_prefix('+') {
         return Some(Features::With(feature.parse::<u32>().ok()?));
@@ -72,8 +72,8 @@ fn features_of(word: &str) -> Option<Features> {
     Some(Features::These(word.parse::<u32>().ok()?))
 }
 
-/// Appends hexadecimal bytes after the first `size`, and returns the new size. A character that is
-/// no digit counts as 0.
+/// Decodes hexadecimal `digits` into `room` from `size` on. Returns the new size. Bytes except
+/// `0`-`9` and `a`-`f` count as 0.
 fn write_bytes(room: &mut [u8], size: usize, digits: &str) -> usize {
     let mut end = size;
     let mut high = None;

@@ -18,7 +18,7 @@ pub fn read_all<'a>(
     reported
 }
 
-/// Repeats `read_all` as long as allocation fails.
+/// Repeats `read_all` once if allocation fails.
 fn read_to_end<'a>(
     operators: &mut OperatorsReader<'a>,
     list: &mut Vec<(Operator<'a>, u64)>,

@@ -20,8 +20,8 @@ pub fn print_stacks<R: Print>(rt: &R, alloc: Global) -> io::Result<()> {
     print_rests(rt, alloc)
 }
 
-/// Opens and closes two frames. A failed allocation changes nothing, and the second call succeeds.
-/// The first frame does not allocate.
+/// Pushes, pops and reserves frames. A failed allocation changes nothing, and the repeated call
+/// succeeds. The first frame does not allocate.
 fn print_stack<R: Print>(rt: &R, alloc: Global) -> io::Result<()> {
     let mut stack = ControlStack::new(alloc);
     let first = stack.push(FrameKind::Block);

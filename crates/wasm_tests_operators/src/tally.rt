@@ -97,8 +97,8 @@ impl<'a> VisitOperator<'a> for Tally {
 
 impl VisitSimdOperator for Tally {}
 
-/// Prints how often each visit ran, by both drivers: directly, by reference, in a `Box`, and by
-/// reference to a `Box`.
+/// Prints counts of overridden and other visits: directly by both drivers; by reference, in a
+/// `Box`, and by reference to it.
 pub fn print_tallies<R: Print>(rt: &R, alloc: Global) -> io::Result<()> {
     print_visits(rt, alloc, "data drops", &DATA_DROPS)?;
     print_visits(rt, alloc, "nops", &NOPS)?;

@@ -13,7 +13,7 @@ pub fn visit_all_simd<'a>(operators: &mut OperatorsReader<'a>, list: Listed<'_, 
     end(reported, list, prints, outcome)
 }
 
-/// Calls `visit_all_simd`, again with the operator for which allocation failed.
+/// Calls `visit_all_simd`, again from an operator for which allocation failed.
 fn simd_to_end<'a>(
     operators: &mut OperatorsReader<'a>,
     list: Listed<'_, 'a>,

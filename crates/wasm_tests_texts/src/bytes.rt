@@ -14,8 +14,8 @@ pub fn read_input<R: Read>(alloc: Global, reader: &mut R) -> io::Result<Vec<u8>>
     Ok(input)
 }
 
-/// Replaces the contents of `out` by bytes in hexadecimal. A character that is not a digit counts
-/// as 0.
+/// Decodes hexadecimal `text` into `out`, replacing its contents. Bytes except `0`-`9` and `a`-`f`
+/// count as 0.
 pub fn read_hex(out: &mut Vec<u8>, text: &str) -> Result<(), AllocError> {
     out.clear();
     let mut high = None;

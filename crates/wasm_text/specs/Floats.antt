@@ -7,7 +7,7 @@ abbrev pub fraction_digits : ℕ → ℕ → List ℕ
 fraction_digits zero fraction = []
 fraction_digits (suc n) fraction = if fraction == 0 then [] else digit_glyph false (fraction / 2 ^ 48) ∷ fraction_digits n (fraction % 2 ^ 48 * 16)
 
--- A point and these digits; nothing for the fraction 0.
+-- A point and `fraction_digits`; nothing for the fraction 0.
 abbrev pub fraction_text : ℕ → List ℕ
 fraction_text fraction = if fraction == 0 then [] else 46 ∷ fraction_digits 13 fraction
 
@@ -15,8 +15,8 @@ fraction_text fraction = if fraction == 0 then [] else 46 ∷ fraction_digits 13
 abbrev pub exponent_text : ℕ → ℕ → List ℕ
 exponent_text biased bias = if ltb biased bias then codes "p-" ++ decimal (bias - biased) else codes "p+" ++ decimal (biased - bias)
 
--- A finite number by its biased exponent and its fraction of 52 bits. The biased exponent 0 counts
--- as 1, with the integer part 0.
+-- A finite number by its biased exponent and its fraction of 52 bits. A subnormal number has
+-- integer part 0 and exponent `1 - bias`.
 abbrev pub finite_text : ℕ → ℕ → ℕ → List ℕ
 finite_text bias biased fraction =
     if biased == 0
@@ -34,7 +34,7 @@ special_text canonical payload = if payload == 0 then codes "inf" else nan_text 
 abbrev pub sign_text : ℕ → List ℕ
 sign_text sign = if sign == 0 then codes " " else codes " -"
 
--- The sign, 8 bits of the exponent and 23 bits of the fraction.
+-- The float of a sign bit, 8 exponent bits and 23 fraction bits.
 abbrev pub float_32_text : ℕ → List ℕ
 float_32_text bits = sign_text (bits / 2 ^ 31) ++ (if bits / 2 ^ 23 % 2 ^ 8 == 255 then special_text (2 ^ 22) (bits % 2 ^ 23) else finite_text 127 (bits / 2 ^ 23 % 2 ^ 8) (bits % 2 ^ 23 * 2 ^ 29))
 

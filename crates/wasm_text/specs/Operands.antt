@@ -60,7 +60,7 @@ gc_operands (gc.RefCastDescEqNonNull hty) = reference_text false hty
 gc_operands (gc.RefCastDescEqNullable hty) = reference_text true hty
 gc_operands op = immediates_text (immediates_of (operator.Gc op))
 
--- The immediates, unless the text format has another order or form.
+-- The immediates; `indirect_text` for indirect calls, `gc_operands` after 0xfb.
 abbrev pub operands_of : Operator → List ℕ
 operands_of (operator.CallIndirect type_index table_index) = indirect_text type_index table_index
 operands_of (operator.ReturnCallIndirect type_index table_index) = indirect_text type_index table_index

@@ -120,7 +120,7 @@ abbrev pub order_text : Ordering → List ℕ
 order_text SeqCst = codes " seq_cst"
 order_text AcqRel = codes " acq_rel"
 
--- The ordering of a fence: 0 for `SeqCst`. (The text format writes nothing.)
+-- A fence's ordering: 0 for `SeqCst`. (The text format: nothing for `SeqCst`.)
 abbrev pub fence_text : Ordering → List ℕ
 fence_text SeqCst = codes " 0"
 fence_text AcqRel = codes " acq_rel"
@@ -135,7 +135,7 @@ announced_text None = []
 announced_text (Some (ordering.Op o)) = order_text o
 announced_text (Some (ordering.Rmw o)) = order_text o
 
--- Alignment exponent, target, offset and ordering. (The text format: `offset=`, `align=`, and the
--- alignment.)
+-- Alignment exponent, target, offset and ordering. (Text format: `offset=`, and the alignment after
+-- `align=`.)
 abbrev pub memory_argument_text : MemArg → List ℕ
 memory_argument_text m = number_text m.align ++ (target_text m.target ++ (number_text m.offset ++ announced_text m.ordering))

@@ -3,7 +3,7 @@ use Rattle.std.specs.Int.{w64}
 use Rattle.wasm_instr.specs.declared.operator.Operator.{Operator}
 use Rattle.wasm_instr.specs.declared.operator.Operator.TheVariants as operator
 
--- The operator carries no list, and its integer, if it has one, fits in 64 bits.
+-- The operator carries no list, and its integer constant, if any, fits in an `i64`.
 abbrev pub IsWhole : Operator → Type 0
 IsWhole (operator.BrTable _) = ⊥
 IsWhole (operator.TypedSelectMulti _) = ⊥

@@ -37,7 +37,7 @@ handles_of (operator.ResumeThrowRef ty t) = Some (map handle_of t.handlers)
 handles_of _ = None
 
 -- The array starts with the members from index `from` on, as far as they fit; the rest is
--- unchanged. `count` is the number of all.
+-- unchanged. `count` counts all members.
 abbrev pub PlacesMembers : {X : Type 0} → List X → ℕ → List X → ℕ → List X → Type 0
 PlacesMembers members from old count new = (count ≡ length members) × (new ≡ written (drop from members) old)
 
@@ -47,7 +47,7 @@ abbrev pub ReturnsMembers : {X : Type 0} → Option (List X) → ℕ → List X 
 ReturnsMembers None from old result new = (result ≡ None) × (new ≡ old)
 ReturnsMembers (Some members) from old result new = (count : ℕ) × (result ≡ Some count) × PlacesMembers members from old count new
 
--- One more member is written, after those with a lower index.
+-- One more member is written at `index - from`, if that exists.
 abbrev pub PlacesOne : {X : Type 0} → X → ℕ → ℕ → List X → List X → Type 0
 PlacesOne {X} member index from old new =
     (seen base : List X) → index ≡ length seen → old ≡ written (drop from seen) base → new ≡ written (drop from (seen ++ member ∷ [])) base

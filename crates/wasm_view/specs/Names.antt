@@ -2,7 +2,7 @@
 -- Specification: Appendix, Index of Instructions.
 use Rattle.std.specs.Prelude.{◌==◌, ℕ, List, [], codes, if◌then◌else◌}
 
--- The name of an operator's variant, or an empty text. Its number is the opcode, or prefix byte * 0x10000 + subopcode.
+-- The variant's name by the operator's number: opcode, or prefix byte * 0x10000 + subopcode. Empty if this function lacks it.
 abbrev pub atomic_names_2 : ℕ → List ℕ
 atomic_names_2 number =
     if number == 0xfe006c then codes "ArrayAtomicRmwSub" else (
@@ -678,7 +678,7 @@ own_names_0 number =
     if number == 0x42 then codes "I64Const" else (
     if number == 0x43 then codes "F32Const" else (own_names_1 number))))))))))))))))))))))))))))))))))))))))))))))))
 
--- The name by number and shape: two operators share a number, and shape 19 selects the first.
+-- The name by number and shape: two operators share 0x1c, and shape 19 selects `TypedSelect`.
 abbrev pub name_at : ℕ → ℕ → List ℕ
 name_at number shape =
     if number == 0x1c then (if shape == 19 then codes "TypedSelect" else codes "TypedSelectMulti") else own_names_0 number

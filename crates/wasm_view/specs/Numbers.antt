@@ -53,7 +53,7 @@ block_index block.Empty = 0
 block_index (block.Value ty) = value_index ty
 block_index (block.FuncType index) = index
 
--- 0 for a memory, 1 for an array; and its index.
+-- 0 for a memory, 1 for an array.
 abbrev pub target_number : MemArgTarget → ℕ
 target_number (target.Memory index) = 0
 target_number (target.Array index) = 1

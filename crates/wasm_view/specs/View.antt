@@ -33,7 +33,7 @@ bare offset opcode shape = record {
   bytes = replicate 16 0;
 }
 
--- The kinds of the immediates determine the shape.
+-- The C struct: the immediates determine its shape.
 abbrev pub view : ℕ → ℕ → List Immediate → WasmOperator
 view offset opcode [] = bare offset opcode 0
 view offset opcode (unsigned_32 a ∷ []) = record (bare offset opcode 1) { first = a }

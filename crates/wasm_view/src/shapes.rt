@@ -45,8 +45,8 @@ pub fn two_indices(offset: u64, opcode: u32, first: u32, second: u32) -> WasmOpe
     }
 }
 
-/// Creates the struct of a memory argument. The operator kind and the alignment in the contract
-/// don't change it.
+/// Creates the struct of an operator with a memory argument. Kind and alignment in the contract
+/// don't matter.
 #[inline(always)]
 pub fn memory(offset: u64, opcode: u32, argument: MemArg) -> WasmOperator
     ensures { result ≡ view offset opcode (memory_argument kind.Plain 0 argument ∷ []) }

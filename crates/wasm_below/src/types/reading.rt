@@ -121,8 +121,8 @@ impl HeapType {
 impl RefType {
     /// Reads a reference type. Specification: Types, Reference Types.
     ///
-    /// Fails with `InvalidType` at the start of the type if its first byte starts none, or the byte
-    /// after 0x65 is no abstract heap type. Otherwise fails with `EndOfData`, or like
+    /// Fails with `InvalidType` at the start if the first byte starts no reference type, or is 0x65
+    /// and the second is no abstract heap type. Otherwise fails with `EndOfData`, or like
     /// `HeapType::read` after 0x63 or 0x64.
     #[inline(never)]
     pub fn read(reader: &mut BinaryReader<'_>) -> Result<RefType>

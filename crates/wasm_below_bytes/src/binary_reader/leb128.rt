@@ -28,7 +28,7 @@ impl<'a> BinaryReader<'a> {
         self.read_long_u32()
     }
 
-    /// Reads like `read_var_u32`, with all code inline: a loop that skips numbers then does not
+    /// Reads like `read_var_u32`, with the decoding inline: a loop that skips numbers then does not
     /// compute their values.
     #[inline(always)]
     pub fn read_var_u32_in_place(&mut self) -> Result<u32>
@@ -208,7 +208,7 @@ impl<'a> BinaryReader<'a> {
     }
 }
 
-/// Replaces `IntegerTooLarge` by `IntegerTooLong`: both faults of the fifth byte have one text.
+/// Replaces `IntegerTooLarge` by `IntegerTooLong`: `read_var_s33` reports both with one text.
 fn as_too_long(e: Error) -> Error
     ensures offset { result.offset ≡ e.offset }
     ensures message { result.message ≡ as_too_long e.message }

@@ -22,8 +22,8 @@ pub enum Immediate {
 }
 
 impl Immediate {
-    /// Writes the result. `argument` is the natural alignment of a memory argument, or the offset
-    /// of a fence.
+    /// Writes the result of reading. `argument` is a memory argument's natural alignment (an
+    /// exponent), or a fence's offset.
     pub fn write(self, text: &mut String, argument: u8, reader: &mut BinaryReader<'_>) -> Written {
         match self {
             Immediate::MemArg(kind) => {

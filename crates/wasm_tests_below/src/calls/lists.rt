@@ -21,7 +21,7 @@ pub enum List {
 }
 
 impl List {
-    /// Writes the result. `argument` is the limit of a count of items.
+    /// Writes the call's result. `argument` is the limit passed to `read_iter`.
     pub fn write(
         self,
         alloc: Global,
@@ -88,7 +88,7 @@ fn write_items(
     write_next(text, reader)
 }
 
-/// Writes whether a list of numbers is read that is dropped before any item is read.
+/// Writes whether `read_iter` succeeds, and the offset after its iterator is dropped unused.
 fn write_dropped(
     alloc: Global,
     text: &mut String,
@@ -125,7 +125,8 @@ fn write_resume_table(alloc: Global, text: &mut String, reader: &mut BinaryReade
     write_next(text, reader)
 }
 
-/// Reads a value, again if allocation failed at the start of the call and the reader has not moved.
+/// Reads a value, again if the error is `OutOfMemory` at the reader's offset, which has not
+/// changed.
 fn read_again<'a, T: FromReader<'a>>(alloc: Global, reader: &mut BinaryReader<'a>) -> Result<T> {
     let offset = reader.original_position();
     match T::from_reader(alloc, reader) {

@@ -20,7 +20,7 @@ pub enum Number {
 }
 
 impl Number {
-    /// Writes the result. `argument` is a number of bytes, or the limit of a count.
+    /// Writes the result. `argument` is the length for `read_bytes`, the limit for `read_size`.
     pub fn write(self, text: &mut String, argument: u8, reader: &mut BinaryReader<'_>) -> Written {
         let argument = usize::from(argument);
         match self {
