@@ -1006,11 +1006,11 @@ uint32_t wasm_resume_handlers(const uint8_t *bytes, size_t bytes_length, uint64_
                               uint64_t at, size_t index, wasm_handler *out, size_t out_length, size_t *count,
                               wasm_refusal *refusal);
 
-/* Writes the operator at the offset `at` in the text format, such as `i32.const 5`, in UTF-8. `*length` is the length
+/* Writes the operator at the offset `at` as in a disassembly, such as `i32.const 5`, in UTF-8. `*length` is the length
  * of the text in bytes. If it is greater than `text_length`, the call fails with WASM_REFUSED_NO_ROOM, and only
  * `*length` and `*refusal` change.
  *
- * The operator is read inside a frame that allows it, if one does. Fails like wasm_br_table_targets;
+ * The operator is read inside a frame that allows it, if any. Fails like wasm_br_table_targets;
  * WASM_REFUSED_NO_LIST means that `at` is before the first byte or past the end. */
 uint32_t wasm_operator_text(const uint8_t *bytes, size_t bytes_length, uint64_t offset, uint32_t features,
                             uint64_t at, uint8_t *text, size_t text_length, size_t *length,

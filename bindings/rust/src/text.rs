@@ -1,4 +1,4 @@
-//! Operators in the text format, which wasmparser does not have.
+//! Operators as text, which wasmparser does not have.
 
 use crate::{Result, WasmFeatures, native};
 

@@ -1,8 +1,8 @@
-use Rattle.std.proofs.Common.{Option, Some, None, refl, inl, inr}
+use Rattle.std.proofs.Common.{ℕ, ◌<◌, length, Option, Some, None, refl, inl, inr, arith}
 use Rattle.wasm_functions.specs.of_module.below.bytes.error.Error.{Error}
 use Rattle.wasm_functions.specs.of_module.below.Source.{Reader}
 use Rattle.wasm_functions.specs.declared.fault.ModuleFault.TheVariants as fault
-use Rattle.wasm_functions.specs.ModuleFunctions.{ModuleFunctions, DescribesFunctions}
+use Rattle.wasm_functions.specs.ModuleFunctions.{ModuleFunctions, DescribesFunctions, IsOwn}
 use Rattle.wasm_functions.specs.Refusals.{ModuleFunctionsFault, HasTypes, HasImports, HasFunctions}
 use Rattle.wasm_functions.specs.Sections.{IsSection}
 use Rattle.wasm_bodies.specs.Bodies.{RefusesCount}
@@ -16,10 +16,11 @@ count_refused whole t (Some contents) e d is h =
     let imports : HasImports whole = (d.imports, t.imported, d.section_of_imports, d.imported) in
     inr (inr (inl (types, imports, inr (contents, is, inl h))))
 
--- Allocation may fail after the functions are known.
-pub memory_fault : (whole : Reader) (t : ModuleFunctions) → DescribesFunctions whole t → ModuleFunctionsFault fault.Memory whole
-memory_fault whole t d =
+-- Allocation for the name of a function may fail.
+pub memory_fault : (whole : Reader) (t : ModuleFunctions) (index : ℕ) → DescribesFunctions whole t → IsOwn t index → ModuleFunctionsFault fault.Memory whole
+memory_fault whole t index d (from, to) =
     let types : HasTypes whole = (d.signatures, t.parameters, d.section_of_types, d.parameters) in
     let imports : HasImports whole = (d.imports, t.imported, d.section_of_imports, d.imported) in
-    let functions : HasFunctions whole = (d.functions, t.types, d.section_of_functions, d.types) in
-    inr (inr (inr (types, imports, functions, inl refl)))
+    let functions : HasFunctions whole (length t.types) = (d.functions, t.types, d.section_of_functions, d.types, refl) in
+    let some : 0 < length t.types = omega (arith, from, to) in
+    inr (inr (inr (types, imports, length t.types, functions, inl (refl, inr some))))

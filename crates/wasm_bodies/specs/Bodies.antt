@@ -32,7 +32,8 @@ pub record InSection (bytes : List ℕ) (id n : ℕ) (there : Reader) : Type 0 w
   pub within : n ≤ length (rest contents)
   pub is_there : there ≡ after_bytes contents n
 
--- The number of items of a section, and how many bytes encode it. Without the section both are 0.
+-- The number of a section's items, and how many bytes encode that number. Without the section both
+-- are 0.
 abbrev pub Declares : Option Reader → ℕ → ℕ → Type 0
 Declares None count n = (count ≡ 0) × (n ≡ 0)
 Declares (Some contents) count n = Reads (EncodesUnsigned 32) (Ok count) contents (after_bytes contents n)
@@ -49,7 +50,7 @@ DeclaresIn bytes id count n = (contents : Option Reader) × IsSection (module_of
 abbrev pub Describes : List ℕ → Type 0
 Describes bytes = (t : ModuleFunctions) × DescribesFunctions (module_of bytes) t
 
--- The place before the first body of a module, which has as many bodies as functions.
+-- The place before the first body of a module with as many bodies as defined functions.
 pub record OpensBodies (bytes : List ℕ) (c : WasmBodies) : Type 0 where
   pub functions : ModuleFunctions
   pub described : DescribesFunctions (module_of bytes) functions
@@ -69,7 +70,7 @@ RefusesBodies (fault.Code e) bytes = Describes bytes × (contents : Option Reade
 RefusesBodies fault.Counts bytes = Describes bytes × CountsDiffer bytes
 RefusesBodies fault.NoFunction bytes = ⊥
 
--- A type index is between `old` and `new` bytes of the function section.
+-- Between offsets `old` and `new`, the function section's contents are a type index.
 abbrev pub TakesType : List ℕ → ℕ → ℕ → ℕ → Type 0
 TakesType bytes old new ty =
     (before after : Reader) × InSection bytes 3 old before × InSection bytes 3 new after × Reads (EncodesUnsigned 32) (Ok ty) before after
@@ -77,7 +78,7 @@ TakesType bytes old new ty =
 abbrev pub HasType : List ℕ → ℕ → Type 0
 HasType bytes n = (new ty : ℕ) × TakesType bytes n new ty
 
--- A body, with its length before it, is between `old` and `new` bytes of the code section.
+-- Between offsets `old` and `new`, the code section's contents are a body's length and the body.
 pub record TakesPart (bytes : List ℕ) (old new : ℕ) (part : Reader) : Type 0 where
   pub before : Reader
   pub is_before : InSection bytes 10 old before

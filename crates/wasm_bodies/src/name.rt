@@ -37,7 +37,7 @@ fn copy_name(alloc: Global, name: &FunctionName<'_>) -> Result<String, AllocErro
     Ok(text)
 }
 
-/// Returns a copy of the name at an index, which is empty if there is none.
+/// Returns a copy of the name at `index`, empty if there is none in UTF-8.
 fn copy_at(alloc: Global, names: &[FunctionName<'_>], index: u32) -> Result<String, AllocError>
     ensures { IfOk result (λ text. string_bytes text ≡ text_of_name (slice_index_or (bytes_of names.now) index [])) }
 {

@@ -21,8 +21,8 @@ pub struct WasmBody {
     pub type_index: u32,
 }
 
-/// Returns the next type index, and how many bytes of the function section are then read; `None` if
-/// there is no type index.
+/// Returns the next type index, and the offset after it in the function section's contents; `None`
+/// if there is no type index.
 fn read_type(bytes: &[u8], bodies: &WasmBodies) -> Option<(u32, u64)>
     ensures some { IfSome result (λ found. TakesType bytes.now bodies.now.types found.1 found.0) }
     ensures none { IfNone result (HasType bytes.now bodies.now.types → ⊥) }
@@ -58,7 +58,7 @@ fn end_of_bodies(bytes: &[u8], bodies: &WasmBodies) -> NoBody
     }
 }
 
-/// Reads the next body of a module. The place is then after it; on failure it is unchanged.
+/// Reads the next body of a module. `bodies` is then the place after it, or unchanged on failure.
 pub fn next_body(bytes: &[u8], bodies: &mut WasmBodies) -> Result<WasmBody, NoBody>
     ensures takes { IfOk result (λ body. TakesBody bytes.now bodies.old bodies.new body) }
     ensures stops { IfErr result (λ reason. StopsBodies reason bytes.now bodies.old) }

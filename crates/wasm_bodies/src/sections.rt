@@ -39,8 +39,8 @@ pub fn place_in<'a>(bytes: &'a [u8], id: u8, read: u64) -> Option<(BinaryReader<
     }
 }
 
-/// Returns the number of items of a section, and how many bytes encode it. Without a section both
-/// are 0.
+/// Returns the number of a section's items, and how many bytes encode that number. Without a
+/// section both are 0.
 pub fn read_count(contents: Option<BinaryReader<'_>>) -> Result<(u32, u64)>
     ensures declares { IfOk result (λ found. Declares contents.entry found.0 found.1) }
     ensures refused { IfErr result (λ e. RefusesCount e contents.entry) }

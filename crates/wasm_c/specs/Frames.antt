@@ -37,7 +37,7 @@ abbrev pub OpensFrame : FrameChange → Type 0
 OpensFrame (change.Opens kind) = Unit {0}
 OpensFrame _ = ⊥
 
--- The open frames after a change of the innermost; `outer` are the frames around it.
+-- The open frames after a change. Before it, they were `outer` and, innermost, `kind`.
 abbrev pub frames_changed : List FrameKind → FrameKind → FrameChange → List FrameKind
 frames_changed outer kind change.Stays = outer ++ kind ∷ []
 frames_changed outer kind (change.Opens inner) = outer ++ kind ∷ inner ∷ []

@@ -45,12 +45,12 @@ refusal_of_next no_body.End = misuse 111 0
 refusal_of_next (no_body.Refused e) = refusal_of e
 refusal_of_next no_body.NotBodies = misuse 103 0
 
--- `wasm_open_bodies` returns the place before the first body, or an error, and then nothing changes.
+-- `wasm_open_bodies` returns the place before the first body. On an error, nothing changes.
 abbrev pub ReturnsBodies : WasmRefusal → List ℕ → WasmBodies → WasmBodies → Type 0
 ReturnsBodies r bytes old new =
     ((r ≡ no_refusal 0) × OpensBodies bytes new) ⊎ ((new ≡ old) × (f : BodiesFault) × (r ≡ refusal_of_bodies f) × RefusesBodies f bytes)
 
--- `wasm_next_body` returns the next body, or why none follows, and then nothing changes.
+-- `wasm_next_body` returns the next body. Without one, it returns why, and nothing changes.
 abbrev pub ReturnsBody : WasmRefusal → List ℕ → WasmBodies → WasmBodies → WasmBody → WasmBody → Type 0
 ReturnsBody r bytes old new body_old body_new =
     ((r ≡ no_refusal body_new.offset) × TakesBody bytes old new body_new) ⊎

@@ -21,7 +21,8 @@ use Rattle.wasm_c.specs.Refused.{refusal_at}
 abbrev pub IsWithin : ℕ → List ℕ → Type 0
 IsWithin offset bytes = offset + length bytes < 2 ^ 64
 
--- After these operators, the next operator owns a list, or opens more frames than were open before, for which no capacity is left.
+-- After these operators, the next operator may own a list, or its opcode opens a frame without
+-- capacity.
 pub record MayAllocateAfter (opened : State) (placed : Placed) : Type 0 where
   pub stopped : State
   pub takes : TakesOperators opened stopped placed
@@ -49,7 +50,7 @@ pub record FindsBody {X : Type 0} (result : Result X Error) (input : Reader) (co
   pub counted : count ≡ length placed
   pub in_array : new ≡ written (views placed) old
 
--- The same, with how reading ended as a C struct.
+-- As `FindsBody`, with how reading ended as a C struct.
 abbrev pub FindsPlain : WasmRefusal → Reader → ℕ → List WasmOperator → List WasmOperator → Placed → Type 0
 FindsPlain r input count old new placed =
     (result : Result (Unit {0}) Error) × (r ≡ refusal_at result (end_of input)) × FindsBody result input count old new placed

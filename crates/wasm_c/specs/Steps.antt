@@ -127,7 +127,7 @@ pub record RefusesOpening (r : WasmRefusal) (bytes : List ℕ) (offset features 
   pub past : features < 64 → 2 ^ 64 ≤ offset + length bytes → (r ≡ misuse 101 offset) × (new ≡ old) × (frames_new ≡ frames_old)
   pub room : features < 64 → IsWithin offset bytes → frames_old ≡ [] → (r ≡ misuse 102 offset) × (new ≡ old) × (frames_new ≡ frames_old)
 
--- An expression is opened: no byte is read, and its frame is open.
+-- An expression is opened with its frame, without reading, or nothing changes.
 pub record OpensExpression (r : WasmRefusal) (bytes : List ℕ) (offset features : ℕ) (old new : WasmReader) (frames_old frames_new : List ℕ) : Type 0 where
   pub opens : features < 64 → IsWithin offset bytes → (frames_old ≡ [] → ⊥) →
       (r ≡ no_refusal offset) × (new ≡ fresh_reader offset features 0) × IsReader bytes (length frames_new) new × IsFresh (state_at bytes new frames_new) ×

@@ -147,7 +147,7 @@ message_numbered number name value =
     if number == 22 then option_map (λ n. message.InvalidLeadingByte value n) (leading_numbered name) else (
     if number == 24 then option_map message.InvalidType (type_numbered name) else bare_numbered number)))))))))
 
--- The text of the error in a C struct, if its numbers are those of an error.
+-- The text of the error in a C struct, if one has its numbers.
 abbrev pub text_of_refusal : WasmRefusal → Option (List ℕ)
 text_of_refusal r = option_map message_text (message_numbered r.number r.name r.value)
 

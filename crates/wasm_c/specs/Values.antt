@@ -68,7 +68,7 @@ of_declaration d = typed_value d.0 (value_kind d.1) (value_index d.1)
 abbrev pub of_handler : WasmHandler → WasmValue
 of_handler h = typed_value h.tag h.kind h.label
 
--- A read as a C struct; or the error of these bytes, and then nothing is read.
+-- A value is read as a C struct. On an error of the bytes, nothing is read.
 abbrev pub ReadsAs : {X : Type 0} → (List ℕ → X → Type 0) → (X → WasmValue) → (Message → Reader → ℕ → Type 0) → Result WasmValue Error → Reader → Reader → Type 0
 ReadsAs {X} Encodes value Fault (Ok v) old new = (x : X) × Reads Encodes (Ok x) old new × (v ≡ value x)
 ReadsAs Encodes value Fault (Err e) old new = Reads Encodes (Err e) old new × Fault e.message old e.offset

@@ -50,7 +50,7 @@ fn fill(operators: &mut OperatorsReader<'_>, out: &mut [WasmOperator]) -> Found
 }
 
 /// Reads the operators of a new reader to the end of the data or an error. Writes as many as fit to
-/// the array, and counts the others.
+/// the array, and counts all.
 fn read_operators(
     features: WasmFeatures,
     operators: &mut OperatorsReader<'_>,
@@ -84,8 +84,8 @@ fn read_operators(
     }
 }
 
-/// Reads the operators of a body, and writes their C structs to `out`. They are those of the one
-/// body that the bytes encode; or the longest prefix of one, with the error of what follows.
+/// Reads the operators of a body, and writes as many C structs as fit to `out`. The operators are
+/// the body's if the bytes encode one, otherwise the longest prefix, with the error after it.
 pub fn read_body(
     alloc: Global,
     features: WasmFeatures,

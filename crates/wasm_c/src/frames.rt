@@ -87,7 +87,7 @@ pub fn innermost(depth: usize, frames: &[u8]) -> FrameKind
     kind_of(frames[depth - 1])
 }
 
-/// Changes the innermost of `depth` frames. Returns how many frames are then open.
+/// Applies `change` to `depth` open frames. Returns how many are then open.
 pub fn change_frames(change: FrameChange, depth: usize, frames: &mut [u8]) -> usize
     requires some { 0 < depth }
     requires within { depth ≤ length frames.old }

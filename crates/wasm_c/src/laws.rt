@@ -15,7 +15,7 @@ ghost use Rattle.wasm_c.specs.Steps.{IsReader, state_at, FindsNoRoom, TakesPlain
 
 use wasm_operators::{WasmFeatures, expression_laws, run_laws};
 
-/// States that any number of `wasm_next` and `wasm_read` is a list of reads.
+/// States that successive calls of `wasm_next` and `wasm_read` are a list of reads.
 pub fn reads_follow()
     ensures next { (bytes : List ℕ) (old new : WasmReader) (frames_old frames_new : List ℕ) (view : WasmOperator)
         → TakesPlain bytes old new frames_old frames_new view
@@ -56,7 +56,8 @@ pub fn whole_body()
     run_laws::read_to_the_end();
 }
 
-/// States that no call returns 102 if the array has as many frames as `wasm_frames_needed` returns.
+/// States that no read returns 102 if the array holds as many frames as `wasm_frames_needed`
+/// returns.
 pub fn always_room(features: WasmFeatures)
     ensures { (bytes : List ℕ) (opened now : WasmReader) (frames_opened frames_now : List ℕ) (placed : Placed)
         → IsFresh (state_at bytes opened frames_opened)

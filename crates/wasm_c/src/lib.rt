@@ -21,7 +21,7 @@ ghost use Rattle.wasm_view.specs.Names.{name_at};
 ghost use Rattle.wasm_view.specs.View.{view_of};
 ghost use Rattle.wasm_c.specs.Members.{ReturnsList};
 ghost use Rattle.wasm_c.specs.Modules.{ReturnsBodies, ReturnsBody, ReturnsName};
-ghost use Rattle.wasm_c.specs.OperatorTexts.{ReturnsTextAt};
+ghost use Rattle.wasm_c.specs.OperatorTexts.{RefusesText, RefusesTextName, ReturnsTextAt};
 ghost use Rattle.wasm_c.specs.Reads.{IsWithin, FindsPlain};
 ghost use Rattle.wasm_c.specs.Refused.{misuse, refusal_of};
 ghost use Rattle.wasm_c.specs.Steps.{ReturnsNext, ReturnsNextPlain, ReadsBatch, FinishesPlain, OpensExpression, OpensPlain};
@@ -103,8 +103,8 @@ pub fn wasm_read_body(
     }
 }
 
-/// Writes the text of an error, as much of it as fits. Returns its whole length, or 0 if the
-/// numbers are those of no error.
+/// Writes the text of an error, as much of it as fits. Returns its whole length, or 0 if no text
+/// has these numbers.
 pub fn wasm_refusal_text(refusal: &WasmRefusal, text: &mut [u8]) -> usize
     ensures reported { (e : Error) → refusal.now ≡ refusal_of e
         → ReturnsText (Some (message_text e.message)) text.old result text.new }
@@ -114,7 +114,7 @@ pub fn wasm_refusal_text(refusal: &WasmRefusal, text: &mut [u8]) -> usize
 }
 
 /// Writes the name of an operator, as much of it as fits. Returns its whole length, or 0 if no
-/// operator has this number.
+/// operator has its `opcode`.
 pub fn wasm_operator_name(operator: &WasmOperator, name: &mut [u8]) -> usize
     ensures named { (op : Operator) (at : ℕ) → operator.now ≡ view_of (op, at)
         → ReturnsText (Some (name_of op)) name.old result name.new }
@@ -344,10 +344,10 @@ pub fn wasm_resume_handlers(
     refusal.number
 }
 
-/// Writes the text of the operator at the offset `at`: its name and its operands in the text
-/// format. Sets `length` to the length of the text, also if the text does not fit.
+/// Writes the text of the operator at the offset `at`: its name in the text format, and its
+/// operands as in a disassembly. Sets `length` to the text's length, also if it does not fit.
 ///
-/// The operator is read inside a frame that allows it, if one does.
+/// The operator is read inside a frame that allows it, if any.
 pub fn wasm_operator_text(
     alloc: Global,
     bytes: &[u8],
@@ -359,7 +359,7 @@ pub fn wasm_operator_text(
     refusal: &mut WasmRefusal,
 ) -> u32
     ensures outcome { result ≡ refusal.new.number }
-    ensures text { ReturnsTextAt text_of refusal.new bytes.now offset features at length.old length.new text.old text.new }
+    ensures text { ReturnsTextAt text_of RefusesText refusal.new bytes.now offset features at length.old length.new text.old text.new }
 {
     *refusal = write_text_at(alloc, bytes, offset, features, at, text, length);
     refusal.number
@@ -378,7 +378,7 @@ pub fn wasm_operator_text_name(
     refusal: &mut WasmRefusal,
 ) -> u32
     ensures outcome { result ≡ refusal.new.number }
-    ensures name { ReturnsTextAt text_name refusal.new bytes.now offset features at length.old length.new name.old name.new }
+    ensures name { ReturnsTextAt text_name RefusesTextName refusal.new bytes.now offset features at length.old length.new name.old name.new }
 {
     *refusal = write_name_at(alloc, bytes, offset, features, at, name, length);
     refusal.number

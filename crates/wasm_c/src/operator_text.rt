@@ -3,7 +3,7 @@ ghost use Rattle.std.specs.Prelude.{◌≡◌};
 ghost use Rattle.wasm_operators.specs.below.Source.{rest};
 ghost use Rattle.wasm_text.specs.Names.{text_name};
 ghost use Rattle.wasm_text.specs.Operands.{text_of};
-ghost use Rattle.wasm_c.specs.OperatorTexts.{frame_for, out_of_memory, PlacesText, FindsText, ReturnsTextAt};
+ghost use Rattle.wasm_c.specs.OperatorTexts.{frame_for, out_of_memory, PlacesText, RefusesText, RefusesTextName, FindsText, ReturnsTextAt};
 
 use crate::lists::bytes_from;
 use crate::refusal::{NO_ROOM, WasmRefusal};
@@ -64,7 +64,7 @@ fn write_text_ahead(
     out: &mut [u8],
     length: &mut usize,
 ) -> WasmRefusal
-    ensures { FindsText text_of result ahead.now at length.old length.new out.old out.new }
+    ensures { FindsText text_of RefusesText result ahead.now at length.old length.new out.old out.new }
 {
     let stack = InFrame {
         kind: frame_for(ahead),
@@ -88,7 +88,7 @@ fn write_name_ahead(
     out: &mut [u8],
     length: &mut usize,
 ) -> WasmRefusal
-    ensures { FindsText text_name result ahead.now at length.old length.new out.old out.new }
+    ensures { FindsText text_name RefusesTextName result ahead.now at length.old length.new out.old out.new }
 {
     let stack = InFrame {
         kind: frame_for(ahead),
@@ -108,7 +108,7 @@ pub fn write_text_at(
     out: &mut [u8],
     length: &mut usize,
 ) -> WasmRefusal
-    ensures { ReturnsTextAt text_of result bytes.now offset features at length.old length.new out.old out.new }
+    ensures { ReturnsTextAt text_of RefusesText result bytes.now offset features at length.old length.new out.old out.new }
 {
     match bytes_from(bytes, offset, features, at) {
         Ok(ahead) => write_text_ahead(alloc, &ahead, at, out, length),
@@ -125,7 +125,7 @@ pub fn write_name_at(
     out: &mut [u8],
     length: &mut usize,
 ) -> WasmRefusal
-    ensures { ReturnsTextAt text_name result bytes.now offset features at length.old length.new out.old out.new }
+    ensures { ReturnsTextAt text_name RefusesTextName result bytes.now offset features at length.old length.new out.old out.new }
 {
     match bytes_from(bytes, offset, features, at) {
         Ok(ahead) => write_name_ahead(alloc, &ahead, at, out, length),

@@ -309,8 +309,8 @@ fn write_bare(number: u32, text: &mut [u8]) -> usize
     }
 }
 
-/// Writes the text of an error, as much of it as fits. Returns the whole length, or 0 if the
-/// numbers are those of no error.
+/// Writes the text of an error, as much of it as fits. Returns the whole length, or 0 if no text
+/// has these numbers.
 pub fn write_text(number: u32, name: u32, value: u32, text: &mut [u8]) -> usize
     ensures { ReturnsText (option_map message_text (message_numbered number name value)) text.old result text.new }
 {

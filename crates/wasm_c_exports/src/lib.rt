@@ -20,7 +20,7 @@ ghost use Rattle.wasm_c.specs.view.Names.{name_at};
 ghost use Rattle.wasm_c.specs.view.View.{view_of};
 ghost use Rattle.wasm_c.specs.Members.{ReturnsList};
 ghost use Rattle.wasm_c.specs.Modules.{ReturnsBodies, ReturnsBody, ReturnsName};
-ghost use Rattle.wasm_c.specs.OperatorTexts.{ReturnsTextAt};
+ghost use Rattle.wasm_c.specs.OperatorTexts.{RefusesText, RefusesTextName, ReturnsTextAt};
 ghost use Rattle.wasm_c.specs.Reads.{IsWithin, FindsPlain};
 ghost use Rattle.wasm_c.specs.Refused.{misuse, refusal_of};
 ghost use Rattle.wasm_c.specs.Steps.{ReturnsNext, ReturnsNextPlain, ReadsBatch, FinishesPlain, OpensExpression, OpensPlain};
@@ -301,7 +301,7 @@ pub extern "C" fn wasm_operator_text(
     refusal: &mut WasmRefusal,
 ) -> u32
     ensures outcome { result ≡ refusal.new.number }
-    ensures text { ReturnsTextAt text_of refusal.new bytes.now offset features at length.old length.new text.old text.new }
+    ensures text { ReturnsTextAt text_of RefusesText refusal.new bytes.now offset features at length.old length.new text.old text.new }
 {
     wasm_c::wasm_operator_text(alloc, bytes, offset, features, at, text, length, refusal)
 }
@@ -319,7 +319,7 @@ pub extern "C" fn wasm_operator_text_name(
     refusal: &mut WasmRefusal,
 ) -> u32
     ensures outcome { result ≡ refusal.new.number }
-    ensures name { ReturnsTextAt text_name refusal.new bytes.now offset features at length.old length.new name.old name.new }
+    ensures name { ReturnsTextAt text_name RefusesTextName refusal.new bytes.now offset features at length.old length.new name.old name.new }
 {
     wasm_c::wasm_operator_text_name(alloc, bytes, offset, features, at, name, length, refusal)
 }

@@ -162,15 +162,15 @@ module _ (numbers : PrefixCode (EncodesUnsigned 32)) (fixed : PrefixCode (Encode
       not_at numbers fixed ImportsFault CountsImports f whole 2
       (λ contents n fault (is, list, known, all). no_imports_fault numbers imports f contents is fault list known) p section n there counted
 
-  no_functions : (f : ModuleFault) (whole : Reader) → IsNotMemory f → SectionFaultAt f whole 3 FunctionsFault → HasFunctions whole → ⊥
-  no_functions f whole other p (section, types, there, listed) =
+  no_functions : (f : ModuleFault) (whole : Reader) (count : ℕ) → IsNotMemory f → SectionFaultAt f whole 3 FunctionsFault → HasFunctions whole count → ⊥
+  no_functions f whole count other p (section, types, there, listed, all) =
       not_at numbers fixed FunctionsFault ListsTypes f whole 3
       (λ contents types fault list. no_functions_fault numbers f contents types fault other list) p section types there listed
 
-  no_names : (f : ModuleFault) (whole : Reader) (before : List (List ℕ)) (section : Option Reader) (after : List (List ℕ)) → IsNotMemory f →
-      NamesFault f whole → IsSection whole 7 section → NamesExported section before after → ⊥
-  no_names f whole before section after other (inl memory) there named = other memory
-  no_names f whole before section after other (inr p) there named =
+  no_names : (f : ModuleFault) (whole : Reader) (count : ℕ) (before : List (List ℕ)) (section : Option Reader) (after : List (List ℕ)) → IsNotMemory f →
+      NamesFault f whole count → IsSection whole 7 section → NamesExported section before after → ⊥
+  no_names f whole count before section after other (inl (memory, some)) there named = other memory
+  no_names f whole count before section after other (inr p) there named =
       not_at numbers fixed ExportsFault (λ s names. NamesExported s before names) f whole 7
       (λ contents names fault exported. no_exports_fault numbers exports f contents before names fault exported) p section after there named
 
@@ -178,10 +178,10 @@ module _ (numbers : PrefixCode (EncodesUnsigned 32)) (fixed : PrefixCode (Encode
   no_fault f whole t other (inl p) is = no_types f whole other p (is.signatures, t.parameters, is.section_of_types, is.parameters)
   no_fault f whole t other (inr (inl (types, p))) is = no_imports f whole p (is.imports, t.imported, is.section_of_imports, is.imported)
   no_fault f whole t other (inr (inr (inl (types, imported, p)))) is =
-      no_functions f whole other p (is.functions, t.types, is.section_of_functions, is.types)
-  no_fault f whole t other (inr (inr (inr (types, imported, functions, p)))) is =
+      no_functions f whole (length t.types) other p (is.functions, t.types, is.section_of_functions, is.types, refl)
+  no_fault f whole t other (inr (inr (inr (types, imported, count, functions, p)))) is =
       let names = is.names in
-      no_names f whole (names.imported ++ replicate (length t.types) []) names.exports names.exported other p names.section_of_exports names.from_exports
+      no_names f whole count (names.imported ++ replicate (length t.types) []) names.exports names.exported other p names.section_of_exports names.from_exports
 
   pub memory_alone : (whole : Reader) (f : ModuleFault) (t : ModuleFunctions) → ModuleFunctionsFault f whole → DescribesFunctions whole t → f ≡ fault.Memory
   memory_alone whole fault.Memory t p is = refl
@@ -193,10 +193,10 @@ module _ (numbers : PrefixCode (EncodesUnsigned 32)) (fixed : PrefixCode (Encode
   module _ (u32 : DeterminesRefusal U32Fault) (preambles : DeterminesRefusal PreambleFault) (sections : DeterminesRefusal SectionFault)
       (of_imports : DeterminesRefusal ImportFault) (of_exports : DeterminesRefusal ExportFault) (of_types : DeterminesRefusal SubTypeFault)
       (of_lengths : DeterminesRefusal RecTypeLengthFault) where
-    one_names : (f g : ModuleFault) (whole : Reader) → NamesFault f whole → NamesFault g whole → IsNotMemory f → IsNotMemory g → f ≡ g
-    one_names f g whole (inl memory) q other other' = absurd (other memory)
-    one_names f g whole (inr p) (inl memory) other other' = absurd (other' memory)
-    one_names f g whole (inr p) (inr q) other other' =
+    one_names : (f g : ModuleFault) (whole : Reader) (m n : ℕ) → NamesFault f whole m → NamesFault g whole n → IsNotMemory f → IsNotMemory g → f ≡ g
+    one_names f g whole m n (inl (memory, some)) q other other' = absurd (other memory)
+    one_names f g whole m n (inr p) (inl (memory, some)) other other' = absurd (other' memory)
+    one_names f g whole m n (inr p) (inr q) other other' =
         one_at numbers fixed preambles sections ExportsFault f g whole 7 (one_exports_fault numbers exports u32 of_exports f g) p q
 
     pub one_module_fault : (whole : Reader) (f g : ModuleFault) → ModuleFunctionsFault f whole → ModuleFunctionsFault g whole → IsNotMemory f → IsNotMemory g → f ≡ g
@@ -205,22 +205,22 @@ module _ (numbers : PrefixCode (EncodesUnsigned 32)) (fixed : PrefixCode (Encode
         (λ contents a b. one_types_fault rec_type sub numbers u32 of_types of_lengths f g contents a b other other') p q
     one_module_fault whole f g (inl p) (inr (inl (types, q))) other other' = absurd (no_types f whole other p types)
     one_module_fault whole f g (inl p) (inr (inr (inl (types, imported, q)))) other other' = absurd (no_types f whole other p types)
-    one_module_fault whole f g (inl p) (inr (inr (inr (types, imported, functions, q)))) other other' = absurd (no_types f whole other p types)
+    one_module_fault whole f g (inl p) (inr (inr (inr (types, imported, count, functions, q)))) other other' = absurd (no_types f whole other p types)
     one_module_fault whole f g (inr (inl (types, p))) (inl q) other other' = absurd (no_types g whole other' q types)
     one_module_fault whole f g (inr (inl (types, p))) (inr (inl (types', q))) other other' =
         one_at numbers fixed preambles sections ImportsFault f g whole 2 (one_imports_fault numbers imports u32 of_imports f g) p q
     one_module_fault whole f g (inr (inl (types, p))) (inr (inr (inl (types', imported, q)))) other other' = absurd (no_imports f whole p imported)
-    one_module_fault whole f g (inr (inl (types, p))) (inr (inr (inr (types', imported, functions, q)))) other other' = absurd (no_imports f whole p imported)
+    one_module_fault whole f g (inr (inl (types, p))) (inr (inr (inr (types', imported, count, functions, q)))) other other' = absurd (no_imports f whole p imported)
     one_module_fault whole f g (inr (inr (inl (types, imported, p)))) (inl q) other other' = absurd (no_types g whole other' q types)
     one_module_fault whole f g (inr (inr (inl (types, imported, p)))) (inr (inl (types', q))) other other' = absurd (no_imports g whole q imported)
     one_module_fault whole f g (inr (inr (inl (types, imported, p)))) (inr (inr (inl (types', imported', q)))) other other' =
         one_at numbers fixed preambles sections FunctionsFault f g whole 3
         (λ contents a b. one_functions_fault numbers u32 f g contents a b other other') p q
-    one_module_fault whole f g (inr (inr (inl (types, imported, p)))) (inr (inr (inr (types', imported', functions, q)))) other other' =
-        absurd (no_functions f whole other p functions)
-    one_module_fault whole f g (inr (inr (inr (types, imported, functions, p)))) (inl q) other other' = absurd (no_types g whole other' q types)
-    one_module_fault whole f g (inr (inr (inr (types, imported, functions, p)))) (inr (inl (types', q))) other other' = absurd (no_imports g whole q imported)
-    one_module_fault whole f g (inr (inr (inr (types, imported, functions, p)))) (inr (inr (inl (types', imported', q)))) other other' =
-        absurd (no_functions g whole other' q functions)
-    one_module_fault whole f g (inr (inr (inr (types, imported, functions, p)))) (inr (inr (inr (types', imported', functions', q)))) other other' =
-        one_names f g whole p q other other'
+    one_module_fault whole f g (inr (inr (inl (types, imported, p)))) (inr (inr (inr (types', imported', count, functions, q)))) other other' =
+        absurd (no_functions f whole count other p functions)
+    one_module_fault whole f g (inr (inr (inr (types, imported, count, functions, p)))) (inl q) other other' = absurd (no_types g whole other' q types)
+    one_module_fault whole f g (inr (inr (inr (types, imported, count, functions, p)))) (inr (inl (types', q))) other other' = absurd (no_imports g whole q imported)
+    one_module_fault whole f g (inr (inr (inr (types, imported, count, functions, p)))) (inr (inr (inl (types', imported', q)))) other other' =
+        absurd (no_functions g whole count other' q functions)
+    one_module_fault whole f g (inr (inr (inr (types, imported, count, functions, p)))) (inr (inr (inr (types', imported', count', functions', q)))) other other' =
+        one_names f g whole count count' p q other other'

@@ -64,7 +64,7 @@ pub record DescribesFunctions (whole : Reader) (t : ModuleFunctions) : Type 0 wh
   pub parameters : CountsParameters signatures t.parameters
   pub names : NamesFunctions whole (length t.types) t.names
 
--- The index of a defined function: the imported functions come first.
+-- A defined function's index: imported functions come first. At most 4294967295.
 abbrev pub index_of : ModuleFunctions → ℕ → ℕ
 index_of t ordinal = min (t.imported + ordinal) (2 ^ 32 - 1)
 

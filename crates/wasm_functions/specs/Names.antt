@@ -48,7 +48,7 @@ pub record StopsList {X : Type 0} (Encodes : List ℕ → X → Type 0) (content
   pub error : Error
   pub refused : IsRefusal Encodes error end
 
--- The items of a list before the first error. There are none if their number is in error.
+-- The items of a list before any error. There are none if their number is in error.
 abbrev pub ReadsItems : {X : Type 0} → (List ℕ → X → Type 0) → Reader → List X → Type 0
 ReadsItems Encodes contents items =
     IsList Encodes contents items ⊎ (StopsList Encodes contents items ⊎ ((error : Error) × IsRefusal (EncodesUnsigned 32) error contents × (items ≡ [])))

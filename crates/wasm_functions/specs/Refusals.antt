@@ -76,9 +76,15 @@ ImportsFault (fault.ImportKind byte offset) contents =
     (import : ImportParts) × (after : Reader) × Reads EncodesImport (Ok import) next after × (import.kind ≡ byte) × (4 < byte)
 ImportsFault _ contents = ⊥
 
+-- After items, all known, comes an item with this property.
+abbrev pub HasItemWith : {X : Type 0} → (List ℕ → X → Type 0) → (X → Type 0) → (X → Type 0) → Reader → Type 0
+HasItemWith {X} Encodes IsKnown P contents =
+    (next : Reader) × HasItemsTo Encodes IsKnown contents next × (x : X) × (after : Reader) × Reads Encodes (Ok x) next after × P x
+
+-- The next type index is in error; or allocation for one failed.
 abbrev pub FunctionsFault : ModuleFault → Reader → Type 0
 FunctionsFault (fault.Refused e) contents = ListFault (EncodesUnsigned 32) U32Fault IsAny e contents
-FunctionsFault fault.Memory contents = Unit {0}
+FunctionsFault fault.Memory contents = HasItemWith (EncodesUnsigned 32) IsAny IsAny contents
 FunctionsFault _ contents = ⊥
 
 abbrev pub ExportsFault : ModuleFault → Reader → Type 0
@@ -92,12 +98,12 @@ pub record HasSubTypesTo (n : ℕ) (r next : Reader) : Type 0 where
   pub known : AreKnownTypes types
 
 -- The next of `n` sub types is in error, or of no known sort (its byte and offset); or allocation
--- failed.
+-- for it failed.
 abbrev pub SubTypesFault : ModuleFault → ℕ → Reader → Type 0
 SubTypesFault (fault.Refused e) n r = (next : Reader) × HasSubTypesTo n r next × IsRefusedAs EncodesSubType SubTypeFault e next
 SubTypesFault (fault.TypeKind byte offset) n r =
     (next : Reader) × HasSubTypesTo n r next × (offset ≡ offset_of next) × (after : Reader) × Reads EncodesSubType (Ok (composite.Other byte)) next after
-SubTypesFault fault.Memory n r = Unit {0}
+SubTypesFault fault.Memory n r = (next : Reader) × HasSubTypesTo n r next × (ty : CompositeType) × (after : Reader) × Reads EncodesSubType (Ok ty) next after
 SubTypesFault _ n r = ⊥
 
 abbrev pub AnnouncedFault : ModuleFault → Reader → Type 0
@@ -130,28 +136,36 @@ abbrev pub OfSection : Reader → ℕ → (Reader → Type 0) → Type 0
 OfSection whole id P = (contents : Reader) × IsSection whole id (Some contents) × P contents
 
 -- The first type section, if there is one, can be read. `HasImports` and `HasFunctions`: the first
--- import section, the first function section.
+-- import section; the first function section, with this many functions.
 abbrev pub HasTypes : Reader → Type 0
 HasTypes whole = (section : Option Reader) × (counts : List ℕ) × IsSection whole 1 section × CountsParameters section counts
 
 abbrev pub HasImports : Reader → Type 0
 HasImports whole = (section : Option Reader) × (n : ℕ) × IsSection whole 2 section × CountsImports section n
 
-abbrev pub HasFunctions : Reader → Type 0
-HasFunctions whole = (section : Option Reader) × (types : List ℕ) × IsSection whole 3 section × ListsTypes section types
+abbrev pub HasFunctions : Reader → ℕ → Type 0
+HasFunctions whole count = (section : Option Reader) × (types : List ℕ) × IsSection whole 3 section × ListsTypes section types × (count ≡ length types)
 
 -- The bytes are no module, or the contents of the section are in error.
 abbrev pub SectionFaultAt : ModuleFault → Reader → ℕ → (ModuleFault → Reader → Type 0) → Type 0
 SectionFaultAt fault whole id Fault = SectionsFault fault whole ⊎ OfSection whole id (Fault fault)
 
-abbrev pub NamesFault : ModuleFault → Reader → Type 0
-NamesFault f whole = (f ≡ fault.Memory) ⊎ SectionFaultAt f whole 7 ExportsFault
+abbrev pub ImportsFunction : Reader → Type 0
+ImportsFunction contents = HasItemWith EncodesImport IsAny (λ import. import.kind ≡ 0) contents
+
+-- A function is imported, or one of `count` is defined.
+abbrev pub HasFunction : Reader → ℕ → Type 0
+HasFunction whole count = OfSection whole 2 ImportsFunction ⊎ (0 < count)
+
+-- The exports are in error; or allocation for the name of a function failed.
+abbrev pub NamesFault : ModuleFault → Reader → ℕ → Type 0
+NamesFault f whole count = ((f ≡ fault.Memory) × HasFunction whole count) ⊎ SectionFaultAt f whole 7 ExportsFault
 
 -- The bytes are no module, or the first of these sections in error has the fault: types, imports,
--- functions, exports; or allocation failed.
+-- functions, exports; or allocation for an item failed.
 abbrev pub ModuleFunctionsFault : ModuleFault → Reader → Type 0
 ModuleFunctionsFault fault whole =
     SectionFaultAt fault whole 1 TypesFault ⊎
     ((HasTypes whole × SectionFaultAt fault whole 2 ImportsFault) ⊎
     ((HasTypes whole × HasImports whole × SectionFaultAt fault whole 3 FunctionsFault) ⊎
-    (HasTypes whole × HasImports whole × HasFunctions whole × NamesFault fault whole)))
+    (HasTypes whole × HasImports whole × (count : ℕ) × HasFunctions whole count × NamesFault fault whole count)))

@@ -1,10 +1,10 @@
-ghost use Rattle.std.specs.Prelude.{◌≡◌, ◌⊎◌, ◌++◌, ℕ, [], List, Option, Some, replicate, IfOk, IfErr, OnOk};
+ghost use Rattle.std.specs.Prelude.{◌≡◌, ◌⊎◌, ◌++◌, ◌<◌, ℕ, [], List, Option, Some, replicate, IfOk, IfErr, OnOk};
 ghost use Rattle.wasm_module.specs.below.Source.{Reader, reader_of};
 ghost use Rattle.wasm_module.specs.Module.{SectionParts};
 ghost use Rattle.wasm_functions.specs.Items.{IsList};
 ghost use Rattle.wasm_functions.specs.Names.{bytes_of, NamesImported, NamesExported, NamesGiven, HasNames};
 ghost use Rattle.wasm_functions.specs.Parameters.{CountsParameters};
-ghost use Rattle.wasm_functions.specs.Refusals.{SectionsFault, SectionFaultAt, TypesFault, ImportsFault, FunctionsFault, ExportsFault, NamesFault};
+ghost use Rattle.wasm_functions.specs.Refusals.{SectionsFault, OfSection, SectionFaultAt, TypesFault, ImportsFault, ImportsFunction, FunctionsFault, ExportsFault, NamesFault};
 ghost use Rattle.wasm_functions.specs.Sections.{IsModule, IsSection};
 ghost use Rattle.wasm_functions.specs.ModuleFunctions.{CountsImports, ListsTypes, NamesFunctions};
 
@@ -65,7 +65,7 @@ pub fn find_imported(features: WasmFeatures, bytes: &[u8]) -> Result<u32, Module
     }
 }
 
-/// Returns the types of the functions. Fails as `find_section` and `function_types` do.
+/// Returns the defined functions' type indices. Fails as `find_section` and `function_types` do.
 pub fn find_types(
     alloc: Global,
     features: WasmFeatures,
@@ -97,7 +97,8 @@ fn find_import_names<'a>(
         × NamesImported section (bytes_of names.items)) }
     ensures refused { IfErr result (λ fault. (sections : List SectionParts) → IsModule (reader_of features 0 bytes.now) sections
         → fault ≡ ModuleFault.Memory) }
-    ensures fault { IfErr result (λ fault. (fault ≡ ModuleFault.Memory) ⊎ SectionsFault fault (reader_of features 0 bytes.now)) }
+    ensures fault { IfErr result (λ fault. ((fault ≡ ModuleFault.Memory) × OfSection (reader_of features 0 bytes.now) 2 ImportsFunction)
+        ⊎ SectionsFault fault (reader_of features 0 bytes.now)) }
 {
     match find_section(features, bytes, IMPORTS) {
         Ok(Some(contents)) => import_names(alloc, contents),
@@ -111,6 +112,7 @@ fn find_import_names<'a>(
 fn push_unnamed<'a>(names: &mut Vec<FunctionName<'a>>, count: usize) -> Result<(), ModuleFault>
     ensures ok { OnOk result (bytes_of names.new.items ≡ bytes_of names.old.items ++ replicate count []) }
     ensures memory { IfErr result (λ fault. fault ≡ ModuleFault.Memory) }
+    ensures some { IfErr result (λ fault. 0 < count) }
 {
     for _function in 0..count {
         if names.push(FunctionName::Given(&[])).is_err() {
@@ -175,7 +177,7 @@ pub fn find_function_names<'a>(
     ensures ok { IfOk result (λ names. NamesFunctions (reader_of features 0 bytes.now) count (bytes_of names.items)) }
     ensures refused { IfErr result (λ fault. (names : List (List ℕ)) → NamesFunctions (reader_of features 0 bytes.now) count names
         → fault ≡ ModuleFault.Memory) }
-    ensures fault { IfErr result (λ fault. NamesFault fault (reader_of features 0 bytes.now)) }
+    ensures fault { IfErr result (λ fault. NamesFault fault (reader_of features 0 bytes.now) count) }
 {
     let mut names = match find_import_names(alloc, features, bytes) {
         Ok(names) => names,

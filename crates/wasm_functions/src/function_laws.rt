@@ -9,7 +9,7 @@ ghost use Rattle.wasm_functions.specs.ModuleFunctions.{ModuleFunctions, Describe
 use wasm_module::below::byte_laws::{fixed_numbers, number_refusals, unsigned_numbers};
 use wasm_module::module_laws;
 
-/// States that bytes are at most one module.
+/// States that bytes determine each number's first section.
 pub fn sections()
     ensures { (whole : Reader) → (id : ℕ) → (a b : Option Reader) → IsSection whole id a → IsSection whole id b → a ≡ b }
 {
@@ -27,8 +27,8 @@ pub fn refusals()
     module_laws::refusals();
 }
 
-/// States that a module has one number of imported functions, and one list of the type indices of
-/// the functions that it defines.
+/// States that bytes determine the number of imported functions, and the type indices of the
+/// functions that the module defines.
 pub fn own_functions()
     ensures { (whole : Reader) → (t u : ModuleFunctions) → DescribesFunctions whole t → DescribesFunctions whole u → (t.imported ≡ u.imported) × (t.types ≡ u.types) }
 {
@@ -37,7 +37,7 @@ pub fn own_functions()
     module_laws::imports();
 }
 
-/// States that bytes have at most one fault besides `Memory`, and a module with known functions has
+/// States that besides `Memory`, bytes have at most one fault, and a module with known functions
 /// none.
 pub fn faults()
     ensures one { (whole : Reader) → (a b : ModuleFault) → ModuleFunctionsFault a whole → ModuleFunctionsFault b whole

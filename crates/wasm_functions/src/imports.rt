@@ -1,6 +1,6 @@
 ghost use Rattle.std.specs.Prelude.{◌≡◌, ◌++◌, ℕ, Some, IfOk, IfErr, OnOk};
 ghost use Rattle.wasm_functions.specs.Names.{bytes_of, function_name, NamesImported};
-ghost use Rattle.wasm_functions.specs.Refusals.{ImportsFault};
+ghost use Rattle.wasm_functions.specs.Refusals.{ImportsFault, ImportsFunction};
 ghost use Rattle.wasm_functions.specs.ModuleFunctions.{CountsImports};
 
 use crate::fault::ModuleFault;
@@ -55,6 +55,7 @@ fn push_import<'a>(
 ) -> Result<(), ModuleFault>
     ensures ok { OnOk result (bytes_of names.new.items ≡ bytes_of names.old.items ++ function_name import.now) }
     ensures memory { IfErr result (λ fault. fault ≡ ModuleFault.Memory) }
+    ensures function { IfErr result (λ fault. import.now.kind ≡ 0) }
 {
     if import.kind() != FUNCTION {
         return Ok(());
@@ -72,7 +73,7 @@ pub fn import_names<'a>(
     contents: BinaryReader<'a>,
 ) -> Result<Vec<FunctionName<'a>>, ModuleFault>
     ensures ok { IfOk result (λ names. NamesImported (Some contents.entry) (bytes_of names.items)) }
-    ensures memory { IfErr result (λ fault. fault ≡ ModuleFault.Memory) }
+    ensures memory { IfErr result (λ fault. (fault ≡ ModuleFault.Memory) × ImportsFunction contents.entry) }
 {
     let mut reader = contents;
     let mut names: Vec<FunctionName<'a>> = Vec::new(alloc);

@@ -82,7 +82,7 @@ fn name_associations<'a>(contents: BinaryReader<'a>, names: &mut Vec<FunctionNam
     }
 }
 
-/// Sets the names in the custom section `name`, up to an error.
+/// Sets functions' names from the custom section `name`, up to an error.
 pub fn name_functions<'a>(contents: BinaryReader<'a>, names: &mut Vec<FunctionName<'a>>)
     ensures { (given : List NameParts) × GivesNames contents.entry given
         × (bytes_of names.new.items ≡ with_names (bytes_of names.old.items) given) }

@@ -27,5 +27,5 @@ returns-in-Ok-copy_at-clause-names c = (
 
 pub returns-clause-fault : goal.returns-clause-fault
 returns-clause-fault c =
-    memory_fault (reader_of _ 0 c.args.bytes.now) c.in-Ok.functions
-    (subst (λ f. DescribesFunctions (reader_of f 0 c.args.bytes.now) c.in-Ok.functions) c.all.ensures c.in-Ok.ensures.ok)
+    memory_fault (reader_of _ 0 c.args.bytes.now) c.in-Ok.functions c.args.index
+    (subst (λ f. DescribesFunctions (reader_of f 0 c.args.bytes.now) c.in-Ok.functions) c.all.ensures c.in-Ok.ensures.ok) (c.has.ensures.0 c.if-not-has.false)

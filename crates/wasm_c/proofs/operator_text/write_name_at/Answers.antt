@@ -1,5 +1,6 @@
 use Rattle.std.proofs.Common.{Ok, Err}
 use Rattle.wasm_text.specs.Names.{text_name}
+use Rattle.wasm_c.specs.OperatorTexts.{RefusesTextName}
 use Rattle.wasm_c.proofs.Members.{FindsBytes, text_found, text_nowhere}
 use Rattle.wasm_c.proofs.operator_text.write_name_at.Goals as goal
 
@@ -8,7 +9,7 @@ returns-in-Ok c =
     let s = c.in-Ok.ensures in
     let found : FindsBytes (Ok c.in-Ok.ahead) c.args.bytes.now c.args.offset c.args.features c.args.at =
     record { unknown = s.unknown; past = s.past; before = s.before; after = s.after; there = s.there } in
-    text_found text_name c.write_name_ahead.result c.in-Ok.ahead c.args.bytes.now c.args.offset c.args.features c.args.at c.args.length.now c.write_name_ahead.new.length
+    text_found text_name RefusesTextName c.write_name_ahead.result c.in-Ok.ahead c.args.bytes.now c.args.offset c.args.features c.args.at c.args.length.now c.write_name_ahead.new.length
     c.args.out.now c.write_name_ahead.new.out found c.write_name_ahead.ensures
 
 pub returns-in-Err : goal.returns-in-Err
@@ -16,4 +17,4 @@ returns-in-Err c =
     let s = c.in-Err.ensures in
     let found : FindsBytes (Err c.in-Err.refused) c.args.bytes.now c.args.offset c.args.features c.args.at =
     record { unknown = s.unknown; past = s.past; before = s.before; after = s.after; there = s.there } in
-    text_nowhere text_name c.in-Err.refused c.args.bytes.now c.args.offset c.args.features c.args.at c.args.length.now c.args.out.now found
+    text_nowhere text_name RefusesTextName c.in-Err.refused c.args.bytes.now c.args.offset c.args.features c.args.at c.args.length.now c.args.out.now found

@@ -1,18 +1,18 @@
-use Rattle.std.proofs.Common.{◌≡◌, List, inl, inr}
+use Rattle.std.proofs.Common.{◌≡◌, List, Some, inl, inr, rules}
 use Rattle.std.specs.Prelude.{◌⊎◌}
 use Rattle.std.proofs.lemmas.Result.{IfErr-weaker}
 use Rattle.wasm_module.specs.below.Source.{reader_of}
 use Rattle.wasm_module.specs.Module.{SectionParts}
-use Rattle.wasm_functions.specs.Refusals.{SectionsFault}
-use Rattle.wasm_functions.specs.Sections.{IsModule}
+use Rattle.wasm_functions.specs.Refusals.{SectionsFault, OfSection, ImportsFunction}
+use Rattle.wasm_functions.specs.Sections.{IsModule, IsSection}
 use Rattle.wasm_functions.specs.declared.fault.ModuleFault.TheVariants as fault
 use Rattle.wasm_functions.proofs.found.find_import_names.Goals as goal
 
 pub returns-in-Ok-Some-clause-refused : goal.returns-in-Ok-Some-clause-refused
 returns-in-Ok-Some-clause-refused c =
     let whole = reader_of c.args.features 0 c.args.bytes.now in
-    IfErr-weaker c.import_names.result (λ f. f ≡ fault.Memory) (λ f. (sections : List SectionParts) → IsModule whole sections → f ≡ fault.Memory)
-    (λ f is sections is_module. is) c.import_names.ensures.memory
+    IfErr-weaker c.import_names.result (λ f. (f ≡ fault.Memory) × ImportsFunction c.in-Ok-Some.contents)
+    (λ f. (sections : List SectionParts) → IsModule whole sections → f ≡ fault.Memory) (λ f is sections is_module. is.0) c.import_names.ensures.memory
 
 pub returns-in-Err-clause-refused : goal.returns-in-Err-clause-refused
 returns-in-Err-clause-refused c sections is_module = absurd (c.in-Err.ensures.refused sections is_module)
@@ -20,8 +20,10 @@ returns-in-Err-clause-refused c sections is_module = absurd (c.in-Err.ensures.re
 pub returns-in-Ok-Some-clause-fault : goal.returns-in-Ok-Some-clause-fault
 returns-in-Ok-Some-clause-fault c =
     let whole = reader_of c.args.features 0 c.args.bytes.now in
-    IfErr-weaker c.import_names.result (λ f. f ≡ fault.Memory) (λ f. (f ≡ fault.Memory) ⊎ SectionsFault f whole)
-    (λ f is. inl is) c.import_names.ensures.memory
+    let contents = c.in-Ok-Some.contents in
+    let here : IsSection whole 2 (Some contents) = search rules in
+    IfErr-weaker c.import_names.result (λ f. (f ≡ fault.Memory) × ImportsFunction contents)
+    (λ f. ((f ≡ fault.Memory) × OfSection whole 2 ImportsFunction) ⊎ SectionsFault f whole) (λ f is. inl (is.0, (contents, here, is.1))) c.import_names.ensures.memory
 
 pub returns-in-Err-clause-fault : goal.returns-in-Err-clause-fault
 returns-in-Err-clause-fault c = inr c.in-Err.ensures.fault

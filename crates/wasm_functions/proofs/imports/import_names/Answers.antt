@@ -1,9 +1,11 @@
-use Rattle.std.proofs.Common.{◌≡◌, ◌+◌, [], ◌∷◌, ◌++◌, length, refl, sym, ap, ◌∙◌, inl, inr, arith, rules}
+use Rattle.std.proofs.Common.{◌≡◌, ◌+◌, ◌<◌, [], ◌∷◌, ◌++◌, length, refl, sym, ap, ◌∙◌, inl, inr, arith, rules}
 use Rattle.std.proofs.lemmas.List.{length_push}
 use Rattle.wasm_module.specs.Imports.{EncodesImport}
 use Rattle.wasm_functions.specs.Names.{function_name}
+use Rattle.wasm_functions.specs.Refusals.{IsAny}
 use Rattle.wasm_functions.proofs.Listed.{item_more, all_occur}
 use Rattle.wasm_functions.proofs.Named.{imports_more}
+use Rattle.wasm_functions.proofs.Refused.{any_items, items_to}
 use Rattle.wasm_functions.proofs.imports.import_names.Goals as goal
 
 pub returns-in-Err-clause-ok : goal.returns-in-Err-clause-ok
@@ -29,4 +31,14 @@ returns-clause-ok c =
       h.0,
       inl (all_occur EncodesImport c.args.contents c.read_var_u32.new.self c.loop-import.reader h.0 c.in-Ok.count c.in-Ok.ensures.reads h.1 all),
       h.3,
+    )
+
+pub returns-in-Err-push_import-clause-memory : goal.returns-in-Err-push_import-clause-memory
+returns-in-Err-push_import-clause-memory c =
+    let h = c.loop-import.invariant in
+    let fewer : length h.0 < c.in-Ok.count = let so = h.2 in let test = c.loop-import-test.true in omega (arith, so, test) in
+    let items = items_to EncodesImport IsAny c.args.contents c.read_var_u32.new.self c.loop-import.reader c.in-Ok.count h.0 c.in-Ok.ensures.reads h.1 fewer
+    (any_items h.0) in (
+      c.in-Err-push_import.ensures.memory,
+      (c.loop-import.reader, items, c.in-Ok-read.import, c.read.new.reader, c.in-Ok-read.ensures.reads, c.in-Err-push_import.ensures.function),
     )

@@ -48,3 +48,11 @@ returns-in-Err-read_var_u32-clause-fault c =
     let read = c.in-Err-read_var_u32.ensures in
     of_refusal (λ f. FunctionsFault f c.args.contents) c.in-Err-read_var_u32.e c.from-in-Err-read_var_u32.result c.from-in-Err-read_var_u32.ensures read.reads.1.fault
     (inr (c.loop-function.reader, occur, (read.reads.1, read.fault)))
+
+pub returns-then-is_err-clause-fault : goal.returns-then-is_err-clause-fault
+returns-then-is_err-clause-fault c =
+    let h = c.loop-function.invariant in
+    let fewer : length c.loop-function.types.items < c.in-Ok.count = let so = h.1 in let test = c.loop-function-test.true in omega (arith, so, test) in
+    let occur = items_to (EncodesUnsigned 32) IsAny c.args.contents c.read_var_u32.new.self c.loop-function.reader c.in-Ok.count c.loop-function.types.items
+    c.in-Ok.ensures.reads h.0 fewer (any_items c.loop-function.types.items) in
+    (c.loop-function.reader, occur, c.in-Ok-read_var_u32.ty, c.read_var_u32-in-loop-function.new.self, c.in-Ok-read_var_u32.ensures.reads, tt)

@@ -58,3 +58,10 @@ returns-in-Other-clause-fault c =
     let occur = sub_types_to c.args.len c.args.reader.now c.loop-ty.reader h.0 h.1 fewer h.3 in
     let reads = subst (λ (ty : CompositeType). Reads EncodesSubType (Ok ty) c.loop-ty.reader c.read.new.reader) c.in-Other.is c.in-Ok.ensures.reads in
     (c.loop-ty.reader, occur, c.original_position-offset.ensures, c.read.new.reader, reads)
+
+pub returns-then-is_err-clause-fault : goal.returns-then-is_err-clause-fault
+returns-then-is_err-clause-fault c =
+    let h = c.loop-ty.invariant in
+    let fewer : length h.0 < c.args.len = let so = h.2 in let test = c.loop-ty-test.true in omega (arith, so, test) in
+    let occur = sub_types_to c.args.len c.args.reader.now c.loop-ty.reader h.0 h.1 fewer h.3 in
+    (c.loop-ty.reader, occur, c.in-Ok.ty, c.read.new.reader, c.in-Ok.ensures.reads)

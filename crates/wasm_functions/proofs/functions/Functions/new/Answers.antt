@@ -33,9 +33,11 @@ returns-in-Err-find_function_names-clause-fault c =
     let types = c.in-Ok.ensures.ok in
     let imports = c.in-Ok-find_imported.ensures.ok in
     let functions = c.in-Ok-find_types.ensures.ok in
+    let all : c.len.result ≡ length c.in-Ok-find_types.types.items = search rules in
     inr (inr (inr (
       (types.0, c.in-Ok.parameters.items, types.1, types.2),
       (imports.0, c.in-Ok-find_imported.imported, imports.1, imports.2),
-      (functions.0, c.in-Ok-find_types.types.items, functions.1, functions.2),
+      c.len.result,
+      (functions.0, c.in-Ok-find_types.types.items, functions.1, functions.2, all),
       c.in-Err-find_function_names.ensures.fault,
     )))
