@@ -29,7 +29,7 @@ CITED = [
     (*BENCH, "of_below.Blocks", "refused_now", REFUSED),
     (*BENCH, "of_below.PrefixCode", "byte_prefix_code signed_prefix_code signed_some", CODES),
     (*BENCH, "of_below.Steps", "number_prefix_code unsigned_some", CODES),
-    (*BENCH, "of_below.TakesLemmas", "takes_none takes_then same_rest", "two calls in sequence"),
+    (*BENCH, "of_below.TakesLemmas", "takes_then same_rest", "two calls in sequence"),
     (*BENCH, "of_imm.BlockTypes", "block_prefix_code block_empty", CODES),
     (*BENCH, "of_imm.BranchTables", "table_prefix_code", CODES),
     (*BENCH, "of_imm.FlagsNumber", "memarg_prefix_code", CODES),

@@ -15,6 +15,8 @@ from pathlib import Path
 sys.path.insert(0, str(Path(__file__).resolve().parent / "generate"))
 
 from arities import fixed_arity_source, fixed_arity_specs
+from arm_files import arm_files
+from arms import unread
 from cargo import cargo_files
 from counts import wrong_counts
 from decode import decode_files
@@ -24,7 +26,6 @@ from header import header_files
 from layout import laid_out
 from original import differences
 from own_visits import own_visit_files
-from parts import unread
 from paths import by_listed
 from plain import plain_files, unshaped
 from printed import made_source, values_source
@@ -58,6 +59,7 @@ def files(ops):
     out |= equality_files(ops, ENUMS)
     out |= proposal_files()
     out |= decode_files(ops)
+    out |= arm_files(ops)
     out |= visit_files(ops)
     out["crates/wasm_tests_lists/src/values.rt"] = values_source(ops)
     out["crates/wasm_tests_lists/src/made.rt"] = made_source(ops)

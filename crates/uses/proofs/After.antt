@@ -5,8 +5,14 @@ use Rattle.wasm_operators.specs.Expression.{Placed, operators, LaidOut, AreWalk,
 use Rattle.wasm_operators.specs.Reading.{State}
 use Rattle.wasm_operators.specs.MainTheorem.{ReadSoFar}
 use Rattle.wasm_operators.specs.Laws.{LaysOutBoth}
-use Rattle.uses.specs.Again.{HasFound}
 use Rattle.uses.proofs.Parts.{operators_join}
+
+-- From the reader `opened` to the state `now`, the bytes encode the operators `found`.
+pub record HasFound (opened : Reader) (now : State) (found : Placed) : Type 0 where
+  pub text : List ℕ
+  pub takes : Takes opened now.reader text
+  pub laid : LaidOut opened.features (offset_of opened) found text
+  pub read_so_far : ReadSoFar (operators found) now
 
 laid_after : (r old : Reader) (text : List ℕ) (placed : Placed) (more : List ℕ) → Takes r old text → LaidOut old.features (offset_of old) placed more →
     LaidOut r.features (offset_of r + length text) placed more

@@ -1,4 +1,3 @@
-pub mod Again
 pub mod Calls
 pub mod Constants
 pub mod Frames

@@ -27,7 +27,8 @@ pub use constants::constant_size;
 pub use frames::{Inside, is_over};
 pub use iterating::iterated;
 pub use numbers::{
-    peek_block_type, peek_f64, peek_index, peek_memory_argument, read_limits, value_size,
+    peek_block_type, peek_cast, peek_count, peek_f64, peek_i32, peek_index, peek_memory_argument,
+    peek_ordering, read_limits, value_size,
 };
 pub use operators::{copy_without_list, opcode};
 pub use places::{bytes_before_refusal, range_of, read_ranged, refusal_distance};

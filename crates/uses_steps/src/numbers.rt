@@ -1,18 +1,24 @@
-ghost use Rattle.std.specs.Prelude.{◌≡◌, ◌≢◌, ◌++◌, ℕ, List, length, Ok, IfOk, IfErr};
+ghost use Rattle.std.specs.Prelude.{◌≡◌, ◌≢◌, ◌++◌, ℕ, ℤ, List, length, Ok, IfOk, IfErr};
 ghost use Rattle.std.specs.Int.{w64};
 ghost use Rattle.wasm_operators.specs.below.bytes.message.Message.{Message};
-ghost use Rattle.wasm_operators.specs.below.Number.{EncodesUnsigned, EncodesFixed};
+ghost use Rattle.wasm_operators.specs.below.Number.{EncodesUnsigned, EncodesSigned, EncodesSize, EncodesFixed};
 ghost use Rattle.wasm_operators.specs.below.Source.{rest, Takes, U32Fault};
 ghost use Rattle.wasm_operators.specs.imm.control.block_type.BlockType.{BlockType};
 ghost use Rattle.wasm_operators.specs.imm.BlockTypes.{EncodesBlockType};
 ghost use Rattle.wasm_operators.specs.imm.BlockTypeFaults.{BlockTypeFault};
+ghost use Rattle.wasm_operators.specs.imm.control.cast.Cast.{Cast};
+ghost use Rattle.wasm_operators.specs.imm.Casts.{EncodesCast};
+ghost use Rattle.wasm_operators.specs.imm.CastFaults.{CastFault};
 ghost use Rattle.wasm_operators.specs.imm.declared.memory_argument.MemArg.{MemArg};
 ghost use Rattle.wasm_operators.specs.imm.MemoryArgument.{EncodesMemArg};
+ghost use Rattle.wasm_operators.specs.imm.MemoryArgumentFaults.{MemArgFault};
+ghost use Rattle.wasm_operators.specs.imm.declared.ordering.Ordering.{Ordering};
+ghost use Rattle.wasm_operators.specs.imm.Orderings.{EncodesOrderingByte, OrderingByteFault};
 
 use std::alloc::Global;
 use wasm_operators::{
-    BinaryReader, BlockType, FromReader, Ieee64, MemArg, MemArgKind, Message, ReadImmediates,
-    Result, byte_laws, control_laws, memory_laws,
+    BinaryReader, BlockType, Cast, FromReader, Ieee64, MemArg, MemArgKind, Message, Ordering,
+    ReadImmediates, Result, SizeName, byte_laws, control_laws, memory_laws,
 };
 
 /// Returns the u32 at the reader's position, without consuming it.
@@ -29,6 +35,22 @@ pub fn peek_index(reader: &BinaryReader<'_>) -> Result<u32>
     byte_laws::unsigned_numbers();
     byte_laws::number_refusals();
     reader.clone().read_var_u32()
+}
+
+/// Returns the constant of an `i32.const` at the reader's position (law `signed_numbers`).
+pub fn peek_i32(reader: &BinaryReader<'_>) -> Result<i32>
+    ensures { (n : ℤ) (text more : List ℕ) → rest reader.now ≡ text ++ more → EncodesSigned 32 text n → result ≡ Ok n }
+{
+    byte_laws::signed_numbers();
+    reader.clone().read_var_i32()
+}
+
+/// Returns the count of a list at the reader's position (law `counts`).
+pub fn peek_count(reader: &BinaryReader<'_>, limit: usize, list: SizeName) -> Result<usize>
+    ensures { (n : ℕ) (text more : List ℕ) → rest reader.now ≡ text ++ more → EncodesSize limit text n → result ≡ Ok n }
+{
+    byte_laws::counts();
+    reader.clone().read_size(limit, list)
 }
 
 /// Reads two u32, such as the limits of a memory. On `Err` the reader is unchanged.
@@ -72,14 +94,42 @@ pub fn peek_block_type(reader: &BinaryReader<'_>) -> Result<BlockType>
     BlockType::read(&mut reader.clone())
 }
 
-/// Returns the memory argument of a plain access at the reader's position (law `memory_arguments`).
+/// Returns the cast at the reader's position (laws `casts` and `control_refusals`).
+pub fn peek_cast(reader: &BinaryReader<'_>) -> Result<Cast>
+    ensures reads { (value : Cast) (text more : List ℕ) → rest reader.now ≡ text ++ more → EncodesCast text value
+        → result ≡ Ok value }
+    ensures refused { (m : Message) (offset : ℕ) → CastFault m reader.now offset
+        → IfErr result (λ e. (e.message ≡ m) × (e.offset ≡ offset)) }
+{
+    control_laws::casts();
+    control_laws::control_refusals();
+    Cast::read(&mut reader.clone())
+}
+
+/// Returns the ordering at the reader's position (laws `orderings` and `short_refusals`).
+pub fn peek_ordering(reader: &BinaryReader<'_>) -> Result<Ordering>
+    ensures reads { (value : Ordering) (text more : List ℕ) → rest reader.now ≡ text ++ more
+        → EncodesOrderingByte text value → result ≡ Ok value }
+    ensures refused { (m : Message) (offset : ℕ) → OrderingByteFault m reader.now offset
+        → IfErr result (λ e. (e.message ≡ m) × (e.offset ≡ offset)) }
+{
+    memory_laws::orderings(reader.features());
+    memory_laws::short_refusals(reader.features());
+    Ordering::read(&mut reader.clone())
+}
+
+/// Returns the memory argument of a plain access at the reader's position (laws
+/// `memory_arguments` and `memory_argument_refusals`).
 pub fn peek_memory_argument(reader: &BinaryReader<'_>, max_align: u8) -> Result<MemArg>
     ensures reads { (argument : MemArg) (text more : List ℕ) → rest reader.now ≡ text ++ more
         → EncodesMemArg reader.now.features MemArgKind.Plain max_align text argument → result ≡ Ok argument }
     ensures found { IfOk result (λ argument. (text more : List ℕ) × (rest reader.now ≡ text ++ more)
         × EncodesMemArg reader.now.features MemArgKind.Plain max_align text argument) }
+    ensures refused { (m : Message) (offset : ℕ) → MemArgFault reader.now.features MemArgKind.Plain m reader.now offset
+        → IfErr result (λ e. (e.message ≡ m) × (e.offset ≡ offset)) }
 {
     memory_laws::memory_arguments(reader.features(), MemArgKind::Plain, max_align);
+    memory_laws::memory_argument_refusals(reader.features(), MemArgKind::Plain);
     MemArg::read(&mut reader.clone(), max_align, MemArgKind::Plain)
 }
 

@@ -4,10 +4,9 @@ use Rattle.std.specs.Bool.{Decides}
 use Rattle.std.proofs.lemmas.Bool.Decides.{Decides-and, Decides-like}
 use mathlib.Core.Bool.{◌&&◌}
 use denote.Struct.Field.{Field}
-use denote.Struct.Values.{Values}
 use denote.Enum.Bare.{Bare, sameb, same_true, true_same}
 use denote.Enum.Compared.{Each, by}
-use denote.Enum.Declared.{Choice, Declared, Record, values_one}
+use denote.Enum.Declared.{Declared, Record, values_one}
 use Rattle.wasm_below.specs.Equality.{IsExact}
 
 -- Each function decides equality of the fields of its variant.

@@ -2,10 +2,8 @@ pub use Rattle.wasm_below_bytes.proofs.Blocks
 pub use Rattle.wasm_below_bytes.proofs.DeterminedRefusals
 pub use Rattle.wasm_below_bytes.proofs.Faults
 pub use Rattle.wasm_below_bytes.proofs.Numbers
-pub use Rattle.wasm_below_bytes.proofs.Parts
 pub use Rattle.wasm_below_bytes.proofs.PrefixCode
 pub use Rattle.wasm_below_bytes.proofs.Prefixes
-pub use Rattle.wasm_below_bytes.proofs.ReadOn
 pub use Rattle.wasm_below_bytes.proofs.Sequences
 pub use Rattle.wasm_below_bytes.proofs.SignedNumbers
 pub use Rattle.wasm_below_bytes.proofs.Steps

@@ -1,34 +1,14 @@
-use Rattle.std.proofs.Common.{◌≡◌, ◌≢◌, ℕ, ◌+◌, inl, inr, List, [], ◌∷◌, sym, subst, ap, ◌∙◌, arith}
+use Rattle.std.proofs.Common.{◌≡◌, ◌≢◌, ℕ, ◌+◌, inl, inr, List, [], ◌∷◌, sym, subst, ap, arith}
 use Rattle.wasm_below_bytes.specs.declared.error.Error.{Error}
 use Rattle.wasm_below_bytes.specs.declared.message.Message.{Message}
 use Rattle.wasm_below_bytes.specs.declared.message.Message.TheVariants as message
-use Rattle.wasm_below_bytes.specs.declared.message.TypeName.{TypeName}
 use Rattle.wasm_below_bytes.specs.declared.message.TypeName.TheVariants as type_name
 use Rattle.wasm_below_bytes.specs.Number.{EncodesSigned}
-use Rattle.wasm_below_bytes.specs.Source.{Reader, rest, end_of, Takes, NoPrefix, BeginsWith, IsEndHere}
-use Rattle.wasm_below.specs.TypeEncoding.{LeadsShort, IsCutShort, ShortFault, ByteFault, NoIndex, ExactFault, ConcreteFault, HeapTypeFault, RefTypeFault, ValTypeFault, ref_byte}
+use Rattle.wasm_below_bytes.specs.Source.{Reader, rest, Takes, NoPrefix, BeginsWith, IsEndHere}
+use Rattle.wasm_below.specs.TypeEncoding.{LeadsShort, ShortFault, NoIndex, ExactFault, ConcreteFault, HeapTypeFault}
 use Rattle.wasm_below_bytes.proofs.TakesLemmas.{end_too_long}
 use Rattle.wasm_below_bytes.proofs.SignedNumbers.{signed_empty}
 use Rattle.wasm_below_bytes.proofs.Faults.{none_here}
-
-pub end_short : (name : TypeName) (e : Error) (r : Reader) → IsEndHere e r → ShortFault name e.message r e.offset
-end_short name e r h = subst (λ m. ShortFault name m r e.offset) (sym h.0) (h.1 ∙ h.2, inl (none_here r h.2))
-
-pub end_byte : (name : TypeName) (e : Error) (r : Reader) → IsEndHere e r → ByteFault name e.message r e.offset
-end_byte name e r h = subst (λ m. ByteFault name m r e.offset) (sym h.0) (h.1 ∙ h.2, none_here r h.2)
-
-pub other_byte : (b : ℕ) (bytes after : List ℕ) → bytes ≡ b ∷ after → b ≢ 0x65 → IsCutShort bytes → ⊥
-other_byte b bytes after e x (inl f) = cc (e, f)
-other_byte b bytes after e x (inr f) = x (let g : b ≡ 0x65 = cc (e, f) in g)
-
-pub two_bytes : (b c : ℕ) (bytes after : List ℕ) → bytes ≡ b ∷ c ∷ after → IsCutShort bytes → ⊥
-two_bytes b c bytes after e (inl f) = cc (e, f)
-two_bytes b c bytes after e (inr f) = cc (e, f)
-
-pub end_shared : (name : TypeName) (e : Error) (old mid : Reader) → Takes old mid (0x65 ∷ []) → IsEndHere e mid → ShortFault name e.message old e.offset
-end_shared name e old mid t h =
-    let ends : end_of mid ≡ end_of old = ap end_of t.moved in
-    subst (λ m. ShortFault name m old e.offset) (sym h.0) (h.1 ∙ h.2 ∙ ends, inr (t.parts ∙ ap (λ z. 0x65 ∷ z) (none_here mid h.2)))
 
 pub end_heap : (e : Error) (r : Reader) → IsEndHere e r → HeapTypeFault e.message r e.offset
 end_heap e r h =
@@ -38,16 +18,6 @@ end_heap e r h =
       λ f. let g : rest r ≡ f.0 ∷ f.2.0 = f.2.1 in cc,
       inl (subst (NoPrefix (EncodesSigned 33)) (sym none) signed_empty, end_too_long e r h),
     ))
-
-pub end_ref : (e : Error) (r : Reader) → IsEndHere e r → RefTypeFault e.message r e.offset
-end_ref e r h =
-    let none : rest r ≡ [] = none_here r h.2 in
-    inr (λ n f. (let g : rest r ≡ ref_byte n ∷ f.0 = f.1 in cc), end_short type_name.ReferenceType e r h)
-
-pub end_value : (e : Error) (r : Reader) → IsEndHere e r → ValTypeFault e.message r e.offset
-end_value e r h =
-    let none : rest r ≡ [] = none_here r h.2 in
-    inr (λ b l f. (let g : rest r ≡ b ∷ f.0 = f.1 in cc), end_byte type_name.ValueType e r h)
 
 pub short_fault : (b : ℕ) (e : Error) (r : Reader) → BeginsWith b (rest r) → LeadsShort b → ShortFault type_name.HeapType e.message r e.offset →
     HeapTypeFault e.message r e.offset

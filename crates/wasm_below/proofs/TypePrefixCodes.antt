@@ -88,7 +88,7 @@ heap_prefix_code (c ∷ a) (d ∷ b) x y (heap.Exact i) n p q e =
     let same : d ≡ 98 = cc (e, p.1) in
     exact_prefix_code (c ∷ a) (d ∷ b) x y (heap.Exact i) n p (heap_exact d same b n q) e
 
-same_reference : (r s : Reference) → r.nullable ≡ s.nullable → r.heap_type ≡ s.heap_type → r ≡ s
+pub same_reference : (r s : Reference) → r.nullable ≡ s.nullable → r.heap_type ≡ s.heap_type → r ≡ s
 same_reference r s n h =
     ap (λ z. record { nullable = z; heap_type = r.heap_type }) n ∙ ap (λ z. record { nullable = s.nullable; heap_type = z }) h
 

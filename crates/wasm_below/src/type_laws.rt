@@ -1,14 +1,11 @@
-//! Laws of types: encodings are prefix codes, faults determine errors, and `==` is exact.
+//! Laws of types: encodings are prefix codes, faults determine errors, and `==` is exact. For
+//! heap types, `FromReader::is_prefix_code` states the first.
 ghost use Rattle.wasm_below_bytes.specs.Sequence.{PrefixCode};
 ghost use Rattle.wasm_below.specs.Equality.{IsExact};
-ghost use Rattle.wasm_below.specs.TypeEncoding.{EncodesHeapType, EncodesRefType, EncodesValType, HeapTypeFault, RefTypeFault, ValTypeFault};
+ghost use Rattle.wasm_below.specs.TypeEncoding.{EncodesRefType, EncodesValType, HeapTypeFault, RefTypeFault, ValTypeFault};
 ghost use Rattle.wasm_below_bytes.specs.Fault.{DeterminesRefusal};
 
 use crate::types::{HeapType, RefType, ValType};
-
-pub fn heap_types()
-    ensures { PrefixCode EncodesHeapType }
-{}
 
 pub fn reference_types()
     ensures { PrefixCode EncodesRefType }

@@ -1,4 +1,4 @@
-ghost use Rattle.std.specs.Prelude.{◌≡◌, ℕ, ◌≤◌, IsTrue, ◌↔◌, IsSome, IfSome, IfNone, IfOk, IfErr, codes};
+ghost use Rattle.std.specs.Prelude.{◌≡◌, IsTrue, ◌↔◌, IsSome, IfSome};
 ghost use Rattle.wasm_below.specs.Reference.{IsIndexed};
 
 use std::fmt::{self, Debug, Formatter};

@@ -1,14 +1,14 @@
-use Rattle.std.proofs.Common.{◌≡◌, ℕ, List, ◌++◌, Ok, refl, sym, subst, ap, ◌∙◌, append_assoc}
+use Rattle.std.proofs.Common.{◌≡◌, ℕ, List, ◌++◌, Ok, sym, subst, ap, ◌∙◌, append_assoc}
 use Rattle.wasm_below_bytes.specs.declared.error.Error.{Error}
 use Rattle.wasm_below_bytes.specs.Source.{Reader, rest, NoPrefix, IsRefusal, Reads}
 use Rattle.wasm_below_bytes.specs.Sequence.{Then, PrefixCode}
-use Rattle.wasm_below_bytes.proofs.TakesLemmas.{takes_then, ahead_before, same_rest}
+use Rattle.wasm_below_bytes.proofs.TakesLemmas.{ahead_before, same_rest}
 
 then_no_first : {X Y : Type 0} (P : List ℕ → X → Type 0) (Q : X → List ℕ → Y → Type 0) (bytes : List ℕ) → NoPrefix P bytes → NoPrefix (Then P Q) bytes
 then_no_first P Q bytes none text rest y (first, second, x, e, p, q) eq =
     none first (second ++ rest) x p (eq ∙ ap (λ z. z ++ rest) e ∙ append_assoc first second rest)
 
-then_no_second : {X Y : Type 0} (P : List ℕ → X → Type 0) (Q : X → List ℕ → Y → Type 0) (text after more : List ℕ) (x : X) → PrefixCode P → P text x →
+pub then_no_second : {X Y : Type 0} (P : List ℕ → X → Type 0) (Q : X → List ℕ → Y → Type 0) (text after more : List ℕ) (x : X) → PrefixCode P → P text x →
     NoPrefix (Q x) (after ++ more) → NoPrefix (Then P Q) ((text ++ after) ++ more)
 then_no_second P Q text after more x prefix_code p none t2 rest y (first, second, x2, e, p2, q) eq =
     let whole : text ++ (after ++ more) ≡ first ++ (second ++ rest) = sym (append_assoc text after more) ∙ eq ∙ ap (λ z. z ++ rest) e ∙
@@ -30,10 +30,6 @@ then_second P Q e old mid x prefix_code (text, p, takes) h =
       fault = h.fault;
       ahead = ahead_before old mid text e.offset takes h.ahead;
     }
-
-pub then_ok : {X Y : Type 0} (P : List ℕ → X → Type 0) (Q : X → List ℕ → Y → Type 0) (old mid new : Reader) (x : X) (y : Y) → Reads P (Ok x) old mid →
-    Reads (Q x) (Ok y) mid new → Reads (Then P Q) (Ok y) old new
-then_ok P Q old mid new x y (t1, p, k1) (t2, q, k2) = (t1 ++ t2, (t1, t2, x, refl, p, q), takes_then old mid new t1 t2 k1 k2)
 
 pub then_prefix_code : {X Y : Type 0} (P : List ℕ → X → Type 0) (Q : X → List ℕ → Y → Type 0) → PrefixCode P → ((x : X) → PrefixCode (Q x)) →
     PrefixCode (Then P Q)

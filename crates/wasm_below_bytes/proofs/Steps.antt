@@ -1,13 +1,13 @@
 -- Calls of several parts that go back if a later part fails.
-use Rattle.std.proofs.Common.{◌≡◌, ℕ, ◌+◌, ◌-◌, ◌<◌, ◌≤◌, List, [], ◌∷◌, ◌++◌, length, Ok, sym, subst, ap, ◌∙◌, length-append, length-drop, append_assoc, arith}
+use Rattle.std.proofs.Common.{◌≡◌, ℕ, ◌+◌, ◌-◌, ◌<◌, ◌≤◌, List, [], ◌∷◌, ◌++◌, length, Ok, sym, subst, ap, ◌∙◌, length-append, length-drop, arith}
 use Rattle.wasm_below_bytes.specs.declared.error.Error.{Error}
 use Rattle.wasm_below_bytes.specs.Refusal.{IsReadFault}
 use Rattle.wasm_below_bytes.specs.Number.{EncodesUnsigned}
 use Rattle.wasm_below_bytes.specs.Source.{Reader, rest, offset_of, end_of, at_position, Takes, NoPrefix, IsRefusal, Reads}
 use Rattle.wasm_below_bytes.specs.Sequence.{Then, PrefixCode}
 use Rattle.wasm_below_bytes.proofs.PrefixCode.{unsigned_prefix_code}
-use Rattle.wasm_below_bytes.proofs.TakesLemmas.{back, same_rest}
-use Rattle.wasm_below_bytes.proofs.Sequences.{then_second}
+use Rattle.wasm_below_bytes.proofs.TakesLemmas.{back}
+use Rattle.wasm_below_bytes.proofs.Sequences.{then_second, then_no_second}
 
 pub number_prefix_code : (width : ℕ) → PrefixCode (EncodesUnsigned width)
 number_prefix_code width a b x y m n p q e = unsigned_prefix_code a b width x y m n p q e
@@ -28,14 +28,6 @@ pub second_refused : {X Y : Type 0} (P : List ℕ → X → Type 0) (Q : X → L
 second_refused P Q e old mid mid2 new x position prefix_code r h at went =
     (back old mid new r.0 position r.2 at (went ∙ ap (λ (m : Reader). at_position m position) h.0), then_second P Q e old mid x prefix_code r h.1)
 
-pub no_second : {X Y : Type 0} (P : List ℕ → X → Type 0) (Q : X → List ℕ → Y → Type 0) (text after more : List ℕ) (x : X) → PrefixCode P → P text x →
-    NoPrefix (Q x) (after ++ more) → NoPrefix (Then P Q) ((text ++ after) ++ more)
-no_second P Q text after more x prefix_code p none t2 more2 y (first, second, x2, e, p2, q) eq =
-    let whole : text ++ (after ++ more) ≡ first ++ (second ++ more2) = sym (append_assoc text after more) ∙ eq ∙ ap (λ z. z ++ more2) e ∙
-    append_assoc first second more2 in
-    let o = prefix_code text first (after ++ more) (second ++ more2) x x2 p p2 whole in
-    none second more2 y (subst (λ z. Q z second y) (sym o.1) q) (same_rest text first (after ++ more) (second ++ more2) o.0 whole)
-
 pub first_rules_out : {X Y : Type 0} (P : List ℕ → X → Type 0) (Q : X → List ℕ → Y → Type 0) (e : Error) (old mid new : Reader) (x : X) → PrefixCode P →
     ((text : List ℕ) → P text x → 0 < length text) → Reads P (Ok x) old mid → ((text : List ℕ) (y : Y) → ¬ Q x text y) → new ≡ old →
     e.offset ≡ offset_of old → IsReadFault e.message → (new ≡ old) × IsRefusal (Then P Q) e old
@@ -44,7 +36,7 @@ first_rules_out P Q e old mid new x prefix_code some (text, p, takes) none went 
       went,
       record {
         refuses = λ more _. subst (λ z. NoPrefix (Then P Q) (z ++ more)) (sym takes.parts)
-            (no_second P Q text (rest mid) more x prefix_code p (λ t after y q eq. none t y q));
+            (then_no_second P Q text (rest mid) more x prefix_code p (λ t after y q eq. none t y q));
         fault = fault;
         ahead = (omega arith, omega arith);
       },

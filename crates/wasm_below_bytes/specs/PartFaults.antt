@@ -1,6 +1,5 @@
 use Rattle.std.specs.Prelude.{◌≡◌, ℕ, ◌≢◌, ◌⊎◌}
 use Rattle.wasm_below_bytes.specs.declared.message.Message.{Message}
-use Rattle.wasm_below_bytes.specs.declared.message.Message.TheVariants as message
 use Rattle.wasm_below_bytes.specs.Source.{Reader, rest, BeginsWith, EndFault}
 
 -- `IsWrong` holds of the next byte. The error is `refusal byte`, at the offset `place`.

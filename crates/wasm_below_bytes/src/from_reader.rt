@@ -1,4 +1,4 @@
-ghost use Rattle.std.specs.Prelude.{◌≡◌, ℕ, ⊤, List, ◌++◌, IfOk, IfErr, IfSome, []};
+ghost use Rattle.std.specs.Prelude.{◌≡◌, ℕ, ⊤, List, IfOk, IfErr, IfSome};
 ghost use Rattle.wasm_below_bytes.specs.declared.features.WasmFeatures.{WasmFeatures};
 ghost use Rattle.wasm_below_bytes.specs.declared.message.Message.{Message};
 ghost use Rattle.wasm_below_bytes.specs.Fault.{HasFault, NeedsMemory, DeterminesRefusal};

@@ -1,5 +1,5 @@
 //! LEB128 numbers of several bytes: groups of seven bits, the lowest first.
-ghost use Rattle.std.specs.Prelude.{◌≡◌, ◌+◌, ◌-◌, ◌*◌, ◌≤◌, ◌<◌, ◌^◌, ◌↔◌, IsTrue, IfOk, IfErr, IfSome, length};
+ghost use Rattle.std.specs.Prelude.{◌≡◌, ◌+◌, ◌-◌, ◌*◌, ◌≤◌, ◌<◌, ◌^◌, ◌↔◌, IsTrue, IfOk, IfErr, IfSome};
 ghost use Rattle.wasm_below_bytes.specs.Number.{EncodesUnsigned, EncodesSigned, FitsWidth, last_value};
 ghost use Rattle.wasm_below_bytes.specs.Leb128.{IsGroups, RefusesGroups, NumberAt, NoNumber, HasPlace, refusal_message, refusal_offset, signed_value};
 
@@ -85,15 +85,6 @@ pub fn two_bytes(buffer: &[u8], start: usize) -> Option<Unsigned>
         value: u64::from(first - 128) + 128 * u64::from(last),
         after: start + 2,
     })
-}
-
-#[inline(always)]
-pub fn u32_at(buffer: &[u8], start: usize) -> Result<Unsigned, NumberRefusal>
-    ensures number { IfOk result (λ n. NumberAt (EncodesUnsigned 32) buffer.now start n.value n.after) }
-    ensures within { IfOk result (λ n. n.value < 2 ^ 32) }
-    ensures refused { IfErr result (λ r. NoNumber (EncodesUnsigned 32) r 32 buffer.now start) }
-{
-    read_unsigned(buffer, start, 32)
 }
 
 pub fn long_i32(buffer: &[u8], start: usize) -> Result<Signed, NumberRefusal>

@@ -6,13 +6,10 @@ use Rattle.std.proofs.Math.Nat.{mod-add-mod}
 use Rattle.std.proofs.lemmas.List.{append-nil}
 use Rattle.wasm_operators_readers.specs.below.Source.{Reader, rest, Takes, NoPrefix, Reads}
 use Rattle.wasm_operators_readers.specs.below.Sequence.{PrefixCode, Then}
-use Rattle.wasm_operators_readers.proofs.of_below.TakesLemmas.{takes_none, takes_then, same_rest}
+use Rattle.wasm_operators_readers.proofs.of_below.TakesLemmas.{takes_then, same_rest}
 use Rattle.wasm_operators_readers.specs.imm.Lists.{EncodesEach}
 use Rattle.wasm_operators_readers.proofs.of_imm.ListLemmas.{each_more}
 use Rattle.wasm_bench.specs.Sums.{IsSumOf}
-
-pub less_left : (old new : Reader) (text : List ℕ) → 0 < length text → Takes old new text → length (rest new) < length (rest old)
-less_left old new text some t = omega (arith, ap length t.parts ∙ length-append text (rest new))
 
 sum_more : {X : Type 0} (counts : X → ℕ) (xs : List X) (x : X) → sum_by counts (xs ++ x ∷ []) ≡ sum_by counts xs + counts x
 sum_more counts xs x = sum_by-append counts xs (x ∷ []) ∙ omega arith
@@ -24,9 +21,6 @@ pub record SumSoFar {X : Type 0} (Encodes : List ℕ → X → Type 0) (counts :
   pub each : EncodesEach Encodes text done
   pub taken : Takes first now text
   pub total_is : total ≡ sum_by counts done % 2 ^ 64
-
-pub none_yet : {X : Type 0} (Encodes : List ℕ → X → Type 0) (counts : X → ℕ) (first : Reader) → SumSoFar Encodes counts first first 0
-none_yet Encodes counts first = record { text = []; done = []; each = refl; taken = takes_none first; total_is = refl }
 
 pub one_more : {X : Type 0} (Encodes : List ℕ → X → Type 0) (counts : X → ℕ) (first now new : Reader) (total total2 : ℕ) (x : X) →
     SumSoFar Encodes counts first now total → Reads Encodes (Ok x) now new → total2 ≡ (total + counts x) % 2 ^ 64 → SumSoFar Encodes counts first new total2

@@ -1,15 +1,14 @@
 use Rattle.std.proofs.Common.{◌≡◌, ℕ, ◌+◌, ◌-◌, ◌≤◌, List, [], length, length-append, length-drop, append-nil, Option, Some, Ok, refl, sym, ap, subst, ◌∙◌, arith, inl, inr}
-use Rattle.std.specs.Borrow.{Bor}
 use Rattle.wasm_functions.specs.of_module.below.bytes.error.Error.{Error}
 use Rattle.wasm_functions.specs.of_module.below.bytes.message.Message.{Message}
 use Rattle.wasm_functions.specs.of_module.below.bytes.message.Message.TheVariants as message
 use Rattle.wasm_functions.specs.of_module.below.FromReader.{EncodesReader}
 use Rattle.wasm_functions.specs.of_module.below.Number.{EncodesUnsigned}
 use Rattle.wasm_functions.specs.of_module.below.Refusal.{IsReadFault}
-use Rattle.wasm_functions.specs.of_module.below.Source.{Reader, Reads, Takes, IsBlock, IsRefusal, MayFollow, rest, offset_of, end_of, at_position}
+use Rattle.wasm_functions.specs.of_module.below.Source.{Reader, Reads, Takes, IsRefusal, MayFollow, rest, offset_of, end_of, at_position}
 use Rattle.wasm_functions.specs.Sections.{IsSection}
 use Rattle.wasm_bodies.specs.declared.bodies.WasmBodies.{WasmBodies}
-use Rattle.wasm_bodies.specs.Bodies.{module_of, after_bytes, InSection, TakesType, HasType, TakesPart, IsPlace}
+use Rattle.wasm_bodies.specs.Bodies.{module_of, after_bytes, InSection, HasType, TakesPart, IsPlace}
 
 abbrev pub OneSection : Type 0
 OneSection = (whole : Reader) → (id : ℕ) → (a b : Option Reader) → IsSection whole id a → IsSection whole id b → a ≡ b
@@ -22,27 +21,6 @@ pub same_place : OneSection → (bytes : List ℕ) (id n : ℕ) (one other : Rea
 same_place law bytes id n one other a b =
     let same = the_contents a.contents b.contents (law (module_of bytes) id (Some a.contents) (Some b.contents) a.is_section b.is_section) in
     a.is_there ∙ ap (λ r. after_bytes r n) same ∙ sym b.is_there
-
--- The start of the contents.
-pub at_start : (bytes : List ℕ) (id : ℕ) (contents : Reader) → IsSection (module_of bytes) id (Some contents) → InSection bytes id 0 contents
-at_start bytes id contents is = record {
-  contents = contents;
-  is_section = is;
-  within = omega arith;
-  is_there = ap (at_position contents) (plus_none contents.position);
-}
-  where
-    plus_none : (n : ℕ) → n ≡ n + 0
-    plus_none n = omega arith
-
-pub after_block : (bytes : List ℕ) (id n : ℕ) (contents place : Reader) (block : Bor (List ℕ)) → IsSection (module_of bytes) id (Some contents) →
-    n ≤ length (rest contents) → Reads (IsBlock n) (Ok block) contents place → InSection bytes id n place
-after_block bytes id n contents place block is within (text, (same, long), takes) = record {
-  contents = contents;
-  is_section = is;
-  within = within;
-  is_there = takes.moved ∙ ap (after_bytes contents) long;
-}
 
 pub not_beyond : OneSection → (bytes : List ℕ) (id n : ℕ) (contents there : Reader) → IsSection (module_of bytes) id (Some contents) →
     (n ≤ length (rest contents) → ⊥) → InSection bytes id n there → ⊥
@@ -76,12 +54,6 @@ bytes_read start old new before after text at takes is =
     let p : after.position ≡ before.position + length text = ap (λ (r : Reader). r.position) takes.moved in
     omega (arith, p, at, is)
 
-pub type_taken : (bytes : List ℕ) (start old new ty : ℕ) (before after : Reader) → InSection bytes 3 old before → before.position ≡ start + old →
-    Reads (EncodesUnsigned 32) (Ok ty) before after → new ≡ after.position - start → TakesType bytes old new ty
-type_taken bytes start old new ty before after a at (text, encodes, takes) is =
-    let n = bytes_read start old new before after text at takes is in
-    (before, after, a, subst (λ k. InSection bytes 3 k after) n (further bytes 3 old before after text a takes), (text, encodes, takes))
-
 pub part_taken : (bytes : List ℕ) (start old new : ℕ) (before after part : Reader) → InSection bytes 10 old before → before.position ≡ start + old →
     Reads (EncodesReader before.features) (Ok part) before after → end_of part ≡ offset_of after → new ≡ after.position - start →
     TakesPart bytes old new part
@@ -107,15 +79,6 @@ pub no_type : OneSection → (bytes : List ℕ) (n : ℕ) (place : Reader) (e : 
 no_type law bytes n place e there refused (new, ty, (before, after, a, b, (text, encodes, takes))) =
     let same = same_place law bytes 3 n place before there a in
     refused.refuses [] (nothing_follows e.message refused.fault) text (rest after) ty encodes (append-nil (rest place) ∙ ap rest same ∙ takes.parts)
-
--- The number of items of a section, and how many bytes encode it.
-pub declared : (contents reader : Reader) (count n : ℕ) → Reads (EncodesUnsigned 32) (Ok count) contents reader → n ≡ reader.position - contents.position →
-    Reads (EncodesUnsigned 32) (Ok count) contents (after_bytes contents n)
-declared contents reader count n (text, encodes, takes) is =
-    let p : reader.position ≡ contents.position + length text = ap (λ (r : Reader). r.position) takes.moved in
-    let long : length text ≡ n = omega (arith, is, p) in
-    let same : reader ≡ after_bytes contents n = takes.moved ∙ ap (after_bytes contents) long in
-    subst (Reads (EncodesUnsigned 32) (Ok count) contents) same (text, encodes, takes)
 
 -- No place: no body is left, some bytes were read, and the code section has fewer.
 pub no_end : (bytes : List ℕ) (c : WasmBodies) → c.left ≡ 0 → (c.code ≡ 0 → ⊥) → ((there : Reader) → InSection bytes 10 c.code there → ⊥) →

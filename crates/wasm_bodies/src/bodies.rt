@@ -1,4 +1,4 @@
-ghost use Rattle.std.specs.Prelude.{◌≡◌, IfOk, IfErr};
+ghost use Rattle.std.specs.Prelude.{IfOk, IfErr};
 ghost use Rattle.wasm_bodies.specs.Bodies.{OpensBodies, RefusesBodies};
 
 use crate::fault::BodiesFault;

@@ -1,15 +1,17 @@
--- The statements of the laws of `run_laws` that proofs here get as arguments.
+-- The statements of the laws that proofs here get as arguments.
 use Rattle.std.proofs.Common.{◌≡◌, List, []}
 use Rattle.wasm_operators.specs.below.bytes.error.Error.{Error}
 use Rattle.wasm_operators.specs.below.bytes.message.Message.TheVariants as message
-use Rattle.wasm_operators.specs.below.Source.{rest}
+use Rattle.wasm_operators.specs.below.Source.{rest, Reader, source_of}
 use Rattle.wasm_operators.specs.instr.declared.operator.Operator.{Operator}
 use Rattle.wasm_operators.specs.opcodes.Allowed.{EncodesAllowed}
 use Rattle.wasm_operators.specs.opcodes.OperatorFaults.{OperatorFault}
-use Rattle.wasm_operators.specs.Expression.{Placed, IsAny}
+use Rattle.wasm_operators.specs.Expression.{Placed, IsAny, EncodesExpression}
 use Rattle.wasm_operators.specs.MainTheorem.{ReadSoFar, ReadsTree, ReadsBeginning}
 use Rattle.wasm_operators.specs.Next.{NextMayAllocate}
 use Rattle.wasm_operators.specs.Reading.{State, IsFresh, TakesOperators, StopsRead, StopsRun, Anywhere}
+use Rattle.wasm_operators.specs.Body.{EncodesBody}
+use Rattle.wasm_operators.specs.Locals.{Declaration, IsPastLocals}
 
 -- `fresh_readers`
 abbrev pub Fresh : Type 0
@@ -27,6 +29,11 @@ OfBeginning = (before : List Operator) (e : Error) (old new : State) (placed : P
 abbrev pub OfStops : Type 0
 OfStops = (e : Error) (s : State) → StopsRead EncodesAllowed OperatorFault (NextMayAllocate EncodesAllowed) e s →
     StopsRead EncodesAllowed OperatorFault Anywhere e s
+
+-- `past_locals`
+abbrev pub OfLocals : Type 0
+OfLocals = (body r : Reader) (declarations : List Declaration) (placed : Placed) → IsPastLocals declarations body r →
+    EncodesExpression (source_of r) placed → EncodesBody (source_of body) declarations placed
 
 -- `memory_asked`
 abbrev pub OfMemory : Type 0

@@ -1,5 +1,5 @@
 -- If each visit adds one, the count grows by the length of the list.
-use Rattle.std.proofs.Common.{◌≡◌, ℕ, ◌+◌, ◌-◌, ◌^◌, ◌<◌, ◌≤◌, List, [], ◌∷◌, ◌++◌, length, length-append, length-drop, drop, append-nil, refl, ap, sym, ◌∙◌, arith, ◌⊎◌, inl, inr}
+use Rattle.std.proofs.Common.{◌≡◌, ℕ, ◌+◌, ◌-◌, ◌^◌, ◌<◌, ◌≤◌, List, [], ◌∷◌, ◌++◌, length, length-append, drop, append-nil, ap, sym, ◌∙◌, arith, ◌⊎◌, inl, inr}
 use Rattle.wasm_operators.specs.instr.declared.operator.Operator.{Operator}
 use Rattle.wasm_operators.specs.Expression.{Placed}
 use Rattle.wasm_operators.specs.Visiting.{VisitRun, Visited}
@@ -7,6 +7,7 @@ use Rattle.wasm_view.specs.View.{views}
 use Rattle.wasm_view.specs.declared.view.WasmOperator.{WasmOperator}
 use Rattle.wasm_view.specs.Lists.{written}
 use Rattle.wasm_c.proofs.Written.{written_after, written_first, views_join, views_length}
+use Rattle.std.proofs.lemmas.List.{drop_all}
 
 counted_run : {V A : Type 0} (total : V → ℕ) (placed : Placed) (outcomes : List A) (before after : V) →
     VisitRun (λ (s : V) (op : Operator) (a : A) (t : V). total s < 2 ^ 64 - 1 → total t ≡ total s + 1) before placed outcomes after →
@@ -25,20 +26,13 @@ counted_on total found more before after (outcomes, run) first few =
     let all = counted_run total more outcomes before after run (omega (arith, few, sum, first)) in
     omega (arith, all, sum, first)
 
-drop_all : {X : Type 0} (list : List X) (n : ℕ) → length list ≤ n → drop n list ≡ []
-drop_all list n all = none_of (drop n list) (omega (arith, length-drop n list, all))
-  where
-    none_of : {X : Type 0} (items : List X) → length items ≡ 0 → items ≡ []
-    none_of [] none = refl
-    none_of (x ∷ xs) none = absurd (omega (arith, none))
-
 -- A full array has the C structs of the first operators, however many follow.
 pub array_full : (found more : Placed) (old new : List WasmOperator) → length found ≡ length old → new ≡ views found ++ drop (length found) old →
     new ≡ written (views (found ++ more)) old
 array_full found more old new full is =
     let room : length (views found) ≤ length old = omega (arith, views_length found, full) in
-    let after : drop (length found) old ≡ [] = drop_all old (length found) (omega (arith, full)) in
-    let others : drop (length (views found)) old ≡ [] = drop_all old (length (views found)) (omega (arith, views_length found, full)) in
+    let after : drop (length found) old ≡ [] = drop_all (length found) old (omega (arith, full)) in
+    let others : drop (length (views found)) old ≡ [] = drop_all (length (views found)) old (omega (arith, views_length found, full)) in
     is ∙ ap (λ list. views found ++ list) (after ∙ sym (ap (written (views more)) others)) ∙ sym (written_after (views found) (views more) old room) ∙
     ap (λ list. written list old) (sym (views_join found more))
 

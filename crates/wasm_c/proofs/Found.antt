@@ -1,22 +1,21 @@
 -- What is found in two steps is found in one; and the same after the locals of a body.
-use Rattle.std.proofs.Common.{◌≡◌, ℕ, ◌+◌, ◌≤◌, List, [], ◌++◌, length, length-append, length-drop, Result, Ok, Err, refl, sym, ap, subst, ◌∙◌, arith, ◌⊎◌, inl, inr}
+use Rattle.std.proofs.Common.{◌≡◌, ℕ, ◌+◌, ◌≤◌, List, [], ◌++◌, length, length-append, length-drop, Result, Ok, Err, sym, ap, subst, ◌∙◌, arith, ◌⊎◌, inl, inr}
 use Rattle.wasm_operators.specs.below.bytes.error.Error.{Error}
 use Rattle.wasm_operators.specs.below.bytes.message.Message.TheVariants as message
-use Rattle.wasm_operators.specs.below.bytes.features.WasmFeatures.{WasmFeatures}
 use Rattle.wasm_operators.specs.below.Refusal.{IsReadFault}
-use Rattle.wasm_operators.specs.below.Source.{Source, Reader, rest, offset_of, source_of, end_of}
+use Rattle.wasm_operators.specs.below.Source.{Reader, rest, offset_of, end_of}
 use Rattle.wasm_operators.specs.opcodes.Allowed.{EncodesAllowed}
 use Rattle.wasm_operators.specs.opcodes.OperatorFaults.{OperatorFault}
-use Rattle.wasm_operators.specs.Body.{source_after, EncodesBody, OpensBody, StopsBody}
-use Rattle.wasm_operators.specs.Expression.{Placed, OfPlaced, EncodesExpression}
-use Rattle.wasm_operators.specs.Locals.{Declaration, IsPastLocals, RefusesLocals}
+use Rattle.wasm_operators.specs.Body.{OpensBody}
+use Rattle.wasm_operators.specs.Expression.{Placed, OfPlaced}
+use Rattle.wasm_operators.specs.Locals.{RefusesLocals}
 use Rattle.wasm_operators.specs.Reading.{State, Anywhere, TakesOperators, EndsRun, RunsToEnd}
 use Rattle.wasm_operators.specs.Next.{NextMayAllocate}
 use Rattle.wasm_operators.specs.MainTheorem.{ReadSoFar}
 use Rattle.wasm_operators.specs.Laws.{TakesBoth, IsNoLonger}
 use Rattle.wasm_view.specs.declared.view.WasmOperator.{WasmOperator}
 use Rattle.wasm_c.specs.Reads.{EndsBody, EndsOperators, IfMemory, MayAllocateAfter, BodyMayAllocate, FillsArray, FindsOperators}
-use Rattle.wasm_c.proofs.Cited.{OfTree, OfBeginning, OfStops, OfMemory}
+use Rattle.wasm_c.proofs.Cited.{OfTree, OfBeginning, OfStops, OfMemory, OfLocals}
 use Rattle.wasm_c.proofs.Written.{written_first}
 
 -- The contract of a body does not say when allocation may fail.
@@ -85,33 +84,11 @@ ends_few (Err e) opened placed lengths h =
     let sum : length (rest opened.reader) ≡ length b.text + length (rest h.0.reader) = ap length b.takes.parts ∙ length-append b.text (rest h.0.reader) in
     omega (arith, few, sum, length-drop opened.reader.position opened.reader.buffer)
 
-abbrev source : WasmFeatures → ℕ → List ℕ → Source
-source features offset bytes = record { features = features; offset = offset; bytes = bytes }
-
--- The locals of a body, followed by its expression.
-body_after_locals : (body opened : Reader) (declarations : List Declaration) (placed : Placed) → IsPastLocals declarations body opened →
-    EncodesExpression (source_of opened) placed → EncodesBody (source_of body) declarations placed
-body_after_locals body opened declarations placed (text, encodes, takes) h =
-    let features : opened.features ≡ body.features = ap (λ (r : Reader). r.features) takes.moved in
-    let offset : offset_of opened ≡ offset_of body + length text = ap offset_of takes.moved ∙ omega arith in
-    let same : source_of opened ≡ source_after (source_of body) text (rest opened) =
-    ap (λ f. source f (offset_of opened) (rest opened)) features ∙ ap (λ o. source body.features o (rest opened)) offset in
-    record {
-      locals = text;
-      expression = rest opened;
-      parts = takes.parts;
-      encodes_locals = encodes;
-      encodes_expression = subst (λ s. EncodesExpression s placed) same h;
-    }
-
-pub opened_features : (body : Reader) (opened : State) → OpensBody (Ok opened) body → opened.reader.features ≡ body.features
-opened_features body opened ((declarations, (text, encodes, takes)), fresh) = ap (λ (r : Reader). r.features) takes.moved
-
 -- The operators of a body whose locals were read.
-pub ends_body : {X : Type 0} (result : Result X Error) (body : Reader) (opened : State) (placed : Placed) → OpensBody (Ok opened) body →
+pub ends_body : {X : Type 0} → OfLocals → (result : Result X Error) (body : Reader) (opened : State) (placed : Placed) → OpensBody (Ok opened) body →
     EndsOperators result opened placed → EndsBody result body placed
-ends_body (Ok x) body opened placed ((declarations, past), fresh) h = (declarations, body_after_locals body opened.reader declarations placed past h)
-ends_body (Err e) body opened placed opens h = inr (record { opened = opened; opens = opens; stopped = h.0; reads = h.1 })
+ends_body of_locals (Ok x) body opened placed ((declarations, past), fresh) h = (declarations, of_locals body opened.reader declarations placed past h)
+ends_body of_locals (Err e) body opened placed opens h = inr (record { opened = opened; opens = opens; stopped = h.0; reads = h.1 })
 
 -- When reading its operators may allocate.
 pub memory_body : {X : Type 0} (result : Result X Error) (body : Reader) (opened : State) (placed : Placed) → OpensBody (Ok opened) body →
@@ -122,11 +99,3 @@ memory_body (Err e) body opened placed opens h = λ is. record { opened = opened
 -- Reading locals does not allocate.
 pub no_memory : (P : Type 0) (e : Error) (body : Reader) → RefusesLocals e body → e.message ≡ message.OutOfMemory → P
 no_memory P e body h is = absurd (subst IsReadFault is h.refusal.fault)
-
--- A body whose locals are an error.
-pub refused_locals : (e : Error) (body : Reader) → RefusesLocals e body → StopsBody e body []
-refused_locals e body h = inl (record { refused = h; nothing = refl })
-
--- The bytes after the locals end where the body ends.
-pub opened_end : (body : Reader) (opened : State) → OpensBody (Ok opened) body → end_of opened.reader ≡ end_of body
-opened_end body opened ((declarations, (text, encodes, takes)), fresh) = ap end_of takes.moved

@@ -20,7 +20,7 @@ use Rattle.wasm_c.specs.declared.reader.WasmReader.{WasmReader}
 use Rattle.wasm_c.specs.declared.refusal.WasmRefusal.{WasmRefusal}
 use Rattle.wasm_c.specs.Refused.{refusal_of, refusal_at, misuse}
 use Rattle.wasm_c.specs.Steps.{reader_at, state_at, fresh_reader, TakesPlain, ReadsEach, OpensExpression, OpensAfterLocals, OpensPlain, FinishesPlain}
-use Rattle.wasm_c.proofs.Cited.{Fresh, OfTree}
+use Rattle.wasm_c.proofs.Cited.{Fresh, OfTree, OfLocals}
 use Rattle.wasm_c.proofs.Found.{ends_body}
 
 -- ---- reads, one after another
@@ -139,13 +139,13 @@ body_there r bytes offset features old new [] frames_new o zero (inl known) (inl
 body_there r bytes offset features old new (f ∷ fs) frames_new o zero (inl known) (inl within) =
     after_locals r bytes offset features old new (f ∷ fs) frames_new (o.opens known within (λ none. cc none)) zero
 
-pub whole_body_read : HasLaws → (opening end : WasmRefusal) (bytes : List ℕ) (offset features : ℕ) (before opened last : WasmReader)
+pub whole_body_read : OfLocals → HasLaws → (opening end : WasmRefusal) (bytes : List ℕ) (offset features : ℕ) (before opened last : WasmReader)
     (frames_before frames_opened frames_last : List ℕ) (placed : Placed) →
     OpensPlain opening bytes offset features before opened frames_before frames_opened → opening.number ≡ 0 →
     ReadsEach (state_at bytes opened frames_opened) placed (state_at bytes last frames_last) → FinishesPlain end bytes last frames_last →
     end.number ≡ 0 → (declarations : List Declaration) × EncodesBody (source_of (reader_of (features_of features) offset bytes)) declarations placed
-whole_body_read laws opening end bytes offset features before opened last frames_before frames_opened frames_last placed opens zero reads finish done =
+whole_body_read of_locals laws opening end bytes offset features before opened last frames_before frames_opened frames_last placed opens zero reads finish done =
     let body = body_there opening bytes offset features before opened frames_before frames_opened opens zero (cases_lt features 64)
     (cases_lt (offset + length bytes) (2 ^ 64)) in
-    ends_body {X = Unit {0}} (Ok tt) (reader_of (features_of features) offset bytes) (state_at bytes opened frames_opened) placed body
+    ends_body {X = Unit {0}} of_locals (Ok tt) (reader_of (features_of features) offset bytes) (state_at bytes opened frames_opened) placed body
     (whole_between laws end bytes opened last frames_opened frames_last placed body.1 reads finish done)

@@ -1,5 +1,5 @@
 //! All operators of a body, as C structs in an array.
-ghost use Rattle.std.specs.Prelude.{◌≡◌, ◌<◌, ◌^◌, [], length};
+ghost use Rattle.std.specs.Prelude.{◌≡◌, ◌<◌, ◌^◌, []};
 ghost use Rattle.wasm_operators.specs.below.Source.{reader_of, end_of};
 ghost use Rattle.wasm_operators.specs.Expression.{Placed};
 ghost use Rattle.wasm_operators.specs.MainTheorem.{ReadSoFar};
@@ -9,7 +9,7 @@ use crate::counter::Counter;
 use crate::viewer::Viewer;
 use std::alloc::Global;
 use wasm_operators::{
-    BinaryReader, FunctionBody, OperatorsReader, Result, WasmFeatures, decoding_laws,
+    BinaryReader, FunctionBody, OperatorsReader, Result, WasmFeatures, body_laws, decoding_laws,
     expression_laws, run_laws,
 };
 use wasm_view::WasmOperator;
@@ -96,6 +96,8 @@ pub fn read_body(
     requires { IsWithin offset bytes.now }
     ensures { (placed : Placed) × FindsBody result.end (reader_of features offset bytes.now) result.count out.old out.new placed }
 {
+    body_laws::past_locals();
+    body_laws::refused_locals();
     let body = FunctionBody::new(BinaryReader::new_features(bytes, offset, features));
     match body.get_operators_reader(alloc) {
         Ok(mut operators) => read_operators(features, &mut operators, out),

@@ -13,7 +13,7 @@ ghost use Rattle.wasm_c.specs.declared.reader.WasmReader.{WasmReader};
 ghost use Rattle.wasm_c.specs.declared.refusal.WasmRefusal.{WasmRefusal};
 ghost use Rattle.wasm_c.specs.Steps.{IsReader, state_at, FindsNoRoom, TakesPlain, ReadsEach, OpensExpression, OpensPlain, FinishesPlain};
 
-use wasm_operators::{WasmFeatures, expression_laws, run_laws};
+use wasm_operators::{WasmFeatures, body_laws, expression_laws, run_laws};
 
 /// States that successive calls of `wasm_next` and `wasm_read` are a list of reads.
 pub fn reads_follow()
@@ -51,6 +51,7 @@ pub fn whole_body()
         → (declarations : List Declaration)
         × EncodesBody (source_of (reader_of (features_of features) offset bytes)) declarations placed }
 {
+    body_laws::past_locals();
     run_laws::fresh_readers();
     run_laws::single_reads();
     run_laws::read_to_the_end();

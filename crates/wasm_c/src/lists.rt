@@ -1,7 +1,5 @@
 //! The list of the operator at an offset.
 ghost use Rattle.std.specs.Prelude.{◌≡◌, ◌<◌, ◌≤◌, ◌+◌, ◌^◌, length, IfSome, IfNone, Ok, Err};
-ghost use Rattle.wasm_operators.specs.below.Source.{Reader};
-ghost use Rattle.wasm_operators.specs.below.bytes.features.WasmFeatures.{WasmFeatures};
 ghost use Rattle.wasm_view.specs.Lists.{targets_of, types_of, catches_of, handles_of};
 ghost use Rattle.wasm_c.specs.Members.{bytes_at, ReadsAt, ReturnsList};
 ghost use Rattle.wasm_c.specs.Reads.{IsWithin};

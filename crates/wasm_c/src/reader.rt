@@ -1,6 +1,6 @@
 //! Readers of operators as C structs, with the open frames in an array.
 ghost use Rattle.std.specs.Prelude.{◌≡◌, ◌≤◌, length, IfSome, IfNone, IfOk, IfErr, List, ℕ};
-ghost use Rattle.wasm_operators.specs.below.Source.{reader_of, offset_of, at_position, Takes};
+ghost use Rattle.wasm_operators.specs.below.Source.{reader_of, offset_of, Takes};
 ghost use Rattle.wasm_operators.specs.instr.declared.operator.Operator.{Operator};
 ghost use Rattle.wasm_operators.specs.instr.Roles.{role_of};
 ghost use Rattle.wasm_operators.specs.opcodes.Allowed.{EncodesAllowed};

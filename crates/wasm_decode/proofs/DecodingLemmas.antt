@@ -1,14 +1,13 @@
 -- From the first byte of an operator to its visit.
-use Rattle.std.proofs.Common.{◌≡◌, ◌≢◌, ℕ, suc, ◌+◌, ◌≤◌, ◌<◌, inl, inr, Bool, true, false, List, [], ◌∷◌, ◌++◌, length, length-append, Option, Some, None, Result, Ok, Err, refl, sym, subst, ap, ◌∙◌, append_assoc, arith}
+use Rattle.std.proofs.Common.{◌≡◌, ◌≢◌, ℕ, ◌+◌, ◌≤◌, ◌<◌, inl, inr, Bool, true, false, List, [], ◌∷◌, ◌++◌, length, Option, Some, None, Result, Ok, Err, refl, sym, subst, ap, ◌∙◌, append_assoc, arith}
 use Rattle.wasm_visit.specs.below.bytes.error.Error.{Error}
 use Rattle.wasm_visit.specs.below.bytes.features.WasmFeatures.{WasmFeatures}
 use Rattle.wasm_visit.specs.below.bytes.message.Message.{Message}
 use Rattle.wasm_visit.specs.below.bytes.message.Message.TheVariants as message
 use Rattle.wasm_visit.specs.below.Number.{EncodesUnsigned}
 use Rattle.wasm_visit.specs.below.Refusal.{IsReadFault}
-use Rattle.wasm_visit.specs.below.Source.{Reader, rest, offset_of, end_of, at_position, Takes, NoPrefix, MayFollow, BeginsWith, IsRefusal, Reads, IsByte, IsEndHere, U32Fault}
+use Rattle.wasm_visit.specs.below.Source.{Reader, rest, at_position, Takes, BeginsWith, IsRefusal, Reads, IsByte, U32Fault}
 use Rattle.wasm_visit.proofs.of_below.Blocks.{refused_now}
-use Rattle.wasm_visit.proofs.of_below.Faults.{none_here}
 use Rattle.wasm_visit.proofs.of_below.TakesLemmas.{takes_then, rewound, first_byte_read, within_buffer}
 use Rattle.wasm_visit.specs.grammar.declared.frame_kind.FrameKind.{FrameKind}
 use Rattle.wasm_visit.specs.instr.declared.operator.Operator.{Operator}
@@ -70,52 +69,9 @@ occurs old mid code start r same =
       record { begun = omega (arith, same, position); opcode = (code ∷ [], refl, subst (λ z. Takes z mid (code ∷ [])) (sym back) f.2) },
     )
 
-some_head : (p : Option ℕ) (code : ℕ) (head : List ℕ) → EncodesOpcode p code head → 0 < length head
-some_head None code head h = let n : length head ≡ 1 = ap length h in omega arith
-some_head (Some p) code head (number, h, u) = let n : length head ≡ suc (length number) = ap length h in omega arith
-
 no_prefixes : (g : Option Guard) (ks : List Kind) → guarded_entry g ks ≡ prefixes → ⊥
 no_prefixes None ks e = cc e
 no_prefixes (Some g) ks e = cc e
-
--- the encoding of an operator is not empty
-none_empty : (f : WasmFeatures) (k : FrameKind) → NoPrefix (EncodesAllowed f k) []
-none_empty f k text left op s eq =
-    let some = some_head (prefix_of op) (opcode_of op) s.0.head s.0.code in
-    let whole : 0 ≡ length s.0.head + length s.0.after + length left = ap length eq ∙ length-append text left ∙ ap (λ z. length z + length left) s.0.parts ∙
-    ap (λ z. z + length left) (length-append s.0.head s.0.after) in
-    omega arith
-
--- no byte is left
-pub refuses_end : (k : FrameKind) (e : Error) (old new : Reader) → (new ≡ old) × IsRefusal IsByte e old → IsEndHere e old →
-    RefusesOperator (EncodesAllowed old.features k) (OperatorFault old.features k) e old new
-refuses_end k e old new (same, h) end = (
-  same,
-  record {
-    refuses = λ more follow. (
-        let none : more ≡ [] = subst (λ m. MayFollow m more) end.0 follow in
-        let left : rest old ≡ [] = none_here old end.2 in
-        let all : rest old ++ more ≡ [] = ap (λ z. z ++ more) left ∙ none in
-        subst (NoPrefix (EncodesAllowed old.features k)) (sym all) (none_empty old.features k)
-        );
-    ahead = h.ahead;
-    memory = λ m. absurd (subst IsReadFault m h.fault);
-  },
-  λ some. inl (refused_now IsByte e old h, end),
-)
-
--- no frame is open
-pub refuses_closed : (E : FrameKind → List ℕ → Operator → Type 0) (F : FrameKind → Message → Reader → ℕ → Type 0) (e : Error) (old : Reader) →
-    e.message ≡ message.OperatorsRemaining → e.offset ≡ offset_of old → offset_of old ≤ end_of old → RefusesOperator (EncodesIn E None) (FaultIn F None) e old old
-refuses_closed E F e old m at within = (
-  refl,
-  record {
-    refuses = λ more follow text left op s eq. s;
-    ahead = (omega (arith, at), omega (arith, at, within));
-    memory = λ z. absurd (cc (sym m ∙ z));
-  },
-  λ some. (m, at),
-)
 
 -- the reader is after the subopcode that it read
 pub is_after_code : (start p code : ℕ) (mid now : Reader) → IsAfterCode start None p mid → Reads (EncodesUnsigned 32) (Ok code) mid now →
@@ -188,13 +144,6 @@ refuses_subopcode k start p e mid now new small is b (same, h) fault went = go b
           ),
         )
 
--- decoding after the subopcode is decoding after the prefix byte
-pub after_prefix : {V A : Type 0} (visits : V → Operator → A → V → Type 0) (k : FrameKind) (start : ℕ) (mid now new : Reader) (v w : V) (result : Result A Error) →
-    now ≡ at_position mid now.position → Decodes visits (EncodesAllowed now.features k) (OperatorFault now.features k) result (at_position now start) new v w →
-    Decodes visits (EncodesAllowed mid.features k) (OperatorFault mid.features k) result (at_position mid start) new v w
-after_prefix visits k start mid now new v w result stays h =
-    subst (λ (z : Reader). Decodes visits (EncodesAllowed z.features k) (OperatorFault z.features k) result (at_position z start) new v w) stays h
-
 pub vector_prefix : (op : Operator) → IsVector op → prefix_of op ≡ Some 0xfd
 vector_prefix (operator.Simd op) h = refl
 vector_prefix op h = absurd h
@@ -202,10 +151,6 @@ vector_prefix op h = absurd h
 abbrev number_in : Option ℕ → ℕ
 number_in None = 0
 number_in (Some n) = n
-
-pub prefix_vector : (op : Operator) → prefix_of op ≡ Some 0xfd → IsVector op
-prefix_vector (operator.Simd op) e = tt
-prefix_vector op e = absurd (omega (arith, ap number_in e))
 
 -- an operator that does not start with the byte 0xfd is not a SIMD operator
 scalar_after : (f : WasmFeatures) (op : Operator) (code : ℕ) (text after left : List ℕ) → code ≢ 0xfd → EncodesOperator f op text → code ∷ after ≡ text ++ left → ¬ IsVector op
@@ -250,41 +195,6 @@ to_scalar {V} {A} visits k start code mid new v w result other b h = go b.opcode
         let parts : rest (at_position mid start) ≡ code ∷ rest mid = t.parts ∙ ap (λ z. z ++ rest mid) opcode in (
           same,
           (went, refused_scalar mid.features k e (at_position mid start) h, λ some. inr (other_byte code (rest mid) (rest (at_position mid start)) other parts, fault some)),
-        )
-
--- no byte is left, for a visitor without SIMD operators
-pub refuses_end_scalar : (k : FrameKind) (e : Error) (old new : Reader) → (new ≡ old) × IsRefusal IsByte e old → IsEndHere e old →
-    RefusesOperator (EncodesScalar old.features k) (ScalarOperatorFault old.features k) e old new
-refuses_end_scalar k e old new r end =
-    let h = refuses_end k e old new r end in
-    (h.0, refused_scalar old.features k e old h.1, λ some. inr ((λ b. empty b.0 (sym (none_here old end.2) ∙ b.1)), h.2 some))
-  where
-    empty : (more : List ℕ) → [] ≡ 0xfd ∷ more → ⊥
-    empty more q = cc q
-
--- the byte 0xfd, whatever follows
-pub refuses_vector : (k : FrameKind) (start : ℕ) (e : Error) (mid new : Reader) → entry_at None 0xfd ≡ prefixes → IsAfterCode start None 0xfd mid → new ≡ at_position mid start →
-    e.message ≡ message.UnexpectedSimd → e.offset ≡ mid.start + start →
-    RefusesOperator (EncodesScalar mid.features k) (ScalarOperatorFault mid.features k) e (at_position mid start) new
-refuses_vector k start e mid new is b went m at = go b.opcode
-  where
-    go : Reads (λ text it. EncodesOpcode None it text) (Ok 0xfd) (at_position mid start) mid →
-        RefusesOperator (EncodesScalar mid.features k) (ScalarOperatorFault mid.features k) e (at_position mid start) new
-    go (head, opcode, t) =
-        let parts : rest (at_position mid start) ≡ 0xfd ∷ rest mid = t.parts ∙ ap (λ z. z ++ rest mid) opcode in
-        let within = within_after_code start None 0xfd mid b in
-        let begun = b.begun in (
-          went,
-          record {
-            refuses = λ more follow text left op s eq.
-                (
-                let o = begins_prefix mid.features op 0xfd text (rest mid ++ more) left is s.0.0 (ap (λ z. z ++ more) (sym parts) ∙ eq) in
-                s.1 (prefix_vector op o.2)
-                );
-            ahead = (omega (arith, at), omega (arith, at, within, begun));
-            memory = λ z. absurd (cc (sym m ∙ z));
-          },
-          λ some. inl ((rest mid, parts), m, at),
         )
 
 -- from the position after the opcode to the operator's start

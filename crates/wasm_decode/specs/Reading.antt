@@ -15,8 +15,7 @@ abbrev pub DecodesOperator : (List ℕ → Operator → Type 0) → (Message →
 DecodesOperator Encodes Fault (Ok op) old new = (text : List ℕ) × Encodes text op × Takes old new text
 DecodesOperator Encodes Fault (Err e) old new = RefusesOperator Encodes Fault e old new
 
--- `DecodesOperator` for a call after the opcode of an operator that began at `start`. On `Err` the
--- reader goes back to `start`.
+-- `DecodesOperator` for a call after the opcode, as in `DecodesAt`.
 abbrev pub DecodesOperatorAt : FrameKind → ℕ → Result Operator Error → Reader → Reader → Type 0
 DecodesOperatorAt frame start result old new =
     DecodesOperator (EncodesAllowed old.features frame) (OperatorFault old.features frame) result (at_position old start) new

@@ -4,7 +4,7 @@
 //! The call borrows a copy of the reader and a place for an error: the caller's reader and the
 //! result stay in registers. It is cold, so that the compiler places the code around it after the
 //! loop.
-ghost use Rattle.std.specs.Prelude.{◌≡◌, ℕ, Option, Ok, Err, IfSome, IfNone};
+ghost use Rattle.std.specs.Prelude.{ℕ, Option, Ok, Err, IfSome, IfNone};
 ghost use Rattle.wasm_visit.specs.grammar.declared.frame_kind.FrameKind.{FrameKind};
 ghost use Rattle.wasm_visit.specs.opcodes.Decoding.{IsAfterCode, DecodesAt};
 

@@ -1,5 +1,5 @@
 //! Reads an operator by the visitor `Factory` or, with the prefix byte 0xfb, by `GcFactory`.
-ghost use Rattle.std.specs.Prelude.{◌≡◌, ◌≢◌, None, Some, Ok, Err, IfSome, IfNone};
+ghost use Rattle.std.specs.Prelude.{◌≢◌, None, Some, Ok, Err, IfSome, IfNone};
 ghost use Rattle.wasm_decode.specs.Reading.{DecodesOperatorIn, DecodesOperatorAt, DecodesGcAt};
 ghost use Rattle.wasm_visit.specs.grammar.declared.frame_kind.FrameKind.{FrameKind};
 ghost use Rattle.wasm_visit.specs.opcodes.Decoding.{IsAfterCode};

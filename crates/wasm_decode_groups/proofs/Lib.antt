@@ -1,3 +1,4 @@
+pub mod Arms
 pub mod Codes
 pub mod WithoutImmediates
 pub mod Ranges

@@ -1,3 +1,4 @@
+pub mod Arms
 pub mod OneByte
 pub mod WithoutImmediates
 pub use Rattle.wasm_visit_groups.specs.below as below

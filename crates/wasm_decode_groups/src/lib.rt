@@ -2,25 +2,29 @@
 //! immediates, and calls the visit.
 #![tactic(auto)]
 
+mod arm;
 mod atomic_operators;
 mod gc_operators;
-mod guarded;
 mod misc_operators;
 mod numeric_operators;
+mod one_byte_arms;
 mod one_byte_operators;
 mod out_of_line;
 mod simd_high_operators;
 mod simd_low_operators;
 mod vectors_without_immediates;
 
-pub use atomic_operators::atomic;
-pub use gc_operators::gc;
-pub use misc_operators::misc;
+pub use arm::{ByAny, Own};
+pub use atomic_operators::{AtAtomic, atomic, atomic_by};
+pub use gc_operators::{AtGc, gc, gc_by};
+pub use misc_operators::{AtMisc, misc, misc_by};
 pub use numeric_operators::numeric;
-pub use one_byte_operators::{common_one_byte, one_byte};
-pub use out_of_line::other_one_byte;
-pub use simd_high_operators::simd_high;
-pub use simd_low_operators::simd_low;
+pub use one_byte_operators::{
+    AtOneByte, common_one_byte, common_one_byte_by, one_byte, one_byte_by,
+};
+pub use out_of_line::{other_one_byte, other_one_byte_by};
+pub use simd_high_operators::{AtSimdHigh, simd_high, simd_high_by};
+pub use simd_low_operators::{AtSimdLow, simd_low, simd_low_by};
 pub use vectors_without_immediates::{
     has_no_immediates, simd_high_without_immediates, simd_low_without_immediates,
 };

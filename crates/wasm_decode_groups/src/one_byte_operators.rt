@@ -1,23 +1,24 @@
 //! Decoding of operators with a one-byte opcode. Written by tools/lists.py from tools/operators.tsv.
-ghost use Rattle.std.specs.Prelude.{◌≡◌, ◌≤◌, ◌<◌, [], ◌∷◌, Some, None, IfSome, IfNone};
+ghost use Rattle.std.specs.Prelude.{◌≡◌, [], ◌∷◌, None, IfSome, IfNone};
 ghost use Rattle.wasm_visit_groups.specs.grammar.declared.frame_kind.FrameKind.{FrameKind};
-ghost use Rattle.wasm_visit_groups.specs.instr.Immediate.{unsigned_32, signed_32, memory_argument, memory_index, block_type, is_unsigned_32, is_memory_index, is_block_type, is_memory_argument};
-ghost use Rattle.wasm_decode_opcodes.specs.Decoding.{DecodesAt, IsAfterCode, VisitsRow};
-ghost use Rattle.wasm_decode_opcodes.specs.Entries.{entry_at, align_at};
-ghost use Rattle.wasm_decode_opcodes.specs.Entry.{free};
+ghost use Rattle.wasm_visit_groups.specs.instr.Immediate.{is_memory_argument};
+ghost use Rattle.wasm_decode_opcodes.specs.Decoding.{DecodesAt, IsAfterCode};
+ghost use Rattle.wasm_decode_opcodes.specs.Entries.{align_at};
+ghost use Rattle.wasm_decode_groups.specs.Arms.{HasKindsAt};
 ghost use Rattle.wasm_decode_groups.specs.OneByte.{IsOneByteCode};
 
-use crate::guarded::{
-    else_in_if, legacy_catch, legacy_catch_all, legacy_delegate, legacy_try, resume, resume_throw,
-    resume_throw_ref, try_table, typed_select,
-};
-use crate::out_of_line::other_one_byte;
+use crate::arm::{At, ByAny, Maker, Makes, Own, arm};
+use crate::one_byte_arms::{AtList, OneByte, guarded_arm, list_arm};
+use crate::out_of_line::other_one_byte_by;
 use std::alloc::Global;
-use wasm_decode_opcodes::{immediates, unknown_opcode};
-use wasm_visit_groups::VisitOneByte;
-use wasm_visit_groups::below::{BinaryReader, Result};
+use wasm_decode_opcodes::{Guard, MemoryIndex, Only, PlainMemArg, TableIndex, unknown_opcode};
+use wasm_visit_groups::below::{BinaryReader, HeapType, Result};
 use wasm_visit_groups::grammar::FrameKind;
-use wasm_visit_groups::imm::{BlockType, MemArg, MemArgKind};
+use wasm_visit_groups::imm::{
+    BlockType, Ieee32, Ieee64, MemArgKind, ResumeTable, Select, TryTable,
+};
+use wasm_visit_groups::instr::Operator;
+use wasm_visit_groups::{VisitOneByte, Visitor};
 
 /// Reads the immediates of an operator with a one-byte opcode and visits it. Common operators are
 /// inlined.
@@ -34,9 +35,27 @@ pub fn one_byte<V: VisitOneByte>(
     requires apart { IsOneByteCode code }
     ensures { DecodesAt V.visits frame start result reader.old reader.new v.old v.new }
 {
-    match common_one_byte(v, reader, start, code) {
+    one_byte_by::<V, Own>(alloc, v, reader, start, frame, code)
+}
+
+/// Reads the immediates of an operator with a one-byte opcode and passes them to `R`. Common
+/// operators are inlined.
+#[inline(always)]
+pub fn one_byte_by<V: Visitor, R: AtOneByte<V>>(
+    alloc: Global,
+    v: &mut V,
+    reader: &mut BinaryReader<'_>,
+    start: usize,
+    frame: FrameKind,
+    code: u8,
+) -> Result<V::Output>
+    requires after { IsAfterCode start None code reader.old }
+    requires apart { IsOneByteCode code }
+    ensures { DecodesAt V.visits frame start result reader.old reader.new v.old v.new }
+{
+    match common_one_byte_by::<V, R>(v, reader, start, code) {
         Some(outcome) => outcome,
-        None => other_one_byte(alloc, v, reader, start, frame, code),
+        None => other_one_byte_by::<V, R>(alloc, v, reader, start, frame, code),
     }
 }
 
@@ -57,29 +76,55 @@ pub fn common_one_byte<V: VisitOneByte>(
     ensures reader { IfNone result (reader.new ≡ reader.old) }
     ensures visitor { IfNone result (v.new ≡ v.old) }
 {
+    common_one_byte_by::<V, Own>(v, reader, start, code)
+}
+
+/// Reads the immediates of an operator with a one-byte opcode and passes them to `R`, if its opcode
+/// is a common one.
+///
+/// Returns `None` for other opcodes. Then nothing changes.
+#[inline(always)]
+pub fn common_one_byte_by<V: Visitor, R: AtOneByte<V>>(
+    v: &mut V,
+    reader: &mut BinaryReader<'_>,
+    start: usize,
+    code: u8,
+) -> Option<Result<V::Output>>
+    requires { IsAfterCode start None code reader.old }
+    ensures common { IfSome result
+        (λ outcome. (frame : FrameKind) → DecodesAt V.visits frame start outcome reader.old reader.new v.old v.new) }
+    ensures reader { IfNone result (reader.new ≡ reader.old) }
+    ensures visitor { IfNone result (v.new ≡ v.old) }
+{
     match code {
-        0x02..=0x04 => Some(block_type(v, reader, start, code)),
-        0x20..=0x26 => Some(unsigned(v, reader, start, code)),
-        0x28..=0x3e => Some(memory(v, reader, start, code)),
-        0x41 => Some(i32_const(v, reader, start)),
-        0x42 => Some(i64_const(v, reader, start)),
-        0x00 => Some(unreachable_alone(v, reader, start)),
-        0x01 => Some(nop_alone(v, reader, start)),
-        0x0b => Some(end_alone(v, reader, start)),
-        0x0c => Some(br_alone(v, reader, start)),
-        0x0d => Some(br_if_alone(v, reader, start)),
-        0x0f => Some(return_alone(v, reader, start)),
-        0x10 => Some(call_alone(v, reader, start)),
-        0x1a => Some(drop_alone(v, reader, start)),
-        0x1b => Some(select_alone(v, reader, start)),
+        0x02..=0x04 => Some(arm::<V, OneByte, BlockType, R>(v, reader, start, code as u32, 0)),
+        0x20..=0x26 => Some(arm::<V, OneByte, u32, R>(v, reader, start, code as u32, 0)),
+        0x28..=0x3e => Some(arm::<V, OneByte, PlainMemArg, R>(
+            v,
+            reader,
+            start,
+            code as u32,
+            align_of_memory(code as u32),
+        )),
+        0x41 => Some(arm::<V, OneByte, i32, R>(v, reader, start, 0x41, 0)),
+        0x42 => Some(arm::<V, OneByte, i64, R>(v, reader, start, 0x42, 0)),
+        0x00 => Some(arm::<V, OneByte, Only<0x00, ()>, R>(v, reader, start, 0x00, 0)),
+        0x01 => Some(arm::<V, OneByte, Only<0x01, ()>, R>(v, reader, start, 0x01, 0)),
+        0x0b => Some(arm::<V, OneByte, Only<0x0b, ()>, R>(v, reader, start, 0x0b, 0)),
+        0x0c => Some(arm::<V, OneByte, Only<0x0c, u32>, R>(v, reader, start, 0x0c, 0)),
+        0x0d => Some(arm::<V, OneByte, Only<0x0d, u32>, R>(v, reader, start, 0x0d, 0)),
+        0x0f => Some(arm::<V, OneByte, Only<0x0f, ()>, R>(v, reader, start, 0x0f, 0)),
+        0x10 => Some(arm::<V, OneByte, Only<0x10, u32>, R>(v, reader, start, 0x10, 0)),
+        0x1a => Some(arm::<V, OneByte, Only<0x1a, ()>, R>(v, reader, start, 0x1a, 0)),
+        0x1b => Some(arm::<V, OneByte, Only<0x1b, ()>, R>(v, reader, start, 0x1b, 0)),
         _ => None,
     }
 }
 
-/// Reads the immediates of an operator with a one-byte opcode and visits it. Every operator has an
-/// arm here.
+/// Reads the immediates of an operator with a one-byte opcode and passes them to `R`. Every
+/// operator has an arm here.
 #[inline(always)]
-pub fn any_one_byte<V: VisitOneByte>(
+pub fn any_one_byte_by<V: Visitor, R: AtOneByte<V>>(
     alloc: Global,
     v: &mut V,
     reader: &mut BinaryReader<'_>,
@@ -92,202 +137,232 @@ pub fn any_one_byte<V: VisitOneByte>(
     ensures { DecodesAt V.visits frame start result reader.old reader.new v.old v.new }
 {
     match code {
-        0x00..=0x01 => without_immediates(v, reader, start, code),
-        0x0a..=0x0b => without_immediates(v, reader, start, code),
-        0x0f => without_immediates(v, reader, start, code),
-        0x1a..=0x1b => without_immediates(v, reader, start, code),
-        0xd1 => without_immediates(v, reader, start, code),
-        0xd3..=0xd4 => without_immediates(v, reader, start, code),
-        0x02..=0x04 => block_type(v, reader, start, code),
-        0x08..=0x09 => unsigned(v, reader, start, code),
-        0x0c..=0x0d => unsigned(v, reader, start, code),
-        0x10 => unsigned(v, reader, start, code),
-        0x12 => unsigned(v, reader, start, code),
-        0x14..=0x15 => unsigned(v, reader, start, code),
-        0x20..=0x26 => unsigned(v, reader, start, code),
-        0xd2 => unsigned(v, reader, start, code),
-        0xd5..=0xd6 => unsigned(v, reader, start, code),
-        0xe0 => unsigned(v, reader, start, code),
-        0xe2 => unsigned(v, reader, start, code),
-        0x11 => call_indirect(v, reader, start),
-        0x28..=0x3e => memory(v, reader, start, code),
-        0x3f..=0x40 => memory_index(v, reader, start, code),
-        0x41 => i32_const(v, reader, start),
-        0x42 => i64_const(v, reader, start),
-        0x43 => f32_const(v, reader, start),
-        0x44 => f64_const(v, reader, start),
-        0xd0 => ref_null(v, reader, start),
-        0x13 => two_unsigned(v, reader, start, code),
-        0xe1 => two_unsigned(v, reader, start, code),
-        0xe6 => two_unsigned(v, reader, start, code),
-        0x05 => else_in_if(v, reader, start, frame),
-        0x1c => typed_select(alloc, v, reader, start),
-        0x1f => try_table(alloc, v, reader, start),
-        0x06 => legacy_try(v, reader, start, frame),
-        0x07 => legacy_catch(v, reader, start, frame),
-        0x18 => legacy_delegate(v, reader, start, frame),
-        0x19 => legacy_catch_all(v, reader, start, frame),
-        0xe3 => resume(alloc, v, reader, start),
-        0xe4 => resume_throw(alloc, v, reader, start),
-        0xe5 => resume_throw_ref(alloc, v, reader, start),
+        0x00..=0x01 => arm::<V, OneByte, (), R>(v, reader, start, code as u32, 0),
+        0x0a..=0x0b => arm::<V, OneByte, (), R>(v, reader, start, code as u32, 0),
+        0x0f => arm::<V, OneByte, (), R>(v, reader, start, 0x0f, 0),
+        0x1a..=0x1b => arm::<V, OneByte, (), R>(v, reader, start, code as u32, 0),
+        0xd1 => arm::<V, OneByte, (), R>(v, reader, start, 0xd1, 0),
+        0xd3..=0xd4 => arm::<V, OneByte, (), R>(v, reader, start, code as u32, 0),
+        0x02..=0x04 => arm::<V, OneByte, BlockType, R>(v, reader, start, code as u32, 0),
+        0x08..=0x09 => arm::<V, OneByte, u32, R>(v, reader, start, code as u32, 0),
+        0x0c..=0x0d => arm::<V, OneByte, u32, R>(v, reader, start, code as u32, 0),
+        0x10 => arm::<V, OneByte, u32, R>(v, reader, start, 0x10, 0),
+        0x12 => arm::<V, OneByte, u32, R>(v, reader, start, 0x12, 0),
+        0x14..=0x15 => arm::<V, OneByte, u32, R>(v, reader, start, code as u32, 0),
+        0x20..=0x26 => arm::<V, OneByte, u32, R>(v, reader, start, code as u32, 0),
+        0xd2 => arm::<V, OneByte, u32, R>(v, reader, start, 0xd2, 0),
+        0xd5..=0xd6 => arm::<V, OneByte, u32, R>(v, reader, start, code as u32, 0),
+        0xe0 => arm::<V, OneByte, u32, R>(v, reader, start, 0xe0, 0),
+        0xe2 => arm::<V, OneByte, u32, R>(v, reader, start, 0xe2, 0),
+        0x11 => arm::<V, OneByte, (u32, TableIndex), R>(v, reader, start, 0x11, 0),
+        0x28..=0x3e => arm::<V, OneByte, PlainMemArg, R>(
+            v,
+            reader,
+            start,
+            code as u32,
+            align_of_memory(code as u32),
+        ),
+        0x3f..=0x40 => arm::<V, OneByte, MemoryIndex, R>(v, reader, start, code as u32, 0),
+        0x41 => arm::<V, OneByte, i32, R>(v, reader, start, 0x41, 0),
+        0x42 => arm::<V, OneByte, i64, R>(v, reader, start, 0x42, 0),
+        0x43 => arm::<V, OneByte, Ieee32, R>(v, reader, start, 0x43, 0),
+        0x44 => arm::<V, OneByte, Ieee64, R>(v, reader, start, 0x44, 0),
+        0xd0 => arm::<V, OneByte, HeapType, R>(v, reader, start, 0xd0, 0),
+        0x13 => arm::<V, OneByte, (u32, u32), R>(v, reader, start, 0x13, 0),
+        0xe1 => arm::<V, OneByte, (u32, u32), R>(v, reader, start, 0xe1, 0),
+        0xe6 => arm::<V, OneByte, (u32, u32), R>(v, reader, start, 0xe6, 0),
+        0x05 => guarded_arm::<V, (), R>(v, reader, start, frame, 0x05, Guard::Else),
+        0x06 => guarded_arm::<V, BlockType, R>(v, reader, start, frame, 0x06, Guard::Try),
+        0x07 => guarded_arm::<V, u32, R>(v, reader, start, frame, 0x07, Guard::Catch),
+        0x18 => guarded_arm::<V, u32, R>(v, reader, start, frame, 0x18, Guard::Delegate),
+        0x19 => guarded_arm::<V, (), R>(v, reader, start, frame, 0x19, Guard::CatchAll),
+        0x1c => list_arm::<V, Select, R>(alloc, v, reader, start, 0x1c),
+        0x1f => list_arm::<V, TryTable, R>(alloc, v, reader, start, 0x1f),
+        0xe3 => list_arm::<V, (u32, ResumeTable), R>(alloc, v, reader, start, 0xe3),
+        0xe4 => list_arm::<V, (u32, (u32, ResumeTable)), R>(alloc, v, reader, start, 0xe4),
+        0xe5 => list_arm::<V, (u32, ResumeTable), R>(alloc, v, reader, start, 0xe5),
         _ => Err(unknown_opcode(reader, start, code)),
     }
 }
 
-/// Visits an operator without immediates.
-#[inline(always)]
-fn without_immediates<V: VisitOneByte>(
-    v: &mut V,
-    reader: &mut BinaryReader<'_>,
-    start: usize,
-    code: u8,
-) -> Result<V::Output>
-    requires after { IsAfterCode start None code reader.old }
-    requires kinds { entry_at None code ≡ free ([]) }
-    requires bound { 0x45 ≤ code → code ≤ 0xc4 → ⊥ }
-    ensures { (frame : FrameKind) → DecodesAt V.visits frame start result reader.old reader.new v.old v.new }
-{
-    Ok(visit_without_immediates(v, code))
-}
+/// A route for the operators with a one-byte opcode.
+pub trait AtOneByte<V: Visitor>: At<V, OneByte, ()>
+    + At<V, OneByte, BlockType>
+    + At<V, OneByte, u32>
+    + At<V, OneByte, (u32, TableIndex)>
+    + At<V, OneByte, PlainMemArg>
+    + At<V, OneByte, MemoryIndex>
+    + At<V, OneByte, i32>
+    + At<V, OneByte, i64>
+    + At<V, OneByte, Ieee32>
+    + At<V, OneByte, Ieee64>
+    + At<V, OneByte, HeapType>
+    + At<V, OneByte, (u32, u32)>
+    + At<V, OneByte, Only<0x00, ()>>
+    + At<V, OneByte, Only<0x01, ()>>
+    + At<V, OneByte, Only<0x0b, ()>>
+    + At<V, OneByte, Only<0x0c, u32>>
+    + At<V, OneByte, Only<0x0d, u32>>
+    + At<V, OneByte, Only<0x0f, ()>>
+    + At<V, OneByte, Only<0x10, u32>>
+    + At<V, OneByte, Only<0x1a, ()>>
+    + At<V, OneByte, Only<0x1b, ()>>
+    + AtList<V, Select>
+    + AtList<V, TryTable>
+    + AtList<V, (u32, ResumeTable)>
+    + AtList<V, (u32, (u32, ResumeTable))> {}
 
-/// Visits the operator with this code.
-#[inline(always)]
-fn visit_without_immediates<V: VisitOneByte>(v: &mut V, code: u8) -> V::Output
-    requires kinds { entry_at None code ≡ free ([]) }
-    requires bound { 0x45 ≤ code → code ≤ 0xc4 → ⊥ }
-    ensures { VisitsRow V.visits None code ([]) v.old result v.new }
-{
-    match code {
-        0x00 => v.visit_unreachable(),
-        0x01 => v.visit_nop(),
-        0x0a => v.visit_throw_ref(),
-        0x0b => v.visit_end(),
-        0x0f => v.visit_return(),
-        0x1a => v.visit_drop(),
-        0x1b => v.visit_select(),
-        0xd1 => v.visit_ref_is_null(),
-        0xd3 => v.visit_ref_eq(),
-        _ => v.visit_ref_as_non_null(),
+impl<V: VisitOneByte> AtOneByte<V> for Own {}
+
+impl<V: Visitor> AtOneByte<V> for ByAny {}
+
+impl Makes<OneByte, ()> for Maker {
+    #[inline(always)]
+    fn make(code: u32, _it: ()) -> Operator<'static> {
+        match code {
+            0x00 => Operator::Unreachable,
+            0x01 => Operator::Nop,
+            0x05 => Operator::Else,
+            0x0a => Operator::ThrowRef,
+            0x0b => Operator::End,
+            0x0f => Operator::Return,
+            0x19 => Operator::CatchAll,
+            0x1a => Operator::Drop,
+            0x1b => Operator::Select,
+            0xd1 => Operator::RefIsNull,
+            0xd3 => Operator::RefEq,
+            _ => Operator::RefAsNonNull,
+        }
     }
 }
 
-/// Reads immediates and visits the operator.
-#[inline(always)]
-fn block_type<V: VisitOneByte>(
-    v: &mut V,
-    reader: &mut BinaryReader<'_>,
-    start: usize,
-    code: u8,
-) -> Result<V::Output>
-    requires after { IsAfterCode start None code reader.old }
-    requires kinds { entry_at None code ≡ free (is_block_type ∷ []) }
-    ensures { (frame : FrameKind) → DecodesAt V.visits frame start result reader.old reader.new v.old v.new }
-{
-    match immediates::block_type(reader, start) {
-        Ok(it) => Ok(visit_block_type(v, code, it)),
-        Err(e) => Err(e),
+impl<V: VisitOneByte> At<V, OneByte, ()> for Own {
+    #[inline(always)]
+    fn at(v: &mut V, code: u32, _it: ()) -> V::Output {
+        match code {
+            0x00 => v.visit_unreachable(),
+            0x01 => v.visit_nop(),
+            0x05 => v.visit_else(),
+            0x0a => v.visit_throw_ref(),
+            0x0b => v.visit_end(),
+            0x0f => v.visit_return(),
+            0x19 => v.visit_catch_all(),
+            0x1a => v.visit_drop(),
+            0x1b => v.visit_select(),
+            0xd1 => v.visit_ref_is_null(),
+            0xd3 => v.visit_ref_eq(),
+            _ => v.visit_ref_as_non_null(),
+        }
     }
 }
 
-/// Visits the operator with this code.
-#[inline(always)]
-fn visit_block_type<V: VisitOneByte>(v: &mut V, code: u8, it: BlockType) -> V::Output
-    requires { entry_at None code ≡ free (is_block_type ∷ []) }
-    ensures { VisitsRow V.visits None code (block_type it ∷ []) v.old result v.new }
-{
-    match code {
-        0x02 => v.visit_block(it),
-        0x03 => v.visit_loop(it),
-        _ => v.visit_if(it),
+impl Makes<OneByte, BlockType> for Maker {
+    #[inline(always)]
+    fn make(code: u32, it: BlockType) -> Operator<'static> {
+        match code {
+            0x02 => Operator::Block { blockty: it },
+            0x03 => Operator::Loop { blockty: it },
+            0x04 => Operator::If { blockty: it },
+            _ => Operator::Try { blockty: it },
+        }
     }
 }
 
-/// Reads immediates and visits the operator.
-#[inline(always)]
-fn unsigned<V: VisitOneByte>(
-    v: &mut V,
-    reader: &mut BinaryReader<'_>,
-    start: usize,
-    code: u8,
-) -> Result<V::Output>
-    requires after { IsAfterCode start None code reader.old }
-    requires kinds { entry_at None code ≡ free (is_unsigned_32 ∷ []) }
-    ensures { (frame : FrameKind) → DecodesAt V.visits frame start result reader.old reader.new v.old v.new }
-{
-    match immediates::unsigned(reader, start) {
-        Ok(it) => Ok(visit_unsigned(v, code, it)),
-        Err(e) => Err(e),
+impl<V: VisitOneByte> At<V, OneByte, BlockType> for Own {
+    #[inline(always)]
+    fn at(v: &mut V, code: u32, it: BlockType) -> V::Output {
+        match code {
+            0x02 => v.visit_block(it),
+            0x03 => v.visit_loop(it),
+            0x04 => v.visit_if(it),
+            _ => v.visit_try(it),
+        }
     }
 }
 
-/// Visits the operator with this code.
-#[inline(always)]
-fn visit_unsigned<V: VisitOneByte>(v: &mut V, code: u8, it: u32) -> V::Output
-    requires { entry_at None code ≡ free (is_unsigned_32 ∷ []) }
-    ensures { VisitsRow V.visits None code (unsigned_32 it ∷ []) v.old result v.new }
-{
-    match code {
-        0x08 => v.visit_throw(it),
-        0x09 => v.visit_rethrow(it),
-        0x0c => v.visit_br(it),
-        0x0d => v.visit_br_if(it),
-        0x10 => v.visit_call(it),
-        0x12 => v.visit_return_call(it),
-        0x14 => v.visit_call_ref(it),
-        0x15 => v.visit_return_call_ref(it),
-        0x20 => v.visit_local_get(it),
-        0x21 => v.visit_local_set(it),
-        0x22 => v.visit_local_tee(it),
-        0x23 => v.visit_global_get(it),
-        0x24 => v.visit_global_set(it),
-        0x25 => v.visit_table_get(it),
-        0x26 => v.visit_table_set(it),
-        0xd2 => v.visit_ref_func(it),
-        0xd5 => v.visit_br_on_null(it),
-        0xd6 => v.visit_br_on_non_null(it),
-        0xe0 => v.visit_cont_new(it),
-        _ => v.visit_suspend(it),
+impl Makes<OneByte, u32> for Maker {
+    #[inline(always)]
+    fn make(code: u32, it: u32) -> Operator<'static> {
+        match code {
+            0x07 => Operator::Catch { tag_index: it },
+            0x08 => Operator::Throw { tag_index: it },
+            0x09 => Operator::Rethrow { relative_depth: it },
+            0x0c => Operator::Br { relative_depth: it },
+            0x0d => Operator::BrIf { relative_depth: it },
+            0x10 => Operator::Call { function_index: it },
+            0x12 => Operator::ReturnCall { function_index: it },
+            0x14 => Operator::CallRef { type_index: it },
+            0x15 => Operator::ReturnCallRef { type_index: it },
+            0x18 => Operator::Delegate { relative_depth: it },
+            0x20 => Operator::LocalGet { local_index: it },
+            0x21 => Operator::LocalSet { local_index: it },
+            0x22 => Operator::LocalTee { local_index: it },
+            0x23 => Operator::GlobalGet { global_index: it },
+            0x24 => Operator::GlobalSet { global_index: it },
+            0x25 => Operator::TableGet { table: it },
+            0x26 => Operator::TableSet { table: it },
+            0xd2 => Operator::RefFunc { function_index: it },
+            0xd5 => Operator::BrOnNull { relative_depth: it },
+            0xd6 => Operator::BrOnNonNull { relative_depth: it },
+            0xe0 => Operator::ContNew {
+                cont_type_index: it,
+            },
+            _ => Operator::Suspend { tag_index: it },
+        }
     }
 }
 
-/// Reads the immediates of `CallIndirect` and visits it.
-#[inline(always)]
-fn call_indirect<V: VisitOneByte>(
-    v: &mut V,
-    reader: &mut BinaryReader<'_>,
-    start: usize,
-) -> Result<V::Output>
-    requires after { IsAfterCode start None 0x11 reader.old }
-    ensures { (frame : FrameKind) → DecodesAt V.visits frame start result reader.old reader.new v.old v.new }
-{
-    match immediates::call_indirect(reader, start) {
-        Ok(it) => Ok(v.visit_call_indirect(it.0, it.1)),
-        Err(e) => Err(e),
+impl<V: VisitOneByte> At<V, OneByte, u32> for Own {
+    #[inline(always)]
+    fn at(v: &mut V, code: u32, it: u32) -> V::Output {
+        match code {
+            0x07 => v.visit_catch(it),
+            0x08 => v.visit_throw(it),
+            0x09 => v.visit_rethrow(it),
+            0x0c => v.visit_br(it),
+            0x0d => v.visit_br_if(it),
+            0x10 => v.visit_call(it),
+            0x12 => v.visit_return_call(it),
+            0x14 => v.visit_call_ref(it),
+            0x15 => v.visit_return_call_ref(it),
+            0x18 => v.visit_delegate(it),
+            0x20 => v.visit_local_get(it),
+            0x21 => v.visit_local_set(it),
+            0x22 => v.visit_local_tee(it),
+            0x23 => v.visit_global_get(it),
+            0x24 => v.visit_global_set(it),
+            0x25 => v.visit_table_get(it),
+            0x26 => v.visit_table_set(it),
+            0xd2 => v.visit_ref_func(it),
+            0xd5 => v.visit_br_on_null(it),
+            0xd6 => v.visit_br_on_non_null(it),
+            0xe0 => v.visit_cont_new(it),
+            _ => v.visit_suspend(it),
+        }
     }
 }
 
-/// Reads immediates and visits the operator.
-#[inline(always)]
-fn memory<V: VisitOneByte>(
-    v: &mut V,
-    reader: &mut BinaryReader<'_>,
-    start: usize,
-    code: u8,
-) -> Result<V::Output>
-    requires after { IsAfterCode start None code reader.old }
-    requires kinds { entry_at None code ≡ free (is_memory_argument MemArgKind.Plain (align_at None code) ∷ []) }
-    ensures { (frame : FrameKind) → DecodesAt V.visits frame start result reader.old reader.new v.old v.new }
-{
-    match immediates::memory(reader, start, align_of_memory(code), MemArgKind::Plain) {
-        Ok(it) => Ok(visit_memory(v, code, it)),
-        Err(e) => Err(e),
+impl Makes<OneByte, (u32, TableIndex)> for Maker {
+    #[inline(always)]
+    fn make(_code: u32, it: (u32, TableIndex)) -> Operator<'static> {
+        Operator::CallIndirect {
+            type_index: it.0,
+            table_index: it.1.0,
+        }
+    }
+}
+
+impl<V: VisitOneByte> At<V, OneByte, (u32, TableIndex)> for Own {
+    #[inline(always)]
+    fn at(v: &mut V, _code: u32, it: (u32, TableIndex)) -> V::Output {
+        v.visit_call_indirect(it.0, it.1.0)
     }
 }
 
 /// Returns the natural alignment as an exponent.
 #[inline(always)]
-fn align_of_memory(code: u8) -> u8
-    requires { entry_at None code ≡ free (is_memory_argument MemArgKind.Plain (align_at None code) ∷ []) }
+fn align_of_memory(code: u32) -> u8
+    requires { HasKindsAt None code (λ bound. is_memory_argument MemArgKind.Plain bound ∷ []) }
     ensures { result ≡ align_at None code }
 {
     match code {
@@ -317,303 +392,248 @@ fn align_of_memory(code: u8) -> u8
     }
 }
 
-/// Visits the operator with this code.
-#[inline(always)]
-fn visit_memory<V: VisitOneByte>(v: &mut V, code: u8, it: MemArg) -> V::Output
-    requires { entry_at None code ≡ free (is_memory_argument MemArgKind.Plain (align_at None code) ∷ []) }
-    ensures { VisitsRow V.visits None code (memory_argument MemArgKind.Plain (align_at None code) it ∷ [])
-        v.old result v.new }
-{
-    match code {
-        0x28 => v.visit_i32_load(it),
-        0x29 => v.visit_i64_load(it),
-        0x2a => v.visit_f32_load(it),
-        0x2b => v.visit_f64_load(it),
-        0x2c => v.visit_i32_load8_s(it),
-        0x2d => v.visit_i32_load8_u(it),
-        0x2e => v.visit_i32_load16_s(it),
-        0x2f => v.visit_i32_load16_u(it),
-        0x30 => v.visit_i64_load8_s(it),
-        0x31 => v.visit_i64_load8_u(it),
-        0x32 => v.visit_i64_load16_s(it),
-        0x33 => v.visit_i64_load16_u(it),
-        0x34 => v.visit_i64_load32_s(it),
-        0x35 => v.visit_i64_load32_u(it),
-        0x36 => v.visit_i32_store(it),
-        0x37 => v.visit_i64_store(it),
-        0x38 => v.visit_f32_store(it),
-        0x39 => v.visit_f64_store(it),
-        0x3a => v.visit_i32_store8(it),
-        0x3b => v.visit_i32_store16(it),
-        0x3c => v.visit_i64_store8(it),
-        0x3d => v.visit_i64_store16(it),
-        _ => v.visit_i64_store32(it),
+impl Makes<OneByte, PlainMemArg> for Maker {
+    #[inline(always)]
+    fn make(code: u32, it: PlainMemArg) -> Operator<'static> {
+        match code {
+            0x28 => Operator::I32Load { memarg: it.0 },
+            0x29 => Operator::I64Load { memarg: it.0 },
+            0x2a => Operator::F32Load { memarg: it.0 },
+            0x2b => Operator::F64Load { memarg: it.0 },
+            0x2c => Operator::I32Load8S { memarg: it.0 },
+            0x2d => Operator::I32Load8U { memarg: it.0 },
+            0x2e => Operator::I32Load16S { memarg: it.0 },
+            0x2f => Operator::I32Load16U { memarg: it.0 },
+            0x30 => Operator::I64Load8S { memarg: it.0 },
+            0x31 => Operator::I64Load8U { memarg: it.0 },
+            0x32 => Operator::I64Load16S { memarg: it.0 },
+            0x33 => Operator::I64Load16U { memarg: it.0 },
+            0x34 => Operator::I64Load32S { memarg: it.0 },
+            0x35 => Operator::I64Load32U { memarg: it.0 },
+            0x36 => Operator::I32Store { memarg: it.0 },
+            0x37 => Operator::I64Store { memarg: it.0 },
+            0x38 => Operator::F32Store { memarg: it.0 },
+            0x39 => Operator::F64Store { memarg: it.0 },
+            0x3a => Operator::I32Store8 { memarg: it.0 },
+            0x3b => Operator::I32Store16 { memarg: it.0 },
+            0x3c => Operator::I64Store8 { memarg: it.0 },
+            0x3d => Operator::I64Store16 { memarg: it.0 },
+            _ => Operator::I64Store32 { memarg: it.0 },
+        }
     }
 }
 
-/// Reads immediates and visits the operator.
-#[inline(always)]
-fn memory_index<V: VisitOneByte>(
-    v: &mut V,
-    reader: &mut BinaryReader<'_>,
-    start: usize,
-    code: u8,
-) -> Result<V::Output>
-    requires after { IsAfterCode start None code reader.old }
-    requires kinds { entry_at None code ≡ free (is_memory_index ∷ []) }
-    ensures { (frame : FrameKind) → DecodesAt V.visits frame start result reader.old reader.new v.old v.new }
-{
-    match immediates::memory_index(reader, start) {
-        Ok(it) => Ok(visit_memory_index(v, code, it)),
-        Err(e) => Err(e),
+impl<V: VisitOneByte> At<V, OneByte, PlainMemArg> for Own {
+    #[inline(always)]
+    fn at(v: &mut V, code: u32, it: PlainMemArg) -> V::Output {
+        match code {
+            0x28 => v.visit_i32_load(it.0),
+            0x29 => v.visit_i64_load(it.0),
+            0x2a => v.visit_f32_load(it.0),
+            0x2b => v.visit_f64_load(it.0),
+            0x2c => v.visit_i32_load8_s(it.0),
+            0x2d => v.visit_i32_load8_u(it.0),
+            0x2e => v.visit_i32_load16_s(it.0),
+            0x2f => v.visit_i32_load16_u(it.0),
+            0x30 => v.visit_i64_load8_s(it.0),
+            0x31 => v.visit_i64_load8_u(it.0),
+            0x32 => v.visit_i64_load16_s(it.0),
+            0x33 => v.visit_i64_load16_u(it.0),
+            0x34 => v.visit_i64_load32_s(it.0),
+            0x35 => v.visit_i64_load32_u(it.0),
+            0x36 => v.visit_i32_store(it.0),
+            0x37 => v.visit_i64_store(it.0),
+            0x38 => v.visit_f32_store(it.0),
+            0x39 => v.visit_f64_store(it.0),
+            0x3a => v.visit_i32_store8(it.0),
+            0x3b => v.visit_i32_store16(it.0),
+            0x3c => v.visit_i64_store8(it.0),
+            0x3d => v.visit_i64_store16(it.0),
+            _ => v.visit_i64_store32(it.0),
+        }
     }
 }
 
-/// Visits the operator with this code.
-#[inline(always)]
-fn visit_memory_index<V: VisitOneByte>(v: &mut V, code: u8, it: u32) -> V::Output
-    requires { entry_at None code ≡ free (is_memory_index ∷ []) }
-    ensures { VisitsRow V.visits None code (memory_index it ∷ []) v.old result v.new }
-{
-    match code {
-        0x3f => v.visit_memory_size(it),
-        _ => v.visit_memory_grow(it),
+impl Makes<OneByte, MemoryIndex> for Maker {
+    #[inline(always)]
+    fn make(code: u32, it: MemoryIndex) -> Operator<'static> {
+        match code {
+            0x3f => Operator::MemorySize { mem: it.0 },
+            _ => Operator::MemoryGrow { mem: it.0 },
+        }
     }
 }
 
-/// Reads the immediates of `I32Const` and visits it.
-#[inline(always)]
-fn i32_const<V: VisitOneByte>(
-    v: &mut V,
-    reader: &mut BinaryReader<'_>,
-    start: usize,
-) -> Result<V::Output>
-    requires after { IsAfterCode start None 0x41 reader.old }
-    ensures { (frame : FrameKind) → DecodesAt V.visits frame start result reader.old reader.new v.old v.new }
-{
-    match immediates::signed_32(reader, start) {
-        Ok(it) => Ok(v.visit_i32_const(it)),
-        Err(e) => Err(e),
+impl<V: VisitOneByte> At<V, OneByte, MemoryIndex> for Own {
+    #[inline(always)]
+    fn at(v: &mut V, code: u32, it: MemoryIndex) -> V::Output {
+        match code {
+            0x3f => v.visit_memory_size(it.0),
+            _ => v.visit_memory_grow(it.0),
+        }
     }
 }
 
-/// Reads the immediates of `I64Const` and visits it.
-#[inline(always)]
-fn i64_const<V: VisitOneByte>(
-    v: &mut V,
-    reader: &mut BinaryReader<'_>,
-    start: usize,
-) -> Result<V::Output>
-    requires after { IsAfterCode start None 0x42 reader.old }
-    ensures { (frame : FrameKind) → DecodesAt V.visits frame start result reader.old reader.new v.old v.new }
-{
-    match immediates::signed_64(reader, start) {
-        Ok(it) => Ok(v.visit_i64_const(it)),
-        Err(e) => Err(e),
+impl Makes<OneByte, i32> for Maker {
+    #[inline(always)]
+    fn make(_code: u32, it: i32) -> Operator<'static> {
+        Operator::I32Const { value: it }
     }
 }
 
-/// Reads the immediates of `F32Const` and visits it.
-#[inline(always)]
-fn f32_const<V: VisitOneByte>(
-    v: &mut V,
-    reader: &mut BinaryReader<'_>,
-    start: usize,
-) -> Result<V::Output>
-    requires after { IsAfterCode start None 0x43 reader.old }
-    ensures { (frame : FrameKind) → DecodesAt V.visits frame start result reader.old reader.new v.old v.new }
-{
-    match immediates::float_32(reader, start) {
-        Ok(it) => Ok(v.visit_f32_const(it)),
-        Err(e) => Err(e),
+impl<V: VisitOneByte> At<V, OneByte, i32> for Own {
+    #[inline(always)]
+    fn at(v: &mut V, _code: u32, it: i32) -> V::Output {
+        v.visit_i32_const(it)
     }
 }
 
-/// Reads the immediates of `F64Const` and visits it.
-#[inline(always)]
-fn f64_const<V: VisitOneByte>(
-    v: &mut V,
-    reader: &mut BinaryReader<'_>,
-    start: usize,
-) -> Result<V::Output>
-    requires after { IsAfterCode start None 0x44 reader.old }
-    ensures { (frame : FrameKind) → DecodesAt V.visits frame start result reader.old reader.new v.old v.new }
-{
-    match immediates::float_64(reader, start) {
-        Ok(it) => Ok(v.visit_f64_const(it)),
-        Err(e) => Err(e),
+impl Makes<OneByte, i64> for Maker {
+    #[inline(always)]
+    fn make(_code: u32, it: i64) -> Operator<'static> {
+        Operator::I64Const { value: it }
     }
 }
 
-/// Reads the immediates of `RefNull` and visits it.
-#[inline(always)]
-fn ref_null<V: VisitOneByte>(
-    v: &mut V,
-    reader: &mut BinaryReader<'_>,
-    start: usize,
-) -> Result<V::Output>
-    requires after { IsAfterCode start None 0xd0 reader.old }
-    ensures { (frame : FrameKind) → DecodesAt V.visits frame start result reader.old reader.new v.old v.new }
-{
-    match immediates::heap_type(reader, start) {
-        Ok(it) => Ok(v.visit_ref_null(it)),
-        Err(e) => Err(e),
+impl<V: VisitOneByte> At<V, OneByte, i64> for Own {
+    #[inline(always)]
+    fn at(v: &mut V, _code: u32, it: i64) -> V::Output {
+        v.visit_i64_const(it)
     }
 }
 
-/// Reads immediates and visits the operator.
-#[inline(always)]
-fn two_unsigned<V: VisitOneByte>(
-    v: &mut V,
-    reader: &mut BinaryReader<'_>,
-    start: usize,
-    code: u8,
-) -> Result<V::Output>
-    requires after { IsAfterCode start None code reader.old }
-    requires kinds { entry_at None code ≡ free (is_unsigned_32 ∷ is_unsigned_32 ∷ []) }
-    ensures { (frame : FrameKind) → DecodesAt V.visits frame start result reader.old reader.new v.old v.new }
-{
-    match immediates::two_unsigned(reader, start) {
-        Ok(it) => Ok(visit_two_unsigned(v, code, it)),
-        Err(e) => Err(e),
+impl Makes<OneByte, Ieee32> for Maker {
+    #[inline(always)]
+    fn make(_code: u32, it: Ieee32) -> Operator<'static> {
+        Operator::F32Const { value: it }
     }
 }
 
-/// Visits the operator with this code.
-#[inline(always)]
-fn visit_two_unsigned<V: VisitOneByte>(v: &mut V, code: u8, it: (u32, u32)) -> V::Output
-    requires { entry_at None code ≡ free (is_unsigned_32 ∷ is_unsigned_32 ∷ []) }
-    ensures { VisitsRow V.visits None code (unsigned_32 it.0 ∷ unsigned_32 it.1 ∷ []) v.old result v.new }
-{
-    match code {
-        0x13 => v.visit_return_call_indirect(it.0, it.1),
-        0xe1 => v.visit_cont_bind(it.0, it.1),
-        _ => v.visit_switch(it.0, it.1),
+impl<V: VisitOneByte> At<V, OneByte, Ieee32> for Own {
+    #[inline(always)]
+    fn at(v: &mut V, _code: u32, it: Ieee32) -> V::Output {
+        v.visit_f32_const(it)
     }
 }
 
-/// Visits `Unreachable`.
-#[inline(always)]
-fn unreachable_alone<V: VisitOneByte>(
-    v: &mut V,
-    reader: &mut BinaryReader<'_>,
-    start: usize,
-) -> Result<V::Output>
-    requires after { IsAfterCode start None 0x00 reader.old }
-    ensures { (frame : FrameKind) → DecodesAt V.visits frame start result reader.old reader.new v.old v.new }
-{
-    Ok(v.visit_unreachable())
-}
-
-/// Visits `Nop`.
-#[inline(always)]
-fn nop_alone<V: VisitOneByte>(
-    v: &mut V,
-    reader: &mut BinaryReader<'_>,
-    start: usize,
-) -> Result<V::Output>
-    requires after { IsAfterCode start None 0x01 reader.old }
-    ensures { (frame : FrameKind) → DecodesAt V.visits frame start result reader.old reader.new v.old v.new }
-{
-    Ok(v.visit_nop())
-}
-
-/// Visits `End`.
-#[inline(always)]
-fn end_alone<V: VisitOneByte>(
-    v: &mut V,
-    reader: &mut BinaryReader<'_>,
-    start: usize,
-) -> Result<V::Output>
-    requires after { IsAfterCode start None 0x0b reader.old }
-    ensures { (frame : FrameKind) → DecodesAt V.visits frame start result reader.old reader.new v.old v.new }
-{
-    Ok(v.visit_end())
-}
-
-/// Reads the immediates of `Br` and visits it.
-#[inline(always)]
-fn br_alone<V: VisitOneByte>(
-    v: &mut V,
-    reader: &mut BinaryReader<'_>,
-    start: usize,
-) -> Result<V::Output>
-    requires after { IsAfterCode start None 0x0c reader.old }
-    ensures { (frame : FrameKind) → DecodesAt V.visits frame start result reader.old reader.new v.old v.new }
-{
-    match immediates::unsigned(reader, start) {
-        Ok(it) => Ok(v.visit_br(it)),
-        Err(e) => Err(e),
+impl Makes<OneByte, Ieee64> for Maker {
+    #[inline(always)]
+    fn make(_code: u32, it: Ieee64) -> Operator<'static> {
+        Operator::F64Const { value: it }
     }
 }
 
-/// Reads the immediates of `BrIf` and visits it.
-#[inline(always)]
-fn br_if_alone<V: VisitOneByte>(
-    v: &mut V,
-    reader: &mut BinaryReader<'_>,
-    start: usize,
-) -> Result<V::Output>
-    requires after { IsAfterCode start None 0x0d reader.old }
-    ensures { (frame : FrameKind) → DecodesAt V.visits frame start result reader.old reader.new v.old v.new }
-{
-    match immediates::unsigned(reader, start) {
-        Ok(it) => Ok(v.visit_br_if(it)),
-        Err(e) => Err(e),
+impl<V: VisitOneByte> At<V, OneByte, Ieee64> for Own {
+    #[inline(always)]
+    fn at(v: &mut V, _code: u32, it: Ieee64) -> V::Output {
+        v.visit_f64_const(it)
     }
 }
 
-/// Visits `Return`.
-#[inline(always)]
-fn return_alone<V: VisitOneByte>(
-    v: &mut V,
-    reader: &mut BinaryReader<'_>,
-    start: usize,
-) -> Result<V::Output>
-    requires after { IsAfterCode start None 0x0f reader.old }
-    ensures { (frame : FrameKind) → DecodesAt V.visits frame start result reader.old reader.new v.old v.new }
-{
-    Ok(v.visit_return())
-}
-
-/// Reads the immediates of `Call` and visits it.
-#[inline(always)]
-fn call_alone<V: VisitOneByte>(
-    v: &mut V,
-    reader: &mut BinaryReader<'_>,
-    start: usize,
-) -> Result<V::Output>
-    requires after { IsAfterCode start None 0x10 reader.old }
-    ensures { (frame : FrameKind) → DecodesAt V.visits frame start result reader.old reader.new v.old v.new }
-{
-    match immediates::unsigned(reader, start) {
-        Ok(it) => Ok(v.visit_call(it)),
-        Err(e) => Err(e),
+impl Makes<OneByte, HeapType> for Maker {
+    #[inline(always)]
+    fn make(_code: u32, it: HeapType) -> Operator<'static> {
+        Operator::RefNull { hty: it }
     }
 }
 
-/// Visits `Drop`.
-#[inline(always)]
-fn drop_alone<V: VisitOneByte>(
-    v: &mut V,
-    reader: &mut BinaryReader<'_>,
-    start: usize,
-) -> Result<V::Output>
-    requires after { IsAfterCode start None 0x1a reader.old }
-    ensures { (frame : FrameKind) → DecodesAt V.visits frame start result reader.old reader.new v.old v.new }
-{
-    Ok(v.visit_drop())
+impl<V: VisitOneByte> At<V, OneByte, HeapType> for Own {
+    #[inline(always)]
+    fn at(v: &mut V, _code: u32, it: HeapType) -> V::Output {
+        v.visit_ref_null(it)
+    }
 }
 
-/// Visits `Select`.
-#[inline(always)]
-fn select_alone<V: VisitOneByte>(
-    v: &mut V,
-    reader: &mut BinaryReader<'_>,
-    start: usize,
-) -> Result<V::Output>
-    requires after { IsAfterCode start None 0x1b reader.old }
-    ensures { (frame : FrameKind) → DecodesAt V.visits frame start result reader.old reader.new v.old v.new }
-{
-    Ok(v.visit_select())
+impl Makes<OneByte, (u32, u32)> for Maker {
+    #[inline(always)]
+    fn make(code: u32, it: (u32, u32)) -> Operator<'static> {
+        match code {
+            0x13 => Operator::ReturnCallIndirect {
+                type_index: it.0,
+                table_index: it.1,
+            },
+            0xe1 => Operator::ContBind {
+                argument_index: it.0,
+                result_index: it.1,
+            },
+            _ => Operator::Switch {
+                cont_type_index: it.0,
+                tag_index: it.1,
+            },
+        }
+    }
+}
+
+impl<V: VisitOneByte> At<V, OneByte, (u32, u32)> for Own {
+    #[inline(always)]
+    fn at(v: &mut V, code: u32, it: (u32, u32)) -> V::Output {
+        match code {
+            0x13 => v.visit_return_call_indirect(it.0, it.1),
+            0xe1 => v.visit_cont_bind(it.0, it.1),
+            _ => v.visit_switch(it.0, it.1),
+        }
+    }
+}
+
+impl<V: VisitOneByte> At<V, OneByte, Only<0x00, ()>> for Own {
+    #[inline(always)]
+    fn at(v: &mut V, _code: u32, _it: Only<0x00, ()>) -> V::Output {
+        v.visit_unreachable()
+    }
+}
+
+impl<V: VisitOneByte> At<V, OneByte, Only<0x01, ()>> for Own {
+    #[inline(always)]
+    fn at(v: &mut V, _code: u32, _it: Only<0x01, ()>) -> V::Output {
+        v.visit_nop()
+    }
+}
+
+impl<V: VisitOneByte> At<V, OneByte, Only<0x0b, ()>> for Own {
+    #[inline(always)]
+    fn at(v: &mut V, _code: u32, _it: Only<0x0b, ()>) -> V::Output {
+        v.visit_end()
+    }
+}
+
+impl<V: VisitOneByte> At<V, OneByte, Only<0x0c, u32>> for Own {
+    #[inline(always)]
+    fn at(v: &mut V, _code: u32, it: Only<0x0c, u32>) -> V::Output {
+        v.visit_br(it.0)
+    }
+}
+
+impl<V: VisitOneByte> At<V, OneByte, Only<0x0d, u32>> for Own {
+    #[inline(always)]
+    fn at(v: &mut V, _code: u32, it: Only<0x0d, u32>) -> V::Output {
+        v.visit_br_if(it.0)
+    }
+}
+
+impl<V: VisitOneByte> At<V, OneByte, Only<0x0f, ()>> for Own {
+    #[inline(always)]
+    fn at(v: &mut V, _code: u32, _it: Only<0x0f, ()>) -> V::Output {
+        v.visit_return()
+    }
+}
+
+impl<V: VisitOneByte> At<V, OneByte, Only<0x10, u32>> for Own {
+    #[inline(always)]
+    fn at(v: &mut V, _code: u32, it: Only<0x10, u32>) -> V::Output {
+        v.visit_call(it.0)
+    }
+}
+
+impl<V: VisitOneByte> At<V, OneByte, Only<0x1a, ()>> for Own {
+    #[inline(always)]
+    fn at(v: &mut V, _code: u32, _it: Only<0x1a, ()>) -> V::Output {
+        v.visit_drop()
+    }
+}
+
+impl<V: VisitOneByte> At<V, OneByte, Only<0x1b, ()>> for Own {
+    #[inline(always)]
+    fn at(v: &mut V, _code: u32, _it: Only<0x1b, ()>) -> V::Output {
+        v.visit_select()
+    }
 }

@@ -6,11 +6,12 @@ ghost use Rattle.std.specs.Prelude.{◌≡◌, None, Ok, Err, IfSome, IfNone};
 ghost use Rattle.wasm_decode_groups.specs.OneByte.{IsOneByteCode};
 ghost use Rattle.wasm_decode_opcodes.specs.Decoding.{DecodesAt, IsAfterCode};
 
-use crate::one_byte_operators::any_one_byte;
+use crate::arm::Own;
+use crate::one_byte_operators::{AtOneByte, any_one_byte_by};
 use std::alloc::Global;
-use wasm_visit_groups::VisitOneByte;
 use wasm_visit_groups::below::{BinaryReader, Error, Message, Result};
 use wasm_visit_groups::grammar::FrameKind;
+use wasm_visit_groups::{VisitOneByte, Visitor};
 
 /// Reads the immediates of an operator with a one-byte opcode and visits it.
 #[inline(always)]
@@ -26,9 +27,26 @@ pub fn other_one_byte<V: VisitOneByte>(
     requires apart { IsOneByteCode code }
     ensures { DecodesAt V.visits frame start result reader.old reader.new v.old v.new }
 {
+    other_one_byte_by::<V, Own>(alloc, v, reader, start, frame, code)
+}
+
+/// Reads the immediates of an operator with a one-byte opcode and passes them to `R`.
+#[inline(always)]
+pub fn other_one_byte_by<V: Visitor, R: AtOneByte<V>>(
+    alloc: Global,
+    v: &mut V,
+    reader: &mut BinaryReader<'_>,
+    start: usize,
+    frame: FrameKind,
+    code: u8,
+) -> Result<V::Output>
+    requires after { IsAfterCode start None code reader.old }
+    requires apart { IsOneByteCode code }
+    ensures { DecodesAt V.visits frame start result reader.old reader.new v.old v.new }
+{
     let mut lent = reader.clone();
     let mut refusal = Error::new(Message::EndOfData, 0);
-    let outcome = out_of_line(alloc, v, &mut lent, start, frame, code, &mut refusal);
+    let outcome = out_of_line::<V, R>(alloc, v, &mut lent, start, frame, code, &mut refusal);
     reader.set_position(lent.current_position());
     match outcome {
         Some(outcome) => Ok(outcome),
@@ -39,7 +57,7 @@ pub fn other_one_byte<V: VisitOneByte>(
 /// Decodes the operator, without being inlined. Returns the result of the visit, or writes the
 /// error to `refusal`.
 #[inline(never)]
-fn out_of_line<V: VisitOneByte>(
+fn out_of_line<V: Visitor, R: AtOneByte<V>>(
     alloc: Global,
     v: &mut V,
     reader: &mut BinaryReader<'_>,
@@ -55,7 +73,7 @@ fn out_of_line<V: VisitOneByte>(
     ensures refused { IfNone result
         (DecodesAt V.visits frame start (Err refusal.new) reader.old reader.new v.old v.new) }
 {
-    match any_one_byte(alloc, v, reader, start, frame, code) {
+    match any_one_byte_by::<V, R>(alloc, v, reader, start, frame, code) {
         Ok(outcome) => Some(outcome),
         Err(e) => {
             *refusal = e;

@@ -8,7 +8,6 @@ use Rattle.wasm_instr.specs.below.Fault.{HasFault}
 use Rattle.wasm_instr.specs.below.Features.{HasFeature, legacy_exceptions}
 use Rattle.wasm_instr.specs.below.Refusal.{IsReadFault}
 use Rattle.wasm_instr.specs.below.Source.{Reader, rest, offset_of, end_of, at_position, Takes, NoPrefix, IsAhead, Reads}
-use Rattle.wasm_instr.proofs.of_below.TakesLemmas.{takes_none}
 use Rattle.wasm_instr.specs.grammar.declared.frame_kind.FrameKind.{FrameKind}
 use Rattle.wasm_instr.specs.grammar.declared.frame_kind.FrameKind.TheVariants as frame
 use Rattle.wasm_instr.specs.grammar.Frames.{Allows}
@@ -221,10 +220,3 @@ pub checked_visited : {V A : Type 0} (visits : V → Operator → A → V → Ty
 checked_visited visits Fault k code g ks is start mid now new v w a e b stays has allows vis i =
     visited_guarded visits Fault k code g ks is start mid new v w a e b has allows vis
     (subst (λ (z : Reader). (text : List ℕ) × EncodesKinds z.features ks text is × Takes z new text) stays i)
-
-pub checked_without_immediates : {V A : Type 0} (visits : V → Operator → A → V → Type 0) (Fault : Message → Reader → ℕ → Type 0) (k : FrameKind) (code : ℕ) (g : Guard) (start : ℕ)
-    (mid now : Reader) (v w : V) (a : A) → entry_at None code ≡ guarded g [] → IsAfterCode start None code mid → now ≡ mid →
-    (NeedsLegacy g → HasFeature legacy_exceptions mid.features) → Allows k (guarded_role g) → VisitsRow visits None code [] v a w →
-    Decodes visits (EncodesAllowed mid.features k) Fault (Ok a) (at_position mid start) now v w
-checked_without_immediates visits Fault k code g start mid now v w a e b stays has allows vis =
-    checked_visited visits Fault k code g [] [] start mid now now v w a e b stays has allows vis ([], (refl, refl), takes_none now)

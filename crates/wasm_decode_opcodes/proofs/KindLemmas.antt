@@ -236,10 +236,10 @@ first_refused P k ks immediate takes start e reported old mid new o begun (same,
       λ some. inl (none_kind P old.features k immediate o (rest old) (refused_now P e old h), fault),
     )
 
-moved_features : (old mid : Reader) (text : List ℕ) → Takes old mid text → mid.features ≡ old.features
+pub moved_features : (old mid : Reader) (text : List ℕ) → Takes old mid text → mid.features ≡ old.features
 moved_features old mid text t = ap (λ (r : Reader). r.features) t.moved
 
-moved_start : (old mid : Reader) (text : List ℕ) → Takes old mid text → mid.start ≡ old.start
+pub moved_start : (old mid : Reader) (text : List ℕ) → Takes old mid text → mid.start ≡ old.start
 moved_start old mid text t = ap (λ (r : Reader). r.start) t.moved
 
 -- reading an immediate after the first one fails

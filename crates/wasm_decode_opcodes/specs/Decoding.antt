@@ -19,7 +19,7 @@ use Rattle.wasm_decode_opcodes.specs.Refused.{IsRefusedOperator}
 abbrev pub RefusesOperator : (List ℕ → Operator → Type 0) → (Message → Reader → ℕ → Type 0) → Error → Reader → Reader → Type 0
 RefusesOperator Encodes Fault e old new = (new ≡ old) × IsRefusedOperator Encodes e old × HasFault Fault e old
 
--- The call returns Ok if and only if a prefix of the rest encodes an operator, unless allocation fails. On Ok it takes that prefix, and the result is that of a visit of the operator. On Err reader and visitor are unchanged, and the error is one of this fault.
+-- Unless allocation fails, `Ok` if and only if a prefix of the rest encodes an operator, which is then taken and visited. On `Err`, reader and visitor are unchanged, and `Fault` holds.
 abbrev pub Decodes : {V A : Type 0} → (V → Operator → A → V → Type 0) → (List ℕ → Operator → Type 0) → (Message → Reader → ℕ → Type 0) → Result A Error → Reader → Reader → V → V → Type 0
 Decodes visits Encodes Fault (Ok a) old new v w = (text : List ℕ) × (op : Operator) × Encodes text op × Takes old new text × visits v op a w
 Decodes visits Encodes Fault (Err e) old new v w = (w ≡ v) × RefusesOperator Encodes Fault e old new
@@ -34,7 +34,7 @@ abbrev pub DecodesScalarAt : {V A : Type 0} → (V → Operator → A → V → 
 DecodesScalarAt visits frame start result old new v w =
     Decodes visits (EncodesScalar old.features frame) (ScalarOperatorFault old.features frame) result (at_position old start) new v w
 
--- As `Decodes`, for the operator at the start of the rest, in this innermost frame. If none is open, the error is `OperatorsRemaining`.
+-- `Decodes` in this innermost frame. If none is open, the error is `OperatorsRemaining`.
 abbrev pub DecodesIn : {V A : Type 0} → (V → Operator → A → V → Type 0) → Option FrameKind → Result A Error → Reader → Reader → V → V → Type 0
 DecodesIn visits frame result old new v w =
     Decodes visits (EncodesIn (EncodesAllowed old.features) frame) (FaultIn (OperatorFault old.features) frame) result old new v w
@@ -67,7 +67,12 @@ pub record IsRefusedAfterCode {X : Type 0} (Encodes : List ℕ → X → Type 0)
   pub ahead : IsAhead (at_position old start) e.offset
   pub memory : e.message ≡ message.OutOfMemory → (takes_memory ≡ true) × (e.offset ≡ old.start + start)
 
--- The call returns Ok if and only if immediates of these kinds follow the opcode, unless allocation fails. On Ok it takes them. On Err the reader goes back to the start of the operator, and the error is that of the first immediate that cannot be read.
+-- As `DecodesAt`, for reading immediates of these kinds. The first that cannot be read has the error.
 abbrev pub ReadsKinds : {X : Type 0} → List Kind → (X → List Immediate) → Bool → ℕ → Result X Error → Reader → Reader → Type 0
 ReadsKinds ks immediates takes_memory start (Ok x) old new = (text : List ℕ) × EncodesKinds old.features ks text (immediates x) × Takes old new text
 ReadsKinds ks immediates takes_memory start (Err e) old new = (new ≡ at_position old start) × IsRefusedAfterCode (EncodesKinds old.features ks) takes_memory start e old × HasFault (KindsFault old.features (old.start + start) ks) e old
+
+-- As `ReadsKinds`, except that on `Err` the reader does not go back.
+abbrev pub ReadsImmediates : {X : Type 0} → List Kind → (X → List Immediate) → Bool → ℕ → Result X Error → Reader → Reader → Type 0
+ReadsImmediates ks immediates takes_memory start (Ok x) old new = (text : List ℕ) × EncodesKinds old.features ks text (immediates x) × Takes old new text
+ReadsImmediates ks immediates takes_memory start (Err e) old new = (new ≡ at_position old new.position) × (old.position ≤ new.position) × IsRefusedAfterCode (EncodesKinds old.features ks) takes_memory start e old × HasFault (KindsFault old.features (old.start + start) ks) e old

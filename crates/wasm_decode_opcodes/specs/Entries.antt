@@ -754,6 +754,6 @@ abbrev pub entry_at : Option ℕ → ℕ → Entry
 entry_at None code = slice_index_or opcode_entries code unknown
 entry_at (Some prefix) code = slice_index_or (entries_after prefix) code unknown
 
--- The exponent of the natural alignment of the operator with this code, if it has a memory argument.
+-- The natural alignment as an exponent, or 0 without a memory argument.
 abbrev pub align_at : Option ℕ → ℕ → ℕ
 align_at prefix code = align_in (entry_at prefix code)

@@ -76,6 +76,12 @@ HasKinds (free own) ks = own ≡ ks
 HasKinds (guarded _ own) ks = own ≡ ks
 HasKinds _ ks = ⊥
 
+-- The kinds in the entry, if an operator has it.
+abbrev pub entry_kinds : Entry → Option (List Kind)
+entry_kinds (free ks) = Some ks
+entry_kinds (guarded g ks) = Some ks
+entry_kinds _ = None
+
 -- The exponent of the natural alignment in the entry, or 0 without a memory argument.
 abbrev pub align_in : Entry → ℕ
 align_in (free (is_memory_argument kind align ∷ ks)) = align

@@ -4,4 +4,5 @@ pub mod Entries
 pub mod Entry
 pub mod Kinds
 pub mod OperatorFaults
+pub mod Owners
 pub mod Refused

@@ -1,5 +1,4 @@
-//! Opcodes: the kinds of their immediates, the functions that read immediates, and the errors of
-//! operators.
+//! Opcodes: the kinds of their immediates, which are types, and the errors of operators.
 //!
 //! `specs/Entries.antt` lists all opcodes and subopcodes. `specs/OperatorFaults.antt` defines the
 //! errors.
@@ -7,7 +6,13 @@
 
 mod guard;
 pub mod immediates;
+mod kinds;
+mod lists;
 mod unknown;
 
 pub use guard::Guard;
+pub use kinds::{
+    FenceOrdering, Immediates, MemoryIndex, Only, OpMemArg, PlainMemArg, RmwMemArg, TableIndex,
+};
+pub use lists::Lists;
 pub use unknown::{unknown_opcode, unknown_subopcode};

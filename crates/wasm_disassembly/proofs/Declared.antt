@@ -1,4 +1,4 @@
-use Rattle.std.proofs.Common.{◌≡◌, ◌≢◌, ℕ, ◌+◌, ◌^◌, ◌<◌, ◌≤◌, List, [], ◌∷◌, ◌++◌, length, Option, Ok, Err, refl, sym, subst, ap, ◌∙◌, append_assoc, append-nil, length-append, arith}
+use Rattle.std.proofs.Common.{◌≡◌, ◌≢◌, ℕ, ◌+◌, ◌<◌, ◌≤◌, List, [], ◌∷◌, ◌++◌, length, Option, Ok, Err, refl, sym, subst, ap, ◌∙◌, append_assoc, append-nil, length-append, arith}
 use Rattle.std.proofs.lemmas.List.{append_cancel_left}
 use Rattle.std.specs.Io.KnownBytes.{Appends}
 use Rattle.wasm_operators.specs.below.bytes.error.Error.{Error}
@@ -127,14 +127,6 @@ way_goes_on start bytes shown parameters many first old mid new before between_l
             (appends_both before between_lines after (lines (offset_of mid.reader)) (line shown first) way.writes.written wrote);
       };
     }
-
-pub few_locals : (start : ℕ) (bytes : List ℕ) (parameters many first : ℕ) (old mid new : Locals) (before after : Option (List ℕ)) (d : Declaration) →
-    IsOnTheWay start bytes parameters many first old mid before after → ReadsDeclaration (Ok d) mid new → parameters < 2 ^ 32 → first + d.0 < 2 ^ 64
-few_locals start bytes parameters many first old mid new before after d way ((text, encodes, takes), count, total) few =
-    let f = way.index in
-    let t = way.writes.takes.total in
-    let most : mid.total + d.0 ≤ 4294967295 = encodes.1 in
-    omega (arith, f, t, most, few)
 
 pub way_ends : (x : Unit {0}) (start : ℕ) (bytes : List ℕ) (parameters many first : ℕ) (old new : Locals) (before after : Option (List ℕ)) → many ≡ old.count →
     IsOnTheWay start bytes parameters many first old new before after → ListsDeclarations start bytes parameters (Ok x) old new before after

@@ -1,4 +1,4 @@
-use Rattle.std.proofs.Common.{◌≡◌, ℕ, ◌+◌, ◌≤◌, Bool, true, false, List, [], ◌∷◌, ◌++◌, length, set, zero, suc, Option, Some, None, Ok, refl, sym, subst, ap, ◌∙◌, append_assoc, append-nil, arith, cond}
+use Rattle.std.proofs.Common.{◌≡◌, ℕ, ◌+◌, Bool, true, false, List, [], ◌∷◌, ◌++◌, set, Option, Some, None, Ok, refl, sym, subst, ap, ◌∙◌, append_assoc, append-nil, cond}
 use Rattle.std.specs.Prelude.{◌==◌, nat_eq, codes, flat_map, replicate}
 use borrow.Author.Tests.{eq-eqb}
 use Rattle.std.specs.Borrow.{Bor}
@@ -19,11 +19,6 @@ use Rattle.wasm_functions.specs.Sections.{first_with}
 use Rattle.wasm_functions.specs.Names.{name_bytes, bytes_of, function_name, with_exports, with_names, IsNames, NoneIsNames, LastNames}
 use Rattle.wasm_functions.specs.declared.function_name.FunctionName.{FunctionName}
 use Rattle.wasm_functions.specs.declared.function_name.FunctionName.TheVariants as name
-
-pub set_past_end : {X : Type 0} (xs : List X) (i : ℕ) (x : X) → length xs ≤ i → set xs i x ≡ xs
-set_past_end [] i x h = refl
-set_past_end (y ∷ ys) zero x h = absurd (omega (arith, h))
-set_past_end (y ∷ ys) (suc i) x h = ap (λ zs. y ∷ zs) (set_past_end ys i x (omega (arith, h)))
 
 pub exports_more : (names : List (List ℕ)) (es : List ExportParts) (e : ExportParts) →
     with_exports names (es ++ e ∷ []) ≡ with_exports (with_exports names es) (e ∷ [])

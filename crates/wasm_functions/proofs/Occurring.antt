@@ -4,9 +4,6 @@ use Rattle.wasm_module.specs.below.Source.{Reader, rest, offset_of, end_of, Read
 use Rattle.wasm_module.specs.Module.{SectionParts, EncodesSection}
 use Rattle.wasm_functions.specs.Sections.{SectionsOccur, first_with, or_first}
 
-same_features : (s : SectionParts) (r mid : Reader) → Reads (EncodesSection r.features) (Ok s) r mid → mid.features ≡ r.features
-same_features s r mid (text, encodes, takes) = ap (λ (z : Reader). z.features) takes.moved
-
 pub one_more : (r : Reader) (ss : List SectionParts) (mid new : Reader) (s : SectionParts) → SectionsOccur r ss mid →
     Reads (EncodesSection mid.features) (Ok s) mid new → end_of s.contents ≡ offset_of new → SectionsOccur r (ss ++ s ∷ []) new
 one_more r [] mid new s same reads placed =

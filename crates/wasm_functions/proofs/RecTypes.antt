@@ -1,14 +1,13 @@
-use Rattle.std.proofs.Common.{◌≡◌, ◌⊎◌, ℕ, Bool, true, false, List, [], ◌∷◌, ◌++◌, length, map, get_or, Result, Ok, Err, refl, sym, subst, ap, ◌∙◌, inl, inr, append_assoc, arith}
+use Rattle.std.proofs.Common.{◌≡◌, ◌⊎◌, ℕ, true, false, List, [], ◌∷◌, ◌++◌, length, map, get_or, Result, Ok, Err, refl, sym, subst, ap, ◌∙◌, inl, inr, append_assoc, arith}
 use Rattle.std.specs.Prelude.{nat_eq}
-use Rattle.std.proofs.lemmas.Bool.{eqb-true, eqb-false}
+use Rattle.std.proofs.lemmas.Bool.{eqb-true, eqb-false, cases_Bool}
 use Rattle.std.proofs.lemmas.List.{map-append, flat_map_more}
-use Rattle.wasm_module.specs.below.Number.{EncodesUnsigned}
 use Rattle.wasm_module.specs.below.bytes.error.Error.{Error}
 use Rattle.wasm_module.specs.below.Source.{Reader, rest, BeginsWith, Reads}
 use Rattle.wasm_module.specs.Types.{EncodesSubType, EncodesRecTypeLength}
 use Rattle.wasm_module.specs.declared.composite.CompositeType.{CompositeType}
 use Rattle.wasm_functions.specs.Items.{ItemsOccur}
-use Rattle.wasm_functions.specs.Parameters.{parameter_count, parameters_in, Announces, RecTypeOccurs, RecTypesOccur, AreTypes}
+use Rattle.wasm_functions.specs.Parameters.{parameter_count, parameters_in, Announces, RecTypeOccurs, RecTypesOccur}
 
 pub rec_type_more : (r : Reader) (gs : List (List CompositeType)) (mid new : Reader) (g : List CompositeType) → RecTypesOccur r gs mid → RecTypeOccurs mid g new →
     RecTypesOccur r (gs ++ g ∷ []) new
@@ -24,22 +23,13 @@ pub parameters_more : (rec_types : List (List CompositeType)) (types : List Comp
     parameters_in rec_types ++ map parameter_count types ≡ parameters_in (rec_types ++ types ∷ [])
 parameters_more rec_types types = flat_map_more (λ (g : List CompositeType). map parameter_count g) [] rec_types types
 
-pub all_types : (contents first end : Reader) (gs : List (List CompositeType)) (n : ℕ) → Reads (EncodesUnsigned 32) (Ok n) contents first →
-    RecTypesOccur first gs end → length gs ≡ n → AreTypes contents gs
-all_types contents first end gs n counted occur all =
-    record { first = first; count = subst (λ k. Reads (EncodesUnsigned 32) (Ok k) contents first) (sym all) counted; end = end; occur = occur }
-
-reported : (b : Bool) → (b ≡ true) ⊎ (b ≡ false)
-reported true = inl refl
-reported false = inr refl
-
 begins_by : (byte b : ℕ) (bs : List ℕ) → (nat_eq b byte ≡ true) ⊎ (nat_eq b byte ≡ false) → BeginsWith byte (b ∷ bs) ⊎ (BeginsWith byte (b ∷ bs) → ⊥)
 begins_by byte b bs (inl is) = inl (bs, ap (λ z. z ∷ bs) (eqb-true b byte is))
 begins_by byte b bs (inr not) = inr (λ h. eqb-false b byte not (ap (λ z. get_or z 0 0) h.1))
 
 pub begins : (byte : ℕ) (bs : List ℕ) → BeginsWith byte bs ⊎ (BeginsWith byte bs → ⊥)
 begins byte [] = inr (λ h. let none = ap length h.1 in absurd (omega (arith, none)))
-begins byte (b ∷ bs) = begins_by byte b bs (reported (nat_eq b byte))
+begins byte (b ∷ bs) = begins_by byte b bs (cases_Bool (nat_eq b byte))
 
 abbrev value_or : Result ℕ Error → ℕ
 value_or (Ok n) = n

@@ -1,7 +1,6 @@
 ghost use Rattle.std.specs.Prelude.{◌≡◌, ◌⊎◌, ◌++◌, ◌<◌, ℕ, [], List, Option, Some, replicate, IfOk, IfErr, OnOk};
 ghost use Rattle.wasm_module.specs.below.Source.{Reader, reader_of};
 ghost use Rattle.wasm_module.specs.Module.{SectionParts};
-ghost use Rattle.wasm_functions.specs.Items.{IsList};
 ghost use Rattle.wasm_functions.specs.Names.{bytes_of, NamesImported, NamesExported, NamesGiven, HasNames};
 ghost use Rattle.wasm_functions.specs.Parameters.{CountsParameters};
 ghost use Rattle.wasm_functions.specs.Refusals.{SectionsFault, OfSection, SectionFaultAt, TypesFault, ImportsFault, ImportsFunction, FunctionsFault, ExportsFault, NamesFault};

@@ -39,19 +39,9 @@ pub whole_again : (kind : FrameKind) (inside : List FrameKind) →
 whole_again kind [] = refl
 whole_again kind (next ∷ inside) = ap (λ (x : List FrameKind). kind ∷ x) (whole_again next inside)
 
-pub whole_of_innermost : (frames : List FrameKind) (kind : FrameKind) →
-    innermost frames ≡ Some kind → without_innermost frames ++ kind ∷ [] ≡ frames
-whole_of_innermost [] kind e = absurd (cc e)
-whole_of_innermost (first ∷ inside) kind e =
-    ap (λ (x : FrameKind). without_innermost_in first inside ++ x ∷ []) (sym (cc e)) ∙ whole_again first inside
-
 pub innermost_not_empty : (frames : List FrameKind) (kind : FrameKind) → innermost frames ≡ Some kind → frames ≡ [] → ⊥
 innermost_not_empty [] kind e h = cc e
 innermost_not_empty (first ∷ inside) kind e h = cc h
-
-pub empty_of_innermost : (frames : List FrameKind) → innermost frames ≡ None → frames ≡ []
-empty_of_innermost [] e = refl
-empty_of_innermost (first ∷ inside) e = absurd (cc e)
 
 abbrev after : FrameKind → List FrameKind → List FrameKind → List FrameKind
 after kind inside end = without_innermost_in kind inside ++ end
@@ -85,19 +75,10 @@ is_some_map : {X Y : Type 0} (f : X → Y) (o : Option X) → IsSome o → IsSom
 is_some_map f None h = absurd (cc h)
 is_some_map f (Some x) h = refl
 
-is_some_before_map : {X Y : Type 0} (f : X → Y) (o : Option X) → IsSome (option_map f o) → IsSome o
-is_some_before_map f None h = absurd (cc h)
-is_some_before_map f (Some x) h = refl
-
 pub may_step : {A : Type 0} (frames : List FrameKind) (kind : FrameKind) (role : Role A) →
     innermost frames ≡ Some kind → Allows kind role → IsSome (frames_after frames role)
 may_step frames kind role e h =
     subst IsSome (sym (step_at frames kind role e)) (is_some_map (λ (x : List FrameKind). without_innermost frames ++ x) (replacement kind role) h)
-
-pub allows_of_step : {A : Type 0} (frames : List FrameKind) (kind : FrameKind) (role : Role A) →
-    innermost frames ≡ Some kind → IsSome (frames_after frames role) → Allows kind role
-allows_of_step frames kind role e h =
-    is_some_before_map (λ (x : List FrameKind). without_innermost frames ++ x) (replacement kind role) (subst IsSome (step_at frames kind role e) h)
 
 pub may_not_step : {A : Type 0} (frames : List FrameKind) (kind : FrameKind) (role : Role A) →
     innermost frames ≡ Some kind → replacement kind role ≡ None → frames_after frames role ≡ None

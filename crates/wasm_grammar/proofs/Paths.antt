@@ -73,7 +73,7 @@ run_path [] roles (tree, e) = ap (frames_along (frame.Block ∷ [])) e ∙ run_w
 run_path (kind ∷ frames) roles (kind_is, path) =
     run_in frames [] frame.Block roles path ∙ ap (λ (x : FrameKind). some (x ∷ frames)) (sym kind_is)
 
-some_is : {X : Type 0} {x y : X} → Some x ≡ Some y → x ≡ y
+pub some_is : {X : Type 0} {x y : X} → Some x ≡ Some y → x ≡ y
 some_is e = cc
 
 pub same_frames : {A : Type 0} (first second : List FrameKind) (roles : List (Role A)) →

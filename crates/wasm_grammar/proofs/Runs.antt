@@ -8,9 +8,8 @@ use Rattle.wasm_grammar.specs.declared.frame_kind.FrameKind.TheVariants as frame
 use Rattle.wasm_grammar.specs.Role.{Role, ends}
 use Rattle.wasm_grammar.specs.Tree.{Expression, walk}
 use Rattle.wasm_grammar.specs.Frames.{frames_after_in, frames_after, frames_along}
-use Rattle.wasm_grammar.specs.Beginning.{IsWalk, IsOnlyTree, BeginsWalk}
+use Rattle.wasm_grammar.specs.Beginning.{IsWalk, BeginsWalk}
 use Rattle.wasm_grammar.specs.OpenPath.{OpenPath}
-use Rattle.wasm_grammar.proofs.Unique.{one_tree}
 use Rattle.wasm_grammar.proofs.Accepts.{run_walk}
 use Rattle.wasm_grammar.proofs.Steps.{path_step, path_start}
 use Rattle.wasm_grammar.proofs.Paths.{run_path}
@@ -57,10 +56,6 @@ path_of roles frames e = path_run roles (frame.Block ∷ []) [] frames path_star
 pub tree_of : {A : Type 0} (roles : List (Role A)) → frames_along (frame.Block ∷ []) roles ≡ Some [] → IsWalk roles
 tree_of roles e = path_of roles [] e
 
-pub only_tree : {A : Type 0} (roles : List (Role A)) →
-    frames_along (frame.Block ∷ []) roles ≡ Some [] → (tree : Expression A) × IsOnlyTree roles tree
-only_tree roles e = let t = tree_of roles e in (t.0, (t.1, λ other same. one_tree other t.0 (sym same ∙ t.1)))
-
 pub walk_runs_out : {A : Type 0} (roles : List (Role A)) (tree : Expression A) →
     roles ≡ walk tree → frames_along (frame.Block ∷ []) roles ≡ Some []
 walk_runs_out roles tree e = ap (frames_along (frame.Block ∷ [])) e ∙ run_walk tree
@@ -105,9 +100,6 @@ pub IsSome_of_begins : {A : Type 0} (roles : List (Role A)) →
     BeginsWalk roles → IsSome (frames_along (frame.Block ∷ []) roles)
 IsSome_of_begins roles begins = let r = beginning_runs roles begins in IsSome_of (frames_along (frame.Block ∷ []) roles) r.0 r.1
 
-pub begins_beginning : {A : Type 0} (roles more : List (Role A)) → BeginsWalk (roles ++ more) → BeginsWalk roles
-begins_beginning roles more (others, tree, e) = (more ++ others, tree, sym (append_assoc roles more others) ∙ e)
-
 pub path_runs_on : {A : Type 0} (frames : List FrameKind) (roles more : List (Role A)) →
     OpenPath roles frames → BeginsWalk (roles ++ more) →
     (next : List FrameKind) × (frames_along frames more ≡ Some next)
@@ -117,9 +109,3 @@ path_runs_on frames roles more path begins =
       sym (ap (option_and_then (λ next. frames_along next more)) (run_path frames roles path)) ∙ sym (frames_along-append (frame.Block ∷ []) roles more) ∙
           r.1,
     )
-
-pub path_runs_out : {A : Type 0} (frames : List FrameKind) (roles more : List (Role A)) →
-    OpenPath roles frames → IsWalk (roles ++ more) → frames_along frames more ≡ Some []
-path_runs_out frames roles more path (tree, e) =
-    sym (ap (option_and_then (λ next. frames_along next more)) (run_path frames roles path)) ∙ sym (frames_along-append (frame.Block ∷ []) roles more) ∙
-    walk_runs_out (roles ++ more) tree e

@@ -8,6 +8,7 @@ use Rattle.wasm_grammar.specs.Role.{block, loop, try_table, Role, plain, opens, 
 use Rattle.wasm_grammar.specs.Tree.{Instruction, single, nest, if_one, if_two, try_handle, try_delegate, Instructions, nil, cons, Handlers, no_more, for_all, for_tag, walk_instruction, walk_instructions, walk_handlers}
 use Rattle.wasm_grammar.specs.Frames.{kind_of_nest, replacement, frames_after_in, frames_after}
 use Rattle.wasm_grammar.specs.OpenPath.{Parts, walk_parts, Head, of_nest, of_if, of_else, of_try, of_catch, of_catch_all, kind_of_head, walk_head, OpenPathIn, OpenPath}
+use Rattle.wasm_grammar.proofs.Paths.{some_is}
 
 push : {A : Type 0} → Instructions A → Instruction A → Instructions A
 push nil last = cons last nil
@@ -75,12 +76,6 @@ unfolding after
 after-is before head body role =
     append_assoc (walk_instructions before) (walk_head head ++ walk_instructions body) (role ∷ [])
     ∙ ap (λ roles. walk_instructions before ++ roles) (append_assoc (walk_head head) (walk_instructions body) (role ∷ []))
-
-some : {X : Type 0} → X → Option X
-some x = Some x
-
-some_is : {X : Type 0} {x y : X} → Some x ≡ Some y → x ≡ y
-some_is e = cc
 
 to_frames : {A : Type 0} (roles : List (Role A)) (frames next : List FrameKind) →
     Some frames ≡ Some next → OpenPathIn roles frames → OpenPathIn roles next
@@ -180,7 +175,7 @@ step_innermost role before (of_nest loop a) body next e = absurd (cc e)
 step_innermost role before (of_nest try_table a) body next e = absurd (cc e)
 step_innermost _ before _ body next e = absurd (cc e)
 
-mapped : {X Y : Type 0} (f : X → Y) (o : Option X) (y : Y) →
+pub mapped : {X Y : Type 0} (f : X → Y) (o : Option X) (y : Y) →
     option_map f o ≡ Some y → (x : X) × (o ≡ Some x) × (f x ≡ y)
 mapped f None y e = absurd (cc e)
 mapped f (Some x) y e = (x, refl, some_is e)

@@ -1,9 +1,6 @@
 pub use Rattle.wasm_imm_control.proofs.BlockTypes
 pub use Rattle.wasm_imm_control.proofs.ControlEquality
-pub use Rattle.wasm_imm_control.proofs.Casts
 pub use Rattle.wasm_imm_control.proofs.Faults
-pub use Rattle.wasm_imm_control.proofs.HandlerLemmas
-pub use Rattle.wasm_imm_control.proofs.HandlerTables
 pub use Rattle.wasm_imm_control.proofs.ListLemmas
 pub use Rattle.wasm_imm_control.proofs.ListRefusals
 pub use Rattle.wasm_imm_control.proofs.BranchTables

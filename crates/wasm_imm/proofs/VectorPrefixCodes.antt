@@ -3,7 +3,7 @@ use Rattle.wasm_imm.specs.declared.constants.V128.{V128}
 use Rattle.wasm_imm_control.specs.below.Sequence.{PrefixCode}
 use Rattle.wasm_imm.specs.Vectors.{EncodesSixteen, EncodesVector}
 
-same_length : (a b x y : List ℕ) → length a ≡ length b → a ++ x ≡ b ++ y → a ≡ b
+pub same_length : (a b x y : List ℕ) → length a ≡ length b → a ++ x ≡ b ++ y → a ≡ b
 same_length [] [] x y l e = refl
 same_length [] (d ∷ b) x y l e = absurd (omega arith)
 same_length (c ∷ a) [] x y l e = absurd (omega arith)

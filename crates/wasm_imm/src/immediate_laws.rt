@@ -1,6 +1,6 @@
 ghost use Rattle.std.specs.Prelude.{◌≡◌, ℕ, List, ◌++◌, map};
 ghost use Rattle.wasm_imm_control.specs.below.Equality.{IsExact};
-ghost use Rattle.wasm_imm.specs.Immediate.{Immediate, Kind, kind_of, EncodesImmediates};
+ghost use Rattle.wasm_imm.specs.Immediate.{Immediate, kind_of, EncodesImmediates};
 
 use crate::{MemArg, Ordering, V128};
 use wasm_imm_control::below::WasmFeatures;

@@ -1,4 +1,4 @@
-ghost use Rattle.std.specs.Prelude.{◌≡◌, ◌+◌, ◌/◌, ◌%◌, ◌<◌, ◌≤◌, ◌↔◌, IsTrue, IfSome, IfNone, IfErr};
+ghost use Rattle.std.specs.Prelude.{◌≡◌, ◌/◌, ◌%◌, ◌<◌, ◌≤◌, ◌↔◌, IsTrue, IfSome, IfNone, IfErr};
 ghost use Rattle.wasm_imm_control.specs.below.Source.{Reads, at_position, offset_of};
 ghost use Rattle.wasm_imm_control.specs.below.Number.{EncodesUnsigned};
 ghost use Rattle.wasm_imm.specs.MemoryArgument.{EncodesMemArg, EncodesOffset, IsOrderingByte};

@@ -1,4 +1,4 @@
-ghost use Rattle.std.specs.Prelude.{◌≡◌, ◌≤◌, IfErr};
+ghost use Rattle.std.specs.Prelude.{◌≤◌, IfErr};
 ghost use Rattle.wasm_imm_control.specs.below.Source.{Reads, offset_of};
 ghost use Rattle.wasm_imm.specs.Orderings.{EncodesOrderingByte, EncodesFence};
 ghost use Rattle.wasm_imm_control.specs.below.Source.{ReadsFrom};

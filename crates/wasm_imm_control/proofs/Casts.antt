@@ -1,28 +1,27 @@
-use Rattle.std.proofs.Common.{◌≡◌, ℕ, zero, suc, ◌≤◌, Bool, true, false, List, [], ◌∷◌, ◌++◌, Ok, refl, sym, ap, ◌∙◌, arith}
+use Rattle.std.proofs.Common.{◌≡◌, ℕ, zero, suc, ◌≤◌, ◌/◌, ◌%◌, Bool, true, false, List, [], ◌∷◌, ◌++◌, Ok, refl, sym, ap, ◌∙◌, arith}
+use Rattle.std.specs.Prelude.{◌==◌}
 use Rattle.wasm_below.specs.bytes.error.Error.{Error}
-use Rattle.wasm_below.specs.declared.types.HeapType.{HeapType}
 use Rattle.wasm_below.specs.Number.{EncodesUnsigned}
 use Rattle.wasm_below.specs.Reference.{Reference}
 use Rattle.wasm_below.specs.Sequence.{Then, PrefixCode}
 use Rattle.wasm_below.specs.Source.{Reader, at_position, Takes, IsRefusal, Reads, IsByte}
 use Rattle.wasm_below.proofs.Sequences.{then_first, then_second, then_prefix_code, refuses_by}
 use Rattle.wasm_below.proofs.TakesLemmas.{back, takes_then}
-use Rattle.wasm_below.proofs.TypePrefixCodes.{heap_prefix_code}
+use Rattle.wasm_below.proofs.TypePrefixCodes.{heap_prefix_code, same_reference}
 use Rattle.wasm_imm_control.specs.declared.cast.Cast.{Cast}
-use Rattle.wasm_imm_control.specs.Casts.{cast_flags, EncodesCast, EncodesReference, first_null, second_null}
+use Rattle.wasm_imm_control.specs.Casts.{cast_flags, EncodesCast, EncodesReference}
 use Rattle.wasm_below.proofs.PrefixCode.{byte_prefix_code}
 use Rattle.wasm_below.proofs.Steps.{number_prefix_code}
-
-reference_of : Bool → HeapType → Reference
-reference_of nullable h = record { nullable = nullable; heap_type = h }
-
-same_reference : (r s : Reference) → r.nullable ≡ s.nullable → r.heap_type ≡ s.heap_type → r ≡ s
-unfolding reference_of
-same_reference r s n h = ap (λ z. reference_of z r.heap_type) n ∙ ap (reference_of s.nullable) h
 
 pub reference_prefix_code : (nullable : Bool) → PrefixCode (EncodesReference nullable)
 reference_prefix_code nullable a b x y r s p q e = let o = heap_prefix_code a b x y r.heap_type s.heap_type p.1 q.1 e in
     (o.0, same_reference r s (p.0 ∙ sym q.0) o.1)
+
+abbrev pub first_null : ℕ → Bool
+first_null flags = flags % 2 == 1
+
+abbrev second_null : ℕ → Bool
+second_null flags = flags / 2 == 1
 
 first_of_flags : (a b : Bool) → first_null (cast_flags a b) ≡ a
 first_of_flags false false = refl

@@ -6,11 +6,11 @@ use Rattle.wasm_below.specs.Refusal.{IsReadFault}
 use Rattle.wasm_below.specs.Sequence.{Then, PrefixCode}
 use Rattle.wasm_below.specs.Source.{Reader, rest, offset_of, end_of, at_position, Takes, NoPrefix, SomePrefix, MayFollow, IsAhead, IsRefusal, Reads}
 use Rattle.wasm_below.proofs.TakesLemmas.{back, ahead_before}
-use Rattle.wasm_below.proofs.Sequences.{then_first}
 use Rattle.wasm_imm_control.specs.Lists.{EncodesMany}
 use Rattle.wasm_imm_control.specs.OutOfMemory.{IsOutOfMemoryAt, IsRefusedFrom}
-use Rattle.wasm_below.proofs.Steps.{began_within, no_second}
+use Rattle.wasm_below.proofs.Steps.{began_within}
 use Rattle.wasm_imm_control.proofs.ListLemmas.{PrefixAlone, many_none}
+use Rattle.wasm_below.proofs.Sequences.{then_no_second}
 
 pub as_refused : {X : Type 0} (P : List ℕ → X → Type 0) (takes : Bool) (e : Error) (old : Reader) → IsRefusal P e old → IsRefused P takes e old
 as_refused P takes e old h = record { refuses = h.refuses; ahead = h.ahead; memory = λ m. absurd (subst IsReadFault m h.fault) }
@@ -19,10 +19,6 @@ pub refused_by : {X Y : Type 0} (P : List ℕ → X → Type 0) (Q : List ℕ �
     ((text : List ℕ) (y : Y) → Q text y → (x : X) × P text x) → IsRefused P takes e old → IsRefused Q takes e old
 refused_by P Q takes e old f h =
     record { refuses = λ more follow text rest y q eq. let p = f text y q in h.refuses more follow text rest p.0 p.1 eq; ahead = h.ahead; memory = h.memory }
-
-pub first_refused : {X Y : Type 0} (P : List ℕ → X → Type 0) (Q : X → List ℕ → Y → Type 0) (takes : Bool) (e : Error) (old : Reader) → IsRefusal P e old →
-    IsRefused (Then P Q) takes e old
-first_refused P Q takes e old h = as_refused (Then P Q) takes e old (then_first P Q e old h)
 
 pub begun_refused : {X Y : Type 0} (P : List ℕ → X → Type 0) (Q : X → List ℕ → Y → Type 0) (e f : Error) (old mid mid2 new : Reader) (x : X) (position : ℕ) →
     PrefixCode P → ((text : List ℕ) → P text x → 0 < length text) → Reads P (Ok x) old mid → (mid2 ≡ mid) × IsRefused (Q x) true e mid →
@@ -35,7 +31,7 @@ begun_refused P Q e f old mid mid2 new x position prefix_code some (text, p, t) 
       back old mid new text position t at (went ∙ ap (λ (r : Reader). at_position r position) same),
       record {
         refuses = λ more follow. subst (λ z. NoPrefix (Then P Q) (z ++ more)) (sym t.parts)
-            (no_second P Q text (rest mid) more x prefix_code p (h.refuses more (subst (λ m. MayFollow m more) kept follow)));
+            (then_no_second P Q text (rest mid) more x prefix_code p (h.refuses more (subst (λ m. MayFollow m more) kept follow)));
         ahead = placed place ahead here within;
         memory = λ m. (refl, begun place m here);
       },

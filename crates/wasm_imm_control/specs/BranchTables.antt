@@ -41,6 +41,7 @@ abbrev pub with_byte : ℕ → List ℕ → List ℕ
 with_byte byte [] = byte ∷ []
 with_byte byte (n ∷ numbers) = before_number (ltb byte 128) byte n numbers
 
+-- The numbers that these bytes encode, in sequence.
 abbrev pub numbers_of : List ℕ → List ℕ
 numbers_of [] = []
 numbers_of (byte ∷ bytes) = with_byte byte (numbers_of bytes)

@@ -1,5 +1,5 @@
 -- Specification: Binary Format, Control Instructions.
-use Rattle.std.specs.Prelude.{◌≡◌, ◌==◌, ℕ, ◌/◌, ◌%◌, Bool, true, false, List, ◌∷◌, ◌++◌}
+use Rattle.std.specs.Prelude.{◌≡◌, ℕ, Bool, true, false, List, ◌∷◌, ◌++◌}
 use Rattle.wasm_below.specs.Number.{EncodesUnsigned}
 use Rattle.wasm_below.specs.Reference.{Reference}
 use Rattle.wasm_below.specs.TypeEncoding.{EncodesHeapType}
@@ -20,9 +20,3 @@ EncodesCast text c = (label first second : List ℕ) × (text ≡ cast_flags c.f
 
 abbrev pub EncodesReference : Bool → List ℕ → Reference → Type 0
 EncodesReference nullable text r = (r.nullable ≡ nullable) × EncodesHeapType text r.heap_type
-
-abbrev pub first_null : ℕ → Bool
-first_null flags = flags % 2 == 1
-
-abbrev pub second_null : ℕ → Bool
-second_null flags = flags / 2 == 1

@@ -1,4 +1,4 @@
-ghost use Rattle.std.specs.Prelude.{◌≡◌, length, true, IfOk, IfErr};
+ghost use Rattle.std.specs.Prelude.{◌≡◌, length, IfOk, IfErr};
 ghost use Rattle.wasm_below.specs.Source.{SomePrefix, rest};
 ghost use Rattle.wasm_imm_control.specs.HandlerTables.{EncodesTryTable, EncodesTryTableCount, EncodesResumeTable, EncodesHandlerCount};
 ghost use Rattle.wasm_imm_control.specs.ListFaults.{TryTableFault, ResumeTableFault};

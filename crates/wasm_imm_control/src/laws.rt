@@ -1,5 +1,6 @@
 //! Laws of the immediates of control operators: encodings are prefix codes, faults determine
-//! errors, and `==` is exact.
+//! errors, and `==` is exact. For catches, clauses and their tables, `is_prefix_code` and
+//! `determines_refusal` of `FromReader` state the first two.
 ghost use Rattle.std.specs.Prelude.{◌≡◌, ◌<◌, ℕ, List, true};
 ghost use Rattle.wasm_below.specs.bytes.features.WasmFeatures.{WasmFeatures};
 ghost use Rattle.wasm_below.specs.bytes.message.SizeName.{SizeName};
@@ -10,13 +11,11 @@ ghost use Rattle.wasm_below.specs.Sequence.{PrefixCode};
 ghost use Rattle.wasm_imm_control.specs.BlockTypeFaults.{BlockTypeFault};
 ghost use Rattle.wasm_imm_control.specs.BlockTypes.{EncodesBlockType};
 ghost use Rattle.wasm_imm_control.specs.BranchTableFaults.{BranchTableFault};
-ghost use Rattle.wasm_imm_control.specs.BranchTables.{BranchTable, EncodesBranchTable};
+ghost use Rattle.wasm_imm_control.specs.BranchTables.{BranchTable, EncodesBranchTable, numbers_of};
 ghost use Rattle.wasm_imm_control.specs.CastFaults.{CastFault};
 ghost use Rattle.wasm_imm_control.specs.Casts.{EncodesCast};
-ghost use Rattle.wasm_imm_control.specs.HandlerFaults.{CatchFault, HandleFault};
-ghost use Rattle.wasm_imm_control.specs.Handlers.{EncodesCatch, EncodesHandle};
-ghost use Rattle.wasm_imm_control.specs.HandlerTables.{EncodesSelect, EncodesTryTable, EncodesResumeTable};
-ghost use Rattle.wasm_imm_control.specs.ListFaults.{ListFault, TryTableFault, ResumeTableFault, SelectFault};
+ghost use Rattle.wasm_imm_control.specs.HandlerTables.{EncodesSelect};
+ghost use Rattle.wasm_imm_control.specs.ListFaults.{ListFault, SelectFault};
 ghost use Rattle.wasm_imm_control.specs.Lists.{EncodesMany};
 ghost use Rattle.wasm_imm_control.specs.BranchTableEquality.{same_table};
 
@@ -39,16 +38,6 @@ pub fn select_types()
     ensures { PrefixCode EncodesSelect }
 {}
 
-pub fn handlers()
-    ensures catches { PrefixCode EncodesCatch }
-    ensures clauses { PrefixCode EncodesHandle }
-{}
-
-pub fn handler_tables()
-    ensures catches { PrefixCode EncodesTryTable }
-    ensures clauses { PrefixCode EncodesResumeTable }
-{}
-
 pub fn list_refusals<'a, T: FromReader<'a>>()
     ensures { (name : SizeName) (limit : ℕ) (features : WasmFeatures)
         → PrefixCode (T.encodes features)
@@ -63,11 +52,9 @@ pub fn control_refusals()
     ensures select { DeterminesRefusal SelectFault }
 {}
 
-pub fn handler_refusals()
-    ensures catches { DeterminesRefusal CatchFault }
-    ensures clauses { DeterminesRefusal HandleFault }
-    ensures try_table { DeterminesRefusal TryTableFault }
-    ensures resume_table { DeterminesRefusal ResumeTableFault }
+/// States that bytes encode one list of targets.
+pub fn target_numbers()
+    ensures { (count : ℕ) (text numbers : List ℕ) → EncodesMany (EncodesUnsigned 32) count text numbers → numbers_of text ≡ numbers }
 {}
 
 /// States that equal branch tables have the same targets.

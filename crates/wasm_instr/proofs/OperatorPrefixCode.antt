@@ -1,6 +1,5 @@
-use Rattle.std.proofs.Common.{◌≡◌, ℕ, Bool, true, false, cond, eqb, ltb, List, [], ◌∷◌, ◌++◌, Option, Some, None, map, refl, sym, ap, subst, ◌∙◌, append_assoc}
+use Rattle.std.proofs.Common.{◌≡◌, ℕ, true, false, cond, eqb, ltb, List, [], ◌∷◌, ◌++◌, Option, Some, None, map, refl, sym, ap, ◌∙◌, append_assoc}
 use Rattle.wasm_instr_ops.specs.below.bytes.features.WasmFeatures.{WasmFeatures}
-use Rattle.wasm_instr_ops.specs.below.Number.{EncodesUnsigned}
 use Rattle.wasm_instr_ops.proofs.of_below.PrefixCode.{unsigned_prefix_code}
 use Rattle.wasm_instr_ops.proofs.of_below.TakesLemmas.{same_rest}
 use Rattle.wasm_instr_ops.specs.imm.Immediate.{Immediate, Kind, kind_of}

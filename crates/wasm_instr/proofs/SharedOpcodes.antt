@@ -1,4 +1,4 @@
-use Rattle.std.proofs.Common.{◌≡◌, ◌⊎◌, inl, inr, ℕ, Bool, true, false, cond, List, [], Option, refl, sym, ap, ◌∙◌}
+use Rattle.std.proofs.Common.{◌≡◌, ◌⊎◌, inl, inr, Bool, true, false, cond, [], refl, sym, ap, ◌∙◌}
 use Rattle.wasm_instr_ops.specs.Numeric.{numeric_opcode}
 use Rattle.wasm_instr_ops.proofs.NumericByOpcode.{numeric_at, numeric_named, numeric_range}
 use Rattle.wasm_instr_ops.proofs.GcByOpcode.{gc_named}

@@ -12,10 +12,8 @@ pub use frame_stack::FrameStack;
 pub use operator::Operator;
 pub use wasm_grammar::FrameKind;
 pub use wasm_instr_ops::imm::{
-    BlockType, BrTable, BrTableTargets, Cast, Catch, Catches, Handle, Handles, Ieee32, Ieee64,
-    MemArg, MemArgKind, MemArgOrdering, MemArgTarget, Members, OperatorInfo, Ordering, Proposal,
-    ReadImmediates, ResumeTable, Select, SelectTypes, TryTable, V128, read_lane, read_lanes,
-    read_memory_index, read_table_index,
+    BlockType, BrTable, Catch, Handle, Ieee32, Ieee64, MemArg, MemArgOrdering, MemArgTarget,
+    OperatorInfo, Ordering, Proposal, ResumeTable, SelectTypes, TryTable, V128,
 };
 pub use wasm_instr_ops::{AtomicOperator, GcOperator, MiscOperator, NumericOperator, below, imm};
 pub use wasm_instr_simd::SimdOperator;

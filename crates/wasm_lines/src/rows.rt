@@ -1,4 +1,4 @@
-ghost use Rattle.std.specs.Prelude.{◌≡◌, ◌++◌, ◌+◌, ◌-◌, ◌*◌, ◌/◌, ◌^◌, ◌<◌, ◌≤◌, ◌∷◌, OnOk, string_bytes, length, codes, flat_map};
+ghost use Rattle.std.specs.Prelude.{◌≡◌, ◌++◌, ◌+◌, ◌-◌, ◌*◌, ◌/◌, ◌^◌, ◌<◌, ◌≤◌, OnOk, string_bytes, length, codes, flat_map};
 ghost use Rattle.std.specs.List.{repeat};
 ghost use Rattle.wasm_text.specs.Values.{spaced_byte};
 ghost use Rattle.wasm_lines.specs.Rows.{offset_text, column, row, line_begin, line_end};

@@ -29,10 +29,6 @@ added_more features t only place (c ∷ cs) b reported one before mid after at i
       added_more features t only (place + 1) cs b others one between mid after at next later last,
     )
 
-pub adds_none : {S : Type 0} (reports : S → ℕ → Error → S → Type 0) (features : WasmFeatures) (t : ModuleFunctions) (only : Option ℕ) (s : S) →
-    Adds reports features t only [] [] s s no_counts
-adds_none reports features t only s = record { added = (refl, refl); reported_all = refl }
-
 pub adds_more : {S : Type 0} (reports : S → ℕ → Error → S → Type 0) (features : WasmFeatures) (t : ModuleFunctions) (only : Option ℕ) (bs : List Reader) (b : Reader)
     (reported one : Refusals) (at : ℕ) (before mid after : S) (counts more : List ℕ) → at ≡ length bs →
     Adds reports features t only bs reported before mid counts → IsAdded features t only at b one counts more → Reported reports one mid after →

@@ -5,7 +5,7 @@ use Rattle.wasm_disassembly.specs.operators.below.Source.{Reader, offset_of, end
 use Rattle.wasm_disassembly.specs.operators.Section.{SectionItems, StepsSection}
 use Rattle.wasm_module_listing.specs.declared.fault.Fault.{Fault}
 use Rattle.wasm_module_listing.specs.declared.fault.Fault.TheVariants as fault
-use Rattle.wasm_module_listing.specs.Listing.{WhereAsked, IsHalt, IsLater, WritesNothing}
+use Rattle.wasm_module_listing.specs.Listing.{WhereAsked, IsHalt, IsLater}
 
 pub asked_for : (A B : Type 0) (asked given : Bool) → asked ≡ given → asked ≡ true → A → WhereAsked given A B
 asked_for A B asked given same is a = subst (λ b. WhereAsked b A B) (sym is ∙ same) a
@@ -30,11 +30,3 @@ halts_later (fault.Section _) h = h
 halts_later (fault.Code _) h = tt
 halts_later fault.Writing h = h
 halts_later fault.Memory h = h
-
-pub later_writes : (f : Fault) → IsLater f → WritesNothing f → ⊥
-later_writes (fault.Module _) h w = h
-later_writes (fault.NoFunction _) h w = h
-later_writes (fault.Section _) h w = h
-later_writes (fault.Code _) h w = w
-later_writes fault.Writing h w = w
-later_writes fault.Memory h w = w

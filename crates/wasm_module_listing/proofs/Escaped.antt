@@ -1,5 +1,5 @@
-use Rattle.std.proofs.Common.{◌≡◌, ℕ, zero, suc, ◌+◌, ◌/◌, ◌%◌, ◌<◌, Bool, true, false, List, [], ◌∷◌, length, refl, sym, subst, ap, ◌∙◌, arith, cond}
-use Rattle.std.proofs.lemmas.Bool.{ltb-true, ltb-false}
+use Rattle.std.proofs.Common.{◌≡◌, ℕ, zero, suc, ◌+◌, ◌/◌, ◌%◌, ◌<◌, Bool, true, false, List, [], ◌∷◌, refl, sym, subst, ap, ◌∙◌, arith, cond}
+use Rattle.std.proofs.lemmas.Bool.{ltb-true, ltb-false, false_from_ne_true}
 use Rattle.std.specs.Prelude.{flat_map, nat_lt, nat_eq}
 use Rattle.std.specs.List.{All}
 use Rattle.std.specs.Fmt.{digit_glyph}
@@ -11,10 +11,6 @@ use Rattle.wasm_module_listing.specs.Escapes.{escape, utf8_byte, ascii_byte, utf
 
 -- ---- the name that is shown
 
-none_is_false : (b : Bool) → (b ≡ true → ⊥) → b ≡ false
-none_is_false true p = absurd (p refl)
-none_is_false false p = refl
-
 pub in_utf8 : (name shown : List ℕ) → shown ≡ utf8_name name → IsUtf8 shown → shown ≡ escaped name
 in_utf8 name shown is utf8 =
     let test = is_utf8-from_IsUtf8 (utf8_name name) (subst IsUtf8 is utf8) in
@@ -22,7 +18,7 @@ in_utf8 name shown is utf8 =
 
 pub in_ascii : (name shown : List ℕ) → shown ≡ utf8_name name → (IsUtf8 shown → ⊥) → flat_map ascii_byte name ≡ escaped name
 in_ascii name shown is none =
-    let test = none_is_false (is_utf8 (utf8_name name)) (λ yes. none (subst IsUtf8 (sym is) (IsUtf8-from_is_utf8 (utf8_name name) yes))) in
+    let test = false_from_ne_true (is_utf8 (utf8_name name)) (λ yes. none (subst IsUtf8 (sym is) (IsUtf8-from_is_utf8 (utf8_name name) yes))) in
     sym (ap (λ b. cond b (utf8_name name) (flat_map ascii_byte name)) test)
 
 -- ---- it has no control character

@@ -1,7 +1,5 @@
-ghost use Rattle.std.specs.Prelude.{◌≡◌, ◌++◌, ◌+◌, ◌/◌, ◌%◌, ◌^◌, IfErr, OnOk, codes, length, string_bytes};
+ghost use Rattle.std.specs.Prelude.{◌≡◌, ◌++◌, ◌+◌, ◌/◌, ◌%◌, IfErr, OnOk, string_bytes};
 ghost use Rattle.std.specs.Io.KnownBytes.{Appends};
-ghost use Rattle.wasm_disassembly.specs.operators.below.Source.{offset_of, end_of, rest};
-ghost use Rattle.wasm_module_listing.specs.Escapes.{escaped};
 ghost use Rattle.wasm_module_listing.specs.Headers.{section_name, hex_text, range_text, detail_text, HasDetail, section_line, ListsSections, IsSectionFault};
 ghost use Rattle.wasm_module_listing.specs.Listing.{IsHalt};
 

@@ -1,5 +1,4 @@
 ghost use Rattle.std.specs.Prelude.{◌≡◌, Some, MatchOption, IfOk, IfErr, length};
-ghost use Rattle.wasm_disassembly.specs.operators.below.Source.{reader_of};
 ghost use Rattle.wasm_functions.specs.ModuleFunctions.{IsOwn};
 ghost use Rattle.wasm_module_listing.specs.Listing.{IsThere, OpensModule, RefusesModule};
 

@@ -5,7 +5,7 @@ use Rattle.wasm_operators_readers.specs.below.bytes.message.Message.{Message}
 use Rattle.wasm_operators_readers.specs.below.Fault.{DeterminesRefusal}
 use Rattle.wasm_operators_readers.specs.below.FromReader.{SameReader}
 use Rattle.wasm_operators_readers.specs.below.Sequence.{PrefixCodeUpTo}
-use Rattle.wasm_operators_readers.specs.below.Source.{Reader, rest, offset_of, at_position, Takes}
+use Rattle.wasm_operators_readers.specs.below.Source.{Reader, rest, offset_of, at_position}
 use Rattle.wasm_operators_readers.specs.grammar.declared.frame_kind.FrameKind.{FrameKind}
 use Rattle.wasm_operators_readers.specs.grammar.declared.frame_kind.FrameKind.TheVariants as frame
 use Rattle.wasm_operators_readers.specs.grammar.Frames.{Allows, replacement, frames_after, frames_along}
@@ -24,6 +24,8 @@ use Rattle.wasm_operators_readers.proofs.of_decoder.DeterminedOperatorRefusals.{
 use Rattle.wasm_operators.specs.Constant.{HasNoEnd, EncodesConstantReader}
 use Rattle.wasm_operators.specs.ConstantFaults.{PassesOperators, IsNoOperator, EndsInside, ConstantFault}
 use Rattle.wasm_operators.proofs.OneEnd.{constant_at}
+use Rattle.wasm_operators_readers.proofs.of_grammar.Paths.{some_is}
+use Rattle.wasm_operators_readers.proofs.Runs.{features_stay}
 
 pub constant_prefix_code : (f : WasmFeatures) → PrefixCodeUpTo SameReader (EncodesConstantReader f)
 constant_prefix_code f a b x y m n first second e =
@@ -32,9 +34,6 @@ constant_prefix_code f a b x y m n first second e =
     let same = one_whole [] f 0 p.0 q.0 a b x y p.1 q.1 p.2 q.2 e in
     let buffers = first.0.1 ∙ same.1 ∙ sym second.0.1 in
     (same.1, (first.0.0 ∙ sym second.0.0, buffers, first.0.2 ∙ sym second.0.2))
-
-some_is : {X : Type 0} {x y : X} → Some x ≡ Some y → x ≡ y
-some_is e = cc e
 
 end_encodes : (f : WasmFeatures) → EncodesOperator f operator.End (0x0b ∷ [])
 end_encodes f = record { head = 0x0b ∷ []; after = []; parts = refl; code = refl; immediates = refl; enabled = tt }
@@ -58,9 +57,6 @@ no_end_there : (first : List Operator) (next : Operator) (more : List Operator) 
 no_end_there [] next more h is = h.0 is
 no_end_there (x ∷ xs) next more h is = no_end_there xs next more h.1 is
 
-features_there : (old new : Reader) (text : List ℕ) → Takes old new text → new.features ≡ old.features
-features_there old new text t = ap (λ (r : Reader). r.features) t.moved
-
 not_shorter : (m : Message) (r a b : Reader) (xs ys : List FrameKind) (offset : ℕ) (p : PassesOperators r a xs) (q : PassesOperators r b ys) →
     Ended m a xs offset →
     length q.placed ≤ length p.placed
@@ -73,7 +69,7 @@ not_shorter m r a b xs ys offset p q ended =
   where
     goes : GoesOn r.features p.placed q.placed (rest a) → ⊥
     goes g =
-        let encodes = subst (λ f. EncodesOperator f g.next.0 g.text) (sym (features_there r a p.text p.takes)) g.encodes in
+        let encodes = subst (λ f. EncodesOperator f g.next.0 g.text) (sym (features_stay r a p.text p.takes)) g.encodes in
         let ops = ap operators g.parts ∙ operators-append p.placed (g.next ∷ g.others) in
         let other = no_end_there (operators p.placed) g.next.0 (operators g.others) (subst HasNoEnd ops q.no_end) in
         next_allowed r.features (frame.Block ∷ []) xs ys p.placed q.placed (rest a) p.along q.along g

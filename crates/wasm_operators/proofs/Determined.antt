@@ -1,4 +1,4 @@
-use Rattle.std.proofs.Common.{◌≡◌, ℕ, ◌+◌, List, [], ◌∷◌, ◌++◌, length, refl, sym, subst, ap, ◌∙◌, append_assoc, arith, inl, inr}
+use Rattle.std.proofs.Common.{◌≡◌, ℕ, ◌+◌, List, [], ◌++◌, length, refl, sym, subst, ap, ◌∙◌, append_assoc, arith, inl, inr}
 use Rattle.wasm_operators_readers.specs.below.Fault.{DeterminesRefusal, ManyFault}
 use Rattle.wasm_operators_readers.specs.below.FromReader.{EncodesReader, SameReader}
 use Rattle.wasm_operators_readers.specs.below.Number.{EncodesUnsigned}
@@ -16,6 +16,7 @@ use Rattle.wasm_operators_readers.proofs.LayoutLemmas.{one_whole}
 use Rattle.wasm_operators.specs.Body.{source_after, EncodesBody}
 use Rattle.wasm_operators.specs.Locals.{Declaration, EncodesDeclaration, DeclarationFault, LocalsFault, NumberedFault, NextFault}
 use Rattle.wasm_operators.proofs.LocalsLemmas.{declaration_prefix_code, locals_prefix_code}
+use Rattle.wasm_operators_readers.proofs.of_imm.VectorPrefixCodes.{same_length}
 
 pub declaration_determines : DeterminesRefusal DeclarationFault
 declaration_determines =
@@ -36,20 +37,11 @@ pub next_determines : (total : ℕ) → DeterminesRefusal (NextFault total)
 next_determines total =
     then_determines (EncodesUnsigned 32) U32Fault (NumberedFault total) (number_prefix_code 32) u32_determines (numbered_determines total)
 
-same_start : (a b x y : List ℕ) → length a ≡ length b → a ++ x ≡ b ++ y → a ≡ b
-same_start [] [] x y n e = refl
-same_start [] (c ∷ b) x y n e = absurd (omega (arith, n))
-same_start (c ∷ a) [] x y n e = absurd (omega (arith, n))
-same_start (c ∷ a) (d ∷ b) x y n e =
-    let fewer : length a ≡ length b = omega (arith, n) in
-    let same : a ≡ b = same_start a b x y fewer (cc e) in
-    cc (e, same)
-
 pub reader_prefix_code : (features : WasmFeatures) → PrefixCodeUpTo SameReader (EncodesReader features)
 reader_prefix_code features a b x y r s (a1, a2, n, ea, pa, (ra, ba, za, la)) (b1, b2, k, eb, pb, (rb, bb, zb, lb)) e =
     let whole : a1 ++ (a2 ++ x) ≡ b1 ++ (b2 ++ y) = sym (append_assoc a1 a2 x) ∙ ap (λ z. z ++ x) (sym ea) ∙ e ∙ ap (λ z. z ++ y) eb ∙ append_assoc b1 b2 y in
     let o = number_prefix_code 32 a1 b1 (a2 ++ x) (b2 ++ y) n k pa pb whole in
-    let same : a2 ≡ b2 = same_start a2 b2 x y (la ∙ o.1 ∙ sym lb) (same_rest a1 b1 (a2 ++ x) (b2 ++ y) o.0 whole) in
+    let same : a2 ≡ b2 = same_length a2 b2 x y (la ∙ o.1 ∙ sym lb) (same_rest a1 b1 (a2 ++ x) (b2 ++ y) o.0 whole) in
     (ea ∙ cc (o.0, same) ∙ sym eb, (ra ∙ sym rb, ba ∙ same ∙ sym bb, za ∙ sym zb))
 
 pub one_body_of : (s : Source) (declarations others : List Declaration) (first second : Placed) → EncodesBody s declarations first →

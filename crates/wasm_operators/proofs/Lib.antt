@@ -8,4 +8,3 @@ pub mod Passed
 pub mod Refused
 pub mod Read
 pub mod ConstantDetermined
-pub use Rattle.wasm_operators_readers.proofs as of_readers

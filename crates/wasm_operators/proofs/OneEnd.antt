@@ -14,6 +14,7 @@ use Rattle.wasm_operators_readers.specs.instr.Roles.{role_of, roles_of}
 use Rattle.wasm_operators_readers.specs.Expression.{Placed, operators, LaidOut, AreWalk, IsBeginningOf}
 use Rattle.wasm_operators_readers.proofs.LayoutLemmas.{operators-append}
 use Rattle.wasm_operators.specs.Constant.{HasNoEnd, EndsOnce, EncodesConstantReader}
+use Rattle.wasm_operators_readers.proofs.of_grammar.Paths.{some_is}
 
 no_end_push : (ops : List Operator) (op : Operator) → HasNoEnd ops → (op ≡ operator.End → ⊥) → HasNoEnd (ops ++ op ∷ [])
 no_end_push [] op h other = (other, tt)
@@ -76,9 +77,6 @@ role_ends _ e = absurd (cc e)
 
 abbrev IsOpen : List FrameKind → Type 0
 IsOpen frames = (inside : List FrameKind) × (frames ≡ frame.Block ∷ inside)
-
-some_is : {X : Type 0} {x y : X} → Some x ≡ Some y → x ≡ y
-some_is e = cc e
 
 open_alone : {A : Type 0} (role : Role A) (next : List FrameKind) → (role ≡ ends → ⊥) → replacement frame.Block role ≡ Some next → IsOpen next
 open_alone (plain a) next other e = ([], sym (some_is e))

@@ -24,9 +24,6 @@ same_locals r s count total e = ap (λ z. locals_of z count total) e
 next_refused : (total : ℕ) (e : Error) (old : Reader) → IsRefusal EncodesDeclaration e old → IsRefused (EncodesNext total) false e old
 next_refused total e old h = refused_by EncodesDeclaration (EncodesNext total) false e old (λ text d p. (d, p.0)) (as_refused EncodesDeclaration false e old h)
 
-numbered : (text : List ℕ) (d : Declaration) → EncodesDeclaration text d → (front more : List ℕ) × (text ≡ front ++ more) × EncodesUnsigned 32 front d.0
-numbered text d (a, b, e, p, q) = (a, b, e, p)
-
 no_number : (e : Error) (old : Reader) → IsRefusal (EncodesUnsigned 32) e old → IsRefusal EncodesDeclaration e old
 no_number e old h =
     record {

@@ -1,8 +1,7 @@
 ghost use Rattle.std.specs.Prelude.{◌≡◌, ◌≢◌, ℕ, List, [], ◌∷◌, ◌++◌, Some, Ok};
 ghost use Rattle.wasm_operators_readers.specs.below.bytes.error.Error.{Error};
 ghost use Rattle.wasm_operators_readers.specs.below.Fault.{DeterminesRefusal};
-ghost use Rattle.wasm_operators_readers.specs.below.FromReader.{EncodesReader, SameReader};
-ghost use Rattle.wasm_operators_readers.specs.below.Sequence.{PrefixCode, PrefixCodeUpTo};
+ghost use Rattle.wasm_operators_readers.specs.below.Sequence.{PrefixCode};
 ghost use Rattle.wasm_operators_readers.specs.below.Source.{Source, Reader, source_of};
 ghost use Rattle.wasm_operators_readers.specs.opcodes.Allowed.{EncodesAllowed};
 ghost use Rattle.wasm_operators_readers.specs.opcodes.OperatorFaults.{OperatorFault};
@@ -13,7 +12,7 @@ ghost use Rattle.wasm_operators_readers.specs.Reading.{State, Anywhere};
 ghost use Rattle.wasm_operators.specs.Body.{EncodesBody, OpensBody, StopsBody};
 ghost use Rattle.wasm_operators.specs.Locals.{Declaration, EncodesDeclaration, EncodesLocals, DeclarationFault, LocalsFault, NextFault, RefusesLocals, IsPastLocals, Locals, LocalsLeft, OpensLocals, StepsLocals, HasStepped, all_left};
 
-use wasm_operators_readers::below::{Message, WasmFeatures};
+use wasm_operators_readers::below::Message;
 
 /// States that no encoding of a declaration, or of locals, is a proper prefix of another, and each
 /// has one value.
@@ -27,11 +26,6 @@ pub fn refusals()
     ensures one { DeterminesRefusal DeclarationFault }
     ensures next { (total : ℕ) → DeterminesRefusal (NextFault total) }
     ensures locals { DeterminesRefusal LocalsFault }
-{}
-
-/// States that no body with its length is a proper prefix of another.
-pub fn lengths(features: WasmFeatures)
-    ensures { PrefixCodeUpTo SameReader (EncodesReader features) }
 {}
 
 /// States that bytes encode at most one body.

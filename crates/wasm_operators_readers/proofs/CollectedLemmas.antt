@@ -1,4 +1,4 @@
-use Rattle.std.proofs.Common.{◌≡◌, ℕ, List, [], ◌∷◌, ◌++◌, Result, refl, sym, ap, ◌∙◌, append_assoc}
+use Rattle.std.proofs.Common.{◌≡◌, ℕ, List, [], ◌∷◌, ◌++◌, Result, refl, ap, ◌∙◌, append_assoc}
 use Rattle.wasm_decode.specs.instr.declared.operator.Operator.{Operator}
 use Rattle.wasm_operators_readers.specs.Expression.{Placed}
 use Rattle.wasm_operators_readers.specs.Collecting.{CollectsOne, AreMade, Collects}
@@ -18,13 +18,6 @@ collected_push {T} holds old mid new placed op at (items, are, same) (made, held
   made_push holds placed items op at made are held,
   one ∙ ap (λ (x : List (T × ℕ)). x ++ (made, at) ∷ []) same ∙ append_assoc old items ((made, at) ∷ []),
 )
-
-pub collected_none : {T : Type 0} (holds : Operator → T → Type 0) (old : List (T × ℕ)) → Collects holds old old []
-collected_none {T} holds old = ([], refl, sym (append_none old))
-  where
-    append_none : (x : List (T × ℕ)) → x ++ [] ≡ x
-    append_none [] = refl
-    append_none (y ∷ ys) = ap (λ (z : List (T × ℕ)). y ∷ z) (append_none ys)
 
 made_same : (placed items : Placed) → AreMade (λ op made. made ≡ op) placed items → items ≡ placed
 made_same [] items none = none

@@ -14,7 +14,7 @@ use Rattle.wasm_decode.specs.grammar.Role.{ends}
 use Rattle.wasm_decode.specs.grammar.Frames.{frames_after, frames_along}
 use Rattle.wasm_decode.specs.grammar.Beginning.{IsWalk}
 use Rattle.wasm_decode.specs.grammar.OpenPath.{OpenPath}
-use Rattle.wasm_decode.proofs.of_grammar.Paths.{run_path, same_frames}
+use Rattle.wasm_decode.proofs.of_grammar.Paths.{run_path, same_frames, some_is}
 use Rattle.wasm_decode.proofs.of_grammar.Runs.{ends_complete}
 use Rattle.wasm_decode.specs.instr.declared.operator.Operator.{Operator}
 use Rattle.wasm_decode.specs.instr.declared.operator.Operator.TheVariants as operator
@@ -22,15 +22,12 @@ use Rattle.wasm_decode.specs.instr.Encoding.{EncodesOperator}
 use Rattle.wasm_decode.specs.instr.Roles.{role_of, roles_of}
 use Rattle.wasm_operators_readers.specs.Expression.{Placed, OfPlaced, operators, LaidOut, IsLongestOf}
 use Rattle.wasm_operators_readers.specs.Flat.{IsFlatOf}
-use Rattle.wasm_operators_readers.specs.Reading.{Taking, Refusing, Allocating, State, TakesOperators, StopsRun, EndsRun, ReadsOperator}
+use Rattle.wasm_operators_readers.specs.Reading.{Taking, Refusing, Allocating, State, TakesOperators, StopsRun, EndsRun}
 use Rattle.wasm_operators_readers.specs.MainTheorem.{ReadSoFar, BeginningAt, ReadsBeginning, IsNotOutOfMemory, ClosesFrom, IsCut, CutFault, IsCompletedByEnds}
 use Rattle.wasm_operators_readers.proofs.LayoutLemmas.{roles_of-append, operators-append, roles_of-ends, laid_append, laid_goes_on, laid_no_longer, laid_same, one_longest, GoesOn, next_allowed, goes_allowed}
-use Rattle.wasm_operators_readers.proofs.OneRead.{refused_none, refused_not_taken, one_refusal, closed_read, read_closed}
+use Rattle.wasm_operators_readers.proofs.OneRead.{refused_none, one_refusal, closed_read, read_closed}
 use Rattle.wasm_operators_readers.proofs.Premises.{AreEach, Keeps, TakesEach, IsReading, IsDetermined}
 use Rattle.wasm_operators_readers.proofs.Runs.{features_stay, read_further, IsStuckFor, stuck, run_flat, no_refusal}
-
-some_is : {X : Type 0} {x y : X} → Some x ≡ Some y → x ≡ y
-some_is e = cc e
 
 pub one_flat : (Kept : OfPlaced) (frames : List FrameKind) (s : Source) (first second : Placed) → IsFlatOf Kept frames s first →
     IsFlatOf Kept frames s second → first ≡ second
@@ -193,14 +190,6 @@ abbrev pub SameResult : {X Y : Type 0} → Result X Error → Result Y Error →
 SameResult (Ok x) (Ok y) = Unit {0}
 SameResult (Err d) (Err e) = (d.message ≡ e.message) × (d.offset ≡ e.offset)
 SameResult _ _ = ⊥
-
-pub refused_again : (Encodes : Taking) (Fault : Refusing) (Allocates : Allocating) → IsDetermined Fault → (d : Error) (result : Result Operator Error)
-    (old mid new : State) → ReadsOperator Encodes Fault Allocates (Err d) old mid → (d.message ≡ message.OutOfMemory → ⊥) →
-    ReadsOperator Encodes Fault Allocates result mid new → IsNotOutOfMemory result → SameResult {X = Operator} (Err d) result
-refused_again Encodes Fault Allocates determined d (Ok op) old mid new (same, stops) other takes memory =
-    refused_not_taken Encodes Fault Allocates d mid mid new op refl refl stops other takes
-refused_again Encodes Fault Allocates determined d (Err e) old mid new (same, stops) other (again, others) memory =
-    one_refusal Encodes Fault Allocates determined d e mid new again.0 again.1 stops others other memory
 
 same_stops : (Encodes : Taking) (Fault : Refusing) (Allocates : Allocating) → IsDetermined Fault → (d e : Error) (s t : State) → t.reader ≡ s.reader →
     t.frames ≡ s.frames → StopsRun Encodes Fault Allocates d s → StopsRun Encodes Fault Allocates e t → (d.message ≡ message.OutOfMemory → ⊥) →

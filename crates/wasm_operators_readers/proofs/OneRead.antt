@@ -1,4 +1,4 @@
-use Rattle.std.proofs.Common.{◌≡◌, ℕ, ◌+◌, ◌*◌, ◌<◌, ◌≤◌, List, [], ◌∷◌, ◌++◌, length, Option, Some, None, refl, sym, subst, ap, ◌∙◌, length-append, arith, ◌⊎◌, inl, inr}
+use Rattle.std.proofs.Common.{◌≡◌, ℕ, ◌+◌, ◌*◌, ◌≤◌, List, [], ◌∷◌, ◌++◌, length, Option, Some, None, refl, sym, subst, ap, ◌∙◌, arith, ◌⊎◌, inl, inr}
 use Rattle.std.proofs.lemmas.List.{append-nil}
 use Rattle.wasm_decode.specs.below.bytes.error.Error.{Error}
 use Rattle.wasm_decode.specs.below.bytes.message.Message.{Message}
@@ -15,9 +15,10 @@ use Rattle.wasm_decode.proofs.of_grammar.Steps.{path_step}
 use Rattle.wasm_decode.specs.instr.declared.operator.Operator.{Operator}
 use Rattle.wasm_decode.specs.instr.Roles.{role_of, roles_of}
 use Rattle.wasm_operators_readers.specs.Reading.{Taking, Refusing, Allocating, State, TakesOperator, IsRefusedThere, StopsRead}
-use Rattle.wasm_operators_readers.proofs.LayoutLemmas.{roles_of-append, encoded_some}
+use Rattle.wasm_operators_readers.proofs.LayoutLemmas.{roles_of-append}
 use Rattle.wasm_operators_readers.proofs.OpeningLemmas.{twice_opened, after_length}
 use Rattle.wasm_operators_readers.proofs.Premises.{IsSound, IsReading, IsDetermined}
+use Rattle.wasm_decode.proofs.of_grammar.Paths.{some_is}
 
 pub is_memory : (m : Message) → (m ≡ message.OutOfMemory) ⊎ (m ≡ message.OutOfMemory → ⊥)
 is_memory message.OutOfMemory = inl refl
@@ -64,13 +65,6 @@ pub path_on : (before : List Operator) (op : Operator) (frames next : List Frame
 path_on before op frames next path step =
     subst (λ roles. OpenPath roles next) (sym (roles_of-append before (op ∷ []))) (path_step frames (roles_of before) (role_of op) next path step)
 
-pub shorter : (Encodes : Taking) → IsSound Encodes → (op : Operator) (old new : State) → TakesOperator Encodes op old new →
-    length (rest new.reader) < length (rest old.reader)
-shorter Encodes sound op old new t =
-    let a : length (rest old.reader) ≡ length t.text + length (rest new.reader) = ap length t.takes.parts ∙ length-append t.text (rest new.reader) in
-    let b = encoded_some old.reader.features op t.text (sound old.reader.features t.kind t.text op t.encodes) in
-    omega (arith, a, b)
-
 pub read_depth : (Encodes : Taking) → IsSound Encodes → (op : Operator) (old new : State) (t : TakesOperator Encodes op old new) →
     2 * length new.frames ≤ 2 * length old.frames + length t.text
 read_depth Encodes sound op old new t =
@@ -90,9 +84,6 @@ pub read_closed : (Encodes : Taking) (Fault : Refusing) (Allocates : Allocating)
 read_closed Encodes Fault Allocates e s (inl none) other closed = none.1
 read_closed Encodes Fault Allocates e s (inr (inl there)) other closed = absurd (innermost_not_empty s.frames there.kind there.open_frame closed)
 read_closed Encodes Fault Allocates e s (inr (inr memory)) other closed = absurd (other memory.0)
-
-some_is : {X : Type 0} {x y : X} → Some x ≡ Some y → x ≡ y
-some_is e = cc e
 
 pub refused_not_taken : (Encodes : Taking) (Fault : Refusing) (Allocates : Allocating) (e : Error) (s t new : State) (op : Operator) → t.reader ≡ s.reader →
     t.frames ≡ s.frames → StopsRead Encodes Fault Allocates e s → (e.message ≡ message.OutOfMemory → ⊥) → TakesOperator Encodes op t new → ⊥

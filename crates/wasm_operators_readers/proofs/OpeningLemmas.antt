@@ -1,7 +1,6 @@
 -- Operators open at most one frame for two bytes.
 use Rattle.std.proofs.Common.{◌≡◌, ℕ, ◌+◌, ◌*◌, ◌<◌, ◌≤◌, Bool, true, false, cond, eqb, List, [], ◌∷◌, ◌++◌, length, Option, Some, None, refl, sym, subst, ap, ◌∙◌, length-append, arith, ◌⊎◌, inl, inr}
 use Rattle.std.specs.Prelude.{◌||◌}
-use Rattle.std.specs.Option.{option_map}
 use Rattle.std.proofs.lemmas.Bool.{eqb-true}
 use Rattle.wasm_decode.specs.below.bytes.features.WasmFeatures.{WasmFeatures}
 use Rattle.wasm_decode.specs.below.Source.{BeginsWith}
@@ -24,6 +23,8 @@ use Rattle.wasm_decode.specs.instr.ops.numeric.NumericOperator.{NumericOperator}
 use Rattle.wasm_decode.specs.instr.ops.numeric.NumericOperator.TheVariants as numeric
 use Rattle.wasm_operators_readers.specs.Expression.{Placed, operators, LaidOut}
 use Rattle.wasm_operators_readers.specs.Openings.{opened_by_role, opened_by, opened_along, LeadsFrame}
+use Rattle.wasm_decode.proofs.of_grammar.Paths.{some_is}
+use Rattle.wasm_decode.proofs.of_grammar.Steps.{mapped}
 
 block_some : (text : List ℕ) (ty : BlockType) → EncodesBlockType text ty → 1 ≤ length text
 block_some [] ty h = let p = block_prefix_code [] (0x40 ∷ []) (0x40 ∷ []) [] ty block_type.Empty h refl refl in absurd (cc p.0)
@@ -67,13 +68,6 @@ twice_opened_along f offset (p ∷ ps) text (eo, first, more, e, s, l) =
 pub opened_along-append : (ps qs : Placed) → opened_along (ps ++ qs) ≡ opened_along ps + opened_along qs
 opened_along-append [] qs = omega arith
 opened_along-append (p ∷ ps) qs = let h = opened_along-append ps qs in omega (arith, h)
-
-some_is : {X : Type 0} {x y : X} → Some x ≡ Some y → x ≡ y
-some_is e = cc e
-
-mapped : {X Y : Type 0} (f : X → Y) (o : Option X) (y : Y) → option_map f o ≡ Some y → (x : X) × (o ≡ Some x) × (f x ≡ y)
-mapped f None y e = absurd (cc e)
-mapped f (Some x) y e = (x, refl, some_is e)
 
 replaced_length : {A : Type 0} (kind : FrameKind) (role : Role A) (next : List FrameKind) → replacement kind role ≡ Some next →
     length next ≤ 1 + opened_by_role role

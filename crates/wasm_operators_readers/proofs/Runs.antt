@@ -1,5 +1,5 @@
 -- A run of reads, and what its end means.
-use Rattle.std.proofs.Common.{◌≡◌, ℕ, ◌+◌, ◌<◌, ◌≤◌, List, [], ◌∷◌, ◌++◌, length, Bool, true, cond, None, Some, Result, Ok, Err, refl, sym, subst, ap, ◌∙◌, append_assoc, length-append, arith, inl, inr}
+use Rattle.std.proofs.Common.{◌≡◌, ℕ, ◌+◌, ◌<◌, ◌≤◌, List, [], ◌∷◌, ◌++◌, length, None, Some, Result, Ok, Err, refl, sym, subst, ap, ◌∙◌, length-append, arith, inl, inr}
 use Rattle.std.proofs.lemmas.Bool.{cases_lt}
 use Rattle.std.proofs.lemmas.List.{append-nil}
 use Rattle.std.specs.Option.{option_and_then}
@@ -23,7 +23,7 @@ use Rattle.wasm_decode.specs.instr.Roles.{role_of, roles_of}
 use Rattle.wasm_operators_readers.specs.Expression.{Placed, OfPlaced, operators, LaidOut, AreEncoded, EncodesRest, IsPrefixAfter, IsLongestOf}
 use Rattle.wasm_operators_readers.specs.Flat.{IsAllowedFrom, IsFlatOf}
 use Rattle.wasm_operators_readers.specs.Openings.{opened_along, most_open}
-use Rattle.wasm_operators_readers.specs.Reading.{Taking, Refusing, Allocating, State, StopsRead, IsFresh, GrowsLittle, IsUnchanged, TakesOperator, TakesOperators, StopsRun, FramesLeft, Finishes, StopsFinish, EndsRun}
+use Rattle.wasm_operators_readers.specs.Reading.{Taking, Refusing, Allocating, State, StopsRead, IsFresh, GrowsLittle, IsUnchanged, TakesOperator, TakesOperators, StopsRun, FramesLeft, StopsFinish, EndsRun}
 use Rattle.wasm_operators_readers.specs.Stack.{frame_memory}
 use Rattle.wasm_operators_readers.specs.MainTheorem.{ReadSoFar, ReadsTree, BeginningAt, ReadsBeginning, IsWithinDepth, IsNotOutOfMemory}
 use Rattle.wasm_operators_readers.proofs.FlatLemmas.{allowed_begins, flat_longest}
@@ -312,14 +312,3 @@ pub finish_left : (m : Message) (e : Error) (s : State) → e.message ≡ m → 
 finish_left message.FramesRemain e s is all at h = (all, h, is, at)
 finish_left message.UnexpectedData e s is all at h = absurd (h.1 all)
 finish_left _ e s is all at h = absurd h
-
-pub finish_ends : {X : Type 0} (Encodes : Taking) (Fault : Refusing) (Allocates : Allocating) (result : Result X Error) (s : State) → rest s.reader ≡ [] →
-    Finishes result s → EndsRun Encodes Fault Allocates result s
-finish_ends Encodes Fault Allocates (Ok x) s all h = h
-finish_ends Encodes Fault Allocates (Err e) s all (at, h) = inl (finish_left e.message e s refl all at h)
-
-pub pushed : (b : Bool) (new now old placed : Placed) (p q : Operator × ℕ) → new ≡ cond b (now ++ p ∷ []) now → b ≡ true → now ≡ old ++ placed → p ≡ q →
-    new ≡ old ++ (placed ++ q ∷ [])
-pushed b new now old placed p q e eb en ep =
-    e ∙ ap (λ z. cond z (now ++ p ∷ []) now) eb ∙ ap (λ (x : Placed). x ++ p ∷ []) en ∙ append_assoc old placed (p ∷ []) ∙
-    ap (λ (x : Operator × ℕ). old ++ (placed ++ x ∷ [])) ep

@@ -1,4 +1,4 @@
-use Rattle.std.proofs.Common.{◌≡◌, ℕ, ◌+◌, List, ◌++◌, length, Some, sym, subst, ap, ◌∙◌, inl, inr}
+use Rattle.std.proofs.Common.{◌≡◌, ℕ, ◌+◌, List, ◌++◌, length, sym, subst, ap, ◌∙◌, inl, inr}
 use Rattle.wasm_decode.specs.below.bytes.error.Error.{Error}
 use Rattle.wasm_decode.specs.below.bytes.message.Message.TheVariants as message
 use Rattle.wasm_decode.specs.below.Source.{Reader, rest, at_position}
@@ -12,9 +12,7 @@ use Rattle.wasm_operators_readers.specs.Reading.{Taking, Refusing, State, SameRe
 use Rattle.wasm_operators_readers.specs.Next.{NextMayAllocate, StopsNext}
 use Rattle.wasm_operators_readers.proofs.OneRead.{is_memory, refused_not_taken, one_refusal}
 use Rattle.wasm_operators_readers.proofs.Premises.{IsSound, IsDetermined}
-
-some_is : {X : Type 0} {x y : X} → Some x ≡ Some y → x ≡ y
-some_is e = cc e
+use Rattle.wasm_decode.proofs.of_grammar.Paths.{some_is}
 
 pub taken_same : (Encodes : Taking) → IsSound Encodes → (op other : Operator) (old new start end : State) → SameReaderAndFrames old start →
     TakesOperator Encodes op old new → TakesOperator Encodes other start end → (op ≡ other) × SameReaderAndFrames new end

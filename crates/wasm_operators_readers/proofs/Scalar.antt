@@ -1,7 +1,7 @@
 -- Lists without SIMD operators.
 use Rattle.std.proofs.Common.{◌≡◌, ℕ, ◌+◌, ◌≤◌, Bool, true, false, cond, List, [], ◌∷◌, ◌++◌, length, Result, Ok, Err, IfErr, refl, sym, subst, ap, ◌∙◌, append_assoc, length-append, arith, ◌⊎◌, inl, inr}
 use Rattle.std.specs.Prelude.{◌↔◌}
-use Rattle.std.proofs.lemmas.Bool.{cases_lt}
+use Rattle.std.proofs.lemmas.Bool.{cases_lt, cases_Bool}
 use Rattle.std.proofs.lemmas.List.{append-nil}
 use Rattle.wasm_decode.specs.below.bytes.error.Error.{Error}
 use Rattle.wasm_decode.specs.below.bytes.features.WasmFeatures.{WasmFeatures}
@@ -32,15 +32,11 @@ use Rattle.wasm_operators_readers.proofs.VisitLemmas.{no_vector_of, vector_of, s
 pub each_scalar : (placed : Placed) → IsScalar placed → AreEach IsNoVector placed
 each_scalar placed scalar before after p e vector = scalar_none placed p before after (scalar ∙ e) vector
 
-either : (b : Bool) → (b ≡ true) ⊎ (b ≡ false)
-either true = inl refl
-either false = inr refl
-
 next_vector : (before : List Operator) (old new : State) (placed longest : Placed) → ReadSoFar before old → (r : TakesOperators old new placed) →
     IsLongestAfter before (source_of old.reader) longest → IsStuckFor IsNoVector new →
     (g : GoesOn old.reader.features placed longest (rest new.reader)) → is_vector g.next.0 ≡ true
 next_vector before old new placed longest h r l none g =
-    elim (either (is_vector g.next.0)) [
+    elim (cases_Bool (is_vector g.next.0)) [
       | inl is ↦ is
       | inr not ↦ (
           let encodes = subst (λ f. EncodesOperator f g.next.0 g.text) (sym (features_stay old.reader new.reader r.text r.takes)) g.encodes in

@@ -33,13 +33,6 @@ step_by_first (operator.Numeric op) = numeric_stays op
 step_by_first operator.Unreachable = refl
 step_by_first _ = refl
 
-pub leading_step : (f : WasmFeatures) (op : Operator) (text : List ℕ) (byte : ℕ) → EncodesOperator f op text → BeginsWith byte text →
-    step_at byte ≡ step_of (role_of op)
-leading_step f op text byte s (more, e) =
-    let h = begins_encoding f op text s in
-    let same : byte ≡ first_byte (prefix_of op) (opcode_of op) = cc (sym e ∙ h.1) in
-    ap step_at same ∙ step_by_first op
-
 pub step_there : (f : WasmFeatures) (op : Operator) (text more left : List ℕ) (byte : ℕ) → EncodesOperator f op text → left ≡ text ++ more →
     BeginsWith byte left → step_at byte ≡ step_of (role_of op)
 step_there f op text more left byte s e (others, d) =

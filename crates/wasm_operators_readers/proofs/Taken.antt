@@ -1,5 +1,5 @@
 -- From the decoder's call after an opcode to one read of the reader of operators.
-use Rattle.std.proofs.Common.{◌≡◌, ℕ, ◌+◌, ◌≤◌, List, [], ◌++◌, length, Some, None, Ok, inl, inr, refl, sym, subst, ap, ◌∙◌, arith}
+use Rattle.std.proofs.Common.{◌≡◌, ℕ, ◌+◌, ◌≤◌, List, ◌++◌, length, Some, None, Ok, inl, inr, sym, subst, ap, ◌∙◌, arith}
 use Rattle.std.specs.Prelude.{IsSome}
 use Rattle.wasm_decode.specs.below.bytes.error.Error.{Error}
 use Rattle.wasm_decode.specs.below.bytes.features.WasmFeatures.{WasmFeatures}
@@ -16,7 +16,7 @@ use Rattle.wasm_operators_readers.specs.declared.step.FrameStep.{FrameStep}
 use Rattle.wasm_operators_readers.specs.Step.{step_of, role_of_step, step_at, Opens}
 use Rattle.wasm_operators_readers.specs.Reading.{Taking, Refusing, State, GrowsLittle, IsUnchanged, TakesOperator, StopsRead}
 use Rattle.wasm_operators_readers.specs.Stack.{frame_memory}
-use Rattle.wasm_operators_readers.proofs.FrameMemory.{memory_stays, as_little}
+use Rattle.wasm_operators_readers.proofs.FrameMemory.{as_little}
 use Rattle.wasm_operators_readers.proofs.OneRead.{stops_read}
 use Rattle.wasm_operators_readers.proofs.Premises.{IsSound}
 use Rattle.wasm_operators_readers.proofs.StepLemmas.{step_allowed, step_there, took_operator, opens_leads}
@@ -87,7 +87,3 @@ room_refused Encodes Fault old new kind code e open_frame same frames room memor
     inl (kind, ap innermost frames ∙ open_frame, code, subst (λ (r : Reader). BeginsWith code (rest r)) (sym same) begins, opens_leads code opens, none),
   )),
 )
-
-pub none_open : (Encodes : Taking) (Fault : Refusing) (s : State) (e : Error) → s.frames ≡ [] → e.message ≡ message.OperatorsRemaining →
-    e.offset ≡ offset_of s.reader → IsUnchanged s s × StopsRead Encodes Fault (NextMayAllocate Encodes) e s
-none_open Encodes Fault s e closed is at = ((refl, refl, omega arith, memory_stays (frame_memory s.frames s.room) (length s.frames) 10), inl (closed, is, at))

@@ -24,9 +24,6 @@ pub visited_append : {V A : Type 0} (visits : V → Operator → A → V → Typ
 visited_append visits ps qs before between after (xs, run) (ys, more) =
     (xs ++ ys, visit_run_append visits ps qs xs ys before between after run more)
 
-pub visited_start : {V A : Type 0} (visits : V → Operator → A → V → Type 0) (before : V) → Visited visits before before []
-visited_start visits before = ([], (refl, refl))
-
 pub visited_push : {V A : Type 0} (visits : V → Operator → A → V → Type 0) (ps : Placed) (op : Operator) (at : ℕ) (outcome : A) (before between after : V) →
     Visited visits before between ps → visits between op outcome after → Visited visits before after (ps ++ (op, at) ∷ [])
 visited_push visits ps op at outcome before between after run visit =
@@ -57,14 +54,6 @@ no_vector_of _ e is = is
 pub scalar_push : (ps : Placed) (op : Operator) (at : ℕ) → IsScalar ps → (IsVector op → ⊥) → IsScalar (ps ++ (op, at) ∷ [])
 scalar_push ps op at h none =
     scalar_append ps ((op, at) ∷ []) h ∙ ap (λ b. ps ++ cond b [] ((op, at) ∷ [])) (not_vector op none)
-
-pub scalar_stops : (ps qs : Placed) (p : Operator × ℕ) → IsScalar ps → is_vector p.0 ≡ true → scalar_beginning (ps ++ p ∷ qs) ≡ ps
-scalar_stops ps qs p h is =
-    scalar_append ps (p ∷ qs) h ∙ ap (λ b. ps ++ cond b [] (p ∷ scalar_beginning qs)) is ∙ append_nil ps
-  where
-    append_nil : (xs : Placed) → xs ++ [] ≡ xs
-    append_nil [] = refl
-    append_nil (x ∷ xs) = ap (λ (z : Placed). x ∷ z) (append_nil xs)
 
 begin_first : (b : Bool) (p : Operator × ℕ) (xs ps : Placed) → IsBeginningOf xs ps → IsBeginningOf (cond b [] (p ∷ xs)) (p ∷ ps)
 begin_first true p xs ps h = (p ∷ ps, refl)

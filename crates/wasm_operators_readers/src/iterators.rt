@@ -1,4 +1,4 @@
-ghost use Rattle.std.specs.Prelude.{◌≡◌, ◌≤◌};
+ghost use Rattle.std.specs.Prelude.{◌≡◌};
 ghost use Rattle.wasm_operators_readers.specs.Next.{ReadsNext};
 ghost use Rattle.wasm_operators_readers.specs.Stack.{frame_memory};
 ghost use Rattle.wasm_operators_readers.specs.Iterating.{ReadsNextPlaced, StepsBy, items_to_come, iterating_over};

@@ -1,4 +1,4 @@
-ghost use Rattle.std.specs.Prelude.{◌≡◌, ◌↔◌, ◌≤◌, ◌∷◌, [], IsTrue, IfOk, IfErr};
+ghost use Rattle.std.specs.Prelude.{◌≡◌, ◌↔◌, ◌∷◌, [], IsTrue};
 ghost use Rattle.wasm_decode.specs.below.Source.{rest, offset_of};
 ghost use Rattle.wasm_operators_readers.specs.Reading.{Finishes, IsFresh};
 ghost use Rattle.wasm_operators_readers.specs.Stack.{frame_memory};

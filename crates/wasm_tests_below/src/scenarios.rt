@@ -1,6 +1,5 @@
 ghost use Rattle.std.specs.Prelude.{◌≡◌};
 ghost use Rattle.wasm_imm.specs.below.Features.{HasFeature, memory64};
-ghost use Rattle.wasm_imm.specs.below.Source.{Reader};
 
 use crate::failure::{Failure, Written};
 use bitflags::Flags;

@@ -1,4 +1,4 @@
-use Rattle.std.proofs.Common.{◌≡◌, ℕ, suc, ◌+◌, List, [], ◌∷◌, length, Ok, Some, refl, sym, subst, ap, ◌∙◌, arith}
+use Rattle.std.proofs.Common.{◌≡◌, ℕ, suc, ◌+◌, [], ◌∷◌, length, Ok, Some, refl, sym, subst, ap, ◌∙◌, arith}
 use Rattle.wasm_decode.specs.below.Number.{EncodesUnsigned}
 use Rattle.wasm_decode.specs.below.Source.{Reader, at_position, Takes, Reads, IsByte}
 use Rattle.wasm_decode.specs.opcodes.Decoding.{IsAfterCode}

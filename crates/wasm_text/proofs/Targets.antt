@@ -1,32 +1,8 @@
 -- The numbers that the bytes of a branch table encode.
-use Rattle.std.proofs.Common.{◌≡◌, ℕ, ◌+◌, ◌-◌, ◌*◌, ◌<◌, ◌≤◌, List, [], ◌∷◌, ◌++◌, Result, Ok, Err, map, flat_map, refl, sym, ap, subst, ◌∙◌, append_assoc, append-nil, arith}
-use Rattle.std.proofs.lemmas.Bool.{le-ltb, lt-ltb}
+use Rattle.std.proofs.Common.{◌≡◌, ℕ, List, [], ◌∷◌, ◌++◌, Result, Ok, Err, map, flat_map, refl, sym, ap, subst, ◌∙◌, append_assoc, append-nil}
 use Rattle.wasm_instr.specs.below.bytes.error.Error.{Error}
-use Rattle.wasm_instr.specs.below.Number.{EncodesUnsigned}
-use Rattle.wasm_instr.specs.imm.Lists.{EncodesEach}
-use Rattle.wasm_instr.specs.imm.BranchTables.{before_number, with_byte, numbers_of}
 use Rattle.wasm_text.specs.Values.{number_text}
 use Rattle.wasm_text.proofs.Pieces.{two_pieces}
-
-with_last : (byte : ℕ) (numbers : List ℕ) → byte < 128 → with_byte byte numbers ≡ byte ∷ numbers
-with_last byte [] lt = refl
-with_last byte (n ∷ numbers) lt = ap (λ t. before_number t byte n numbers) (lt-ltb byte 128 lt)
-
-with_more : (byte n : ℕ) (numbers : List ℕ) → 128 ≤ byte → with_byte byte (n ∷ numbers) ≡ (128 * n + (byte - 128)) ∷ numbers
-with_more byte n numbers le = ap (λ t. before_number t byte n numbers) (le-ltb byte 128 le)
-
-first_number : (width : ℕ) (text after : List ℕ) (n : ℕ) → EncodesUnsigned width text n → numbers_of (text ++ after) ≡ n ∷ numbers_of after
-first_number width [] after n p = absurd p
-first_number width (c ∷ []) after n p = with_last c (numbers_of after) p.0 ∙ ap (λ z. z ∷ numbers_of after) (sym p.1)
-first_number width (c ∷ d ∷ text) after n (w, le, lt, high, sum, p) =
-    let below = first_number (width - 7) (d ∷ text) after high p in
-    let value : 128 * high + (c - 128) ≡ n = omega arith in
-    ap (with_byte c) below ∙ with_more c high (numbers_of after) le ∙ ap (λ z. z ∷ numbers_of after) value
-
-pub numbers_are : (text : List ℕ) (numbers : List ℕ) → EncodesEach (EncodesUnsigned 32) text numbers → numbers_of text ≡ numbers
-numbers_are text [] p = ap numbers_of p
-numbers_are text (n ∷ numbers) (first, after, e, p, ps) =
-    ap numbers_of e ∙ first_number 32 first after n p ∙ ap (λ z. n ∷ z) (numbers_are after numbers ps)
 
 abbrev oks : List ℕ → List (Result ℕ Error)
 oks ns = map Ok ns

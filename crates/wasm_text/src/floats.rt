@@ -1,5 +1,5 @@
 ghost use Rattle.std.specs.Prelude.{◌≡◌, ◌++◌, ◌^◌, ◌<◌, OnOk, string_bytes};
-ghost use Rattle.wasm_text.specs.Floats.{fraction_digits, fraction_text, exponent_text, finite_text, special_text, nan_text, sign_text, float_32_text, float_64_text};
+ghost use Rattle.wasm_text.specs.Floats.{fraction_digits, fraction_text, exponent_text, finite_text, special_text, sign_text, float_32_text, float_64_text};
 
 use crate::digits::write_digit;
 use crate::values::Written;

@@ -3,7 +3,7 @@ ghost use Rattle.std.specs.Prelude.{◌≡◌, ◌++◌, ◌∷◌, [], true, fa
 ghost use Rattle.wasm_instr.specs.Immediate.{unsigned_32, signed_32, signed_64, float_32, float_64, vector, one_lane, sixteen_lanes, order, fence_order, heap_type, cast, block_type, branch_table, select_types, try_clauses, resume_clauses};
 ghost use Rattle.wasm_instr.specs.imm.control.select.Select.TheVariants as select;
 ghost use Rattle.wasm_text.specs.Operands.{immediates_text, indirect_text};
-ghost use Rattle.wasm_text.specs.Values.{memory_argument_text, number_text, reference_text};
+ghost use Rattle.wasm_text.specs.Values.{memory_argument_text, reference_text};
 
 use crate::digits::write_words;
 use crate::floats::{write_float_32, write_float_64};

@@ -14,7 +14,7 @@ pub fn write_number(out: &mut String, value: u32) -> Written
     write!(out, " {value}")
 }
 
-pub fn write_long(out: &mut String, value: u64) -> Written
+fn write_long(out: &mut String, value: u64) -> Written
     ensures { OnOk result (string_bytes out.new ≡ string_bytes out.old ++ number_text value) }
 {
     write!(out, " {value}")

@@ -1,10 +1,11 @@
-use Rattle.std.proofs.Common.{◌≡◌, ℕ, ◌-◌, ◌≤◌, ◌<◌, List, [], ◌∷◌, ◌++◌, length, map, drop, set, get_or, take, zero, suc, refl, sym, ap, subst, ◌∙◌, arith, length-append, Some}
+use Rattle.std.proofs.Common.{◌≡◌, ℕ, ◌-◌, ◌≤◌, ◌<◌, List, [], ◌∷◌, ◌++◌, length, drop, set, zero, suc, refl, sym, ap, subst, ◌∙◌, arith, length-append, Some}
 use Rattle.wasm_instr.specs.below.declared.types.ValType.{ValType}
 use Rattle.wasm_instr.specs.declared.operator.Operator.{Operator}
 use Rattle.wasm_instr.specs.declared.operator.Operator.TheVariants as operator
 use Rattle.wasm_view.specs.Members.{type_of}
 use Rattle.wasm_view.specs.declared.members.WasmType.{WasmType}
-use Rattle.wasm_view.specs.Lists.{written, types_of, PlacesOne, PlacesMembers, ReturnsMembers}
+use Rattle.wasm_view.specs.Lists.{written, types_of, PlacesOne, ReturnsMembers}
+use Rattle.std.proofs.lemmas.List.{drop_all}
 
 pub written_none : {X : Type 0} (old : List X) → written [] old ≡ old
 written_none [] = refl
@@ -36,12 +37,6 @@ drop_length seen zero within = omega arith
 drop_length [] (suc n) within = absurd (omega (arith, within))
 drop_length (y ∷ ys) (suc n) within = omega (arith, drop_length ys n (omega (arith, within)), within)
 
-drop_all : {X : Type 0} (seen : List X) (from : ℕ) → length seen ≤ from → drop from seen ≡ []
-drop_all [] zero past = refl
-drop_all [] (suc n) past = refl
-drop_all (y ∷ ys) zero past = absurd (omega (arith, past))
-drop_all (y ∷ ys) (suc n) past = drop_all ys n (omega (arith, past))
-
 pub member_set : {X : Type 0} (member : X) (index from place : ℕ) (old new : List X) → from ≤ index → place ≡ index - from → place < length old →
     new ≡ set old place member → PlacesOne member index from old new
 member_set member index from place old new after at within put seen base is placed =
@@ -62,39 +57,7 @@ member_after member index from place old after at full seen base is placed =
 pub member_before : {X : Type 0} (member : X) (index from : ℕ) (old : List X) → index < from → PlacesOne member index from old old
 member_before member index from old before seen base is placed =
     let more : length (seen ++ member ∷ []) ≤ from = omega (arith, before, is, length-append seen (member ∷ [])) in
-    placed ∙ ap (λ list. written list base) (drop_all seen from (omega (arith, before, is)) ∙ sym (drop_all (seen ++ member ∷ []) from more))
-
-next_mapped : {X Y : Type 0} (f : X → Y) (list : List X) (n : ℕ) (x : X) → n < length list → x ≡ get_or list n x →
-    map f (take (suc n) list) ≡ map f (take n list) ++ f x ∷ []
-next_mapped f [] n x within is = absurd (omega (arith, within))
-next_mapped f (y ∷ ys) zero x within is = ap (λ z. f z ∷ []) (sym is)
-next_mapped f (y ∷ ys) (suc n) x within is = ap (λ list. f y ∷ list) (next_mapped f ys n x (omega (arith, within)) is)
-
-mapped_length : {X Y : Type 0} (f : X → Y) (list : List X) (n : ℕ) → n ≤ length list → length (map f (take n list)) ≡ n
-mapped_length f list zero within = refl
-mapped_length f [] (suc n) within = absurd (omega (arith, within))
-mapped_length f (x ∷ xs) (suc n) within = ap suc (mapped_length f xs n (omega (arith, within)))
-
-taken_all : {X : Type 0} (list : List X) (n : ℕ) → length list ≤ n → take n list ≡ list
-taken_all [] zero past = refl
-taken_all [] (suc n) past = refl
-taken_all (x ∷ xs) zero past = absurd (omega (arith, past))
-taken_all (x ∷ xs) (suc n) past = ap (λ list. x ∷ list) (taken_all xs n (omega (arith, past)))
-
-pub next_placed : {X Y : Type 0} (f : X → Y) (list : List X) (index after from : ℕ) (x : X) (y : Y) (base old new : List Y) →
-    PlacesOne y index from old new → index < length list → x ≡ get_or list index x → y ≡ f x → after ≡ suc index →
-    old ≡ written (drop from (map f (take index list))) base → new ≡ written (drop from (map f (take after list))) base
-next_placed f list index after from x y base old new one within is same next placed =
-    let few = sym (mapped_length f list index (omega (arith, within))) in
-    one (map f (take index list)) base few placed ∙ ap (λ z. written (drop from (map f (take index list) ++ z ∷ [])) base) same ∙
-    ap (λ list. written (drop from list) base) (sym (next_mapped f list index x within is) ∙ ap (λ n. map f (take n list)) (sym next))
-
-pub all_placed : {X Y : Type 0} (f : X → Y) (list : List X) (n count from : ℕ) (base new : List Y) → count ≡ length list → count ≤ n →
-    new ≡ written (drop from (map f (take n list))) base → PlacesMembers (map f list) from base count new
-all_placed f list n count from base new is end placed = (
-  is ∙ sym (ap length (ap (map f) (sym (taken_all list (length list) (omega arith)))) ∙ mapped_length f list (length list) (omega arith)),
-  placed ∙ ap (λ l. written (drop from (map f l)) base) (taken_all list n (omega (arith, is, end))),
-)
+    placed ∙ ap (λ list. written list base) (drop_all from seen (omega (arith, before, is)) ∙ sym (drop_all from (seen ++ member ∷ []) more))
 
 pub none_placed : {X : Type 0} (from : ℕ) (base : List X) → base ≡ written (drop from []) base
 none_placed zero base = sym (written_none base)

@@ -1,4 +1,4 @@
-ghost use Rattle.std.specs.Prelude.{◌≡◌, [], ◌∷◌, ◌<◌, ◌^◌, map, length};
+ghost use Rattle.std.specs.Prelude.{◌<◌, map};
 ghost use Rattle.wasm_instr.specs.imm.BranchTables.{numbers_of};
 ghost use Rattle.wasm_view.specs.Members.{type_of, catch_of, handle_of};
 ghost use Rattle.wasm_view.specs.Lists.{targets_of, types_of, catches_of, handles_of, PlacesMembers, ReturnsMembers, PlacesOne};

@@ -1,7 +1,6 @@
 //! Visitors of operators: their traits, and the functions that call the visit of an operator.
 #![tactic(auto)]
 
-mod any;
 mod borrowed;
 mod by_box;
 mod by_reference;

@@ -4,12 +4,11 @@ ghost use Rattle.wasm_decode_groups.specs.instr.declared.operator.Operator.{Oper
 ghost use Rattle.wasm_decode_groups.specs.opcodes.Decoding.{IsAfterCode, DecodesAt};
 ghost use Rattle.wasm_decode_groups.specs.groups.Groups.{IsSimdHigh, IsSimdLow};
 
-use crate::any::ByAny;
 use wasm_decode_groups as decode;
+use wasm_decode_groups::ByAny;
 use wasm_decode_groups::below::{BinaryReader, Result};
 use wasm_decode_groups::groups::Visitor;
 use wasm_decode_groups::instr::{Operator, SimdOperator};
-use wasm_visit_factory::Factory;
 
 /// A visitor of the SIMD operators. Specification: Vector Instructions.
 ///
@@ -62,10 +61,7 @@ pub trait VisitSimdOperator: Visitor {
         ensures { (frame : FrameKind)
             → DecodesAt Self.visits frame start result reader.old reader.new self.old self.new }
     {
-        if decode::has_no_immediates(code) {
-            return Ok(self.visit_any(Operator::Simd(decode::simd_low_without_immediates(code))));
-        }
-        decode::simd_low(&mut ByAny { visitor: self }, reader, start, code)
+        decode::simd_low_by::<Self, ByAny>(self, reader, start, code)
     }
 
     /// Reads the immediates of the SIMD operator with the subopcode `code` of at least 0x80, and
@@ -89,9 +85,6 @@ pub trait VisitSimdOperator: Visitor {
         ensures { (frame : FrameKind)
             → DecodesAt Self.visits frame start result reader.old reader.new self.old self.new }
     {
-        match decode::simd_high(&mut Factory, reader, start, code) {
-            Ok(op) => Ok(self.visit_any(op)),
-            Err(e) => Err(e),
-        }
+        decode::simd_high_by::<Self, ByAny>(self, reader, start, code)
     }
 }

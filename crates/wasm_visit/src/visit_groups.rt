@@ -5,10 +5,10 @@ ghost use Rattle.wasm_decode_groups.specs.opcodes.Decoding.{IsAfterCode, VisitsR
 ghost use Rattle.wasm_decode_groups.specs.OneByte.{IsOneByteCode};
 ghost use Rattle.wasm_decode_groups.specs.groups.Groups.{IsOneByte};
 
-use crate::any::{self, ByAny};
 use crate::dispatch;
 use std::alloc::Global;
 use wasm_decode_groups as decode;
+use wasm_decode_groups::ByAny;
 use wasm_decode_groups::below::{BinaryReader, Result};
 use wasm_decode_groups::grammar::FrameKind;
 use wasm_decode_groups::groups::Visitor;
@@ -93,7 +93,7 @@ pub trait VisitGroups: Visitor {
         requires apart { IsOneByteCode code }
         ensures { DecodesAt Self.visits frame start result reader.old reader.new self.old self.new }
     {
-        any::one_byte(alloc, self, reader, start, frame, code)
+        decode::one_byte_by::<Self, ByAny>(alloc, self, reader, start, frame, code)
     }
 
     /// Reads and visits the rest of an operator whose opcode `code` is below 0x20: a control or
@@ -120,7 +120,7 @@ pub trait VisitGroups: Visitor {
         requires low { code < 0x20 }
         ensures { DecodesAt Self.visits frame start result reader.old reader.new self.old self.new }
     {
-        any::one_byte(alloc, self, reader, start, frame, code)
+        decode::one_byte_by::<Self, ByAny>(alloc, self, reader, start, frame, code)
     }
 
     /// Visits the numeric operator with this opcode.
@@ -155,7 +155,7 @@ pub trait VisitGroups: Visitor {
         ensures { (frame : FrameKind)
             → DecodesAt Self.visits frame start result reader.old reader.new self.old self.new }
     {
-        decode::gc(&mut ByAny { visitor: self }, reader, start, code)
+        decode::gc_by::<Self, ByAny>(self, reader, start, code)
     }
 
     /// Reads the immediates of the operator with the prefix byte 0xfc and the subopcode `code`, and
@@ -178,7 +178,7 @@ pub trait VisitGroups: Visitor {
         ensures { (frame : FrameKind)
             → DecodesAt Self.visits frame start result reader.old reader.new self.old self.new }
     {
-        decode::misc(&mut ByAny { visitor: self }, reader, start, code)
+        decode::misc_by::<Self, ByAny>(self, reader, start, code)
     }
 
     /// Reads the immediates of the operator with the prefix byte 0xfe and the subopcode `code`, and
@@ -201,6 +201,6 @@ pub trait VisitGroups: Visitor {
         ensures { (frame : FrameKind)
             → DecodesAt Self.visits frame start result reader.old reader.new self.old self.new }
     {
-        decode::atomic(&mut ByAny { visitor: self }, reader, start, code)
+        decode::atomic_by::<Self, ByAny>(self, reader, start, code)
     }
 }

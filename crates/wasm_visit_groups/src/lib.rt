@@ -23,11 +23,8 @@ pub use wasm_instr::{below, grammar, imm};
 /// Operators.
 pub mod instr {
     pub use wasm_instr::{
-        AtomicOperator, BlockType, BrTable, BrTableTargets, Cast, Catch, Catches, FrameKind,
-        FrameStack, GcOperator, Handle, Handles, Ieee32, Ieee64, MemArg, MemArgKind,
-        MemArgOrdering, MemArgTarget, Members, MiscOperator, ModuleArity, NumericOperator,
-        Operator, OperatorInfo, Ordering, Proposal, ReadImmediates, ResumeTable, Select,
-        SelectTypes, SimdOperator, TryTable, V128, laws, read_lane, read_lanes, read_memory_index,
-        read_table_index,
+        AtomicOperator, BrTable, FrameKind, FrameStack, GcOperator, MiscOperator, ModuleArity,
+        NumericOperator, Operator, OperatorInfo, Ordering, Proposal, SelectTypes, SimdOperator,
+        laws,
     };
 }

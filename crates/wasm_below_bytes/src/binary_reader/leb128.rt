@@ -6,9 +6,7 @@ ghost use Rattle.wasm_below_bytes.specs.Leb128.{HasPlace, refusal_message, refus
 
 use super::BinaryReader;
 use crate::error::{Error, Result};
-use crate::long_numbers::{
-    NumberRefusal, last_value, long_i32, long_s33, number_error, two_bytes, u32_at,
-};
+use crate::long_numbers::{NumberRefusal, last_value, long_i32, long_s33, number_error, two_bytes};
 use crate::message::{Message, NumberName};
 use crate::number_calls::{coded_error, long_i64, long_u32, long_u64};
 
@@ -26,22 +24,6 @@ impl<'a> BinaryReader<'a> {
             return Ok(u32::from(byte));
         }
         self.read_long_u32()
-    }
-
-    /// Reads like `read_var_u32`, with the decoding inline: a loop that skips numbers then does not
-    /// compute their values.
-    #[inline(always)]
-    pub fn read_var_u32_in_place(&mut self) -> Result<u32>
-        ensures reads { Reads (EncodesUnsigned 32) result self.old self.new }
-        ensures fault { IfErr result (λ e. U32Fault e.message self.old e.offset) }
-    {
-        match u32_at(self.buffer, self.position) {
-            Ok(number) => {
-                self.position = number.after;
-                Ok(number.value as u32)
-            }
-            Err(refusal) => Err(self.no_number(refusal, 32, NumberName::VarU32)),
-        }
     }
 
     /// Reads an unsigned LEB128 number of at most ten bytes. Fails like `read_var_u32`, but at the

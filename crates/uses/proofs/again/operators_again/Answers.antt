@@ -1,9 +1,8 @@
 use Rattle.std.proofs.Common.{sym, subst, ◌∙◌}
 use Rattle.wasm_operators.specs.below.Source.{reader_of}
 use Rattle.wasm_operators.specs.Expression.{EncodesExpression}
-use Rattle.uses.specs.Again.{HasFound}
 use Rattle.uses.specs.Input.{input}
-use Rattle.uses.proofs.After.{found_none, found_more, whole_after}
+use Rattle.uses.proofs.After.{HasFound, found_none, found_more, whole_after}
 use Rattle.uses.proofs.again.operators_again.Goals as goal
 
 pub tries-init : goal.tries-init

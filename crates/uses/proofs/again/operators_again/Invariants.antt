@@ -1,5 +1,5 @@
 use Rattle.wasm_operators.specs.below.Source.{reader_of}
-use Rattle.uses.specs.Again.{HasFound}
+use Rattle.uses.proofs.After.{HasFound}
 use Rattle.uses.proofs.again.operators_again.Given as goal
 
 abbrev pub invariant-tries : goal.invariant-tries

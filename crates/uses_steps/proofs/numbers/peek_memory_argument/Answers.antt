@@ -1,6 +1,7 @@
 use Rattle.wasm_operators.specs.imm.MemoryArgument.{EncodesMemArg}
+use Rattle.wasm_operators.specs.imm.MemoryArgumentFaults.{MemArgFault}
 use Rattle.wasm_operators.specs.imm.declared.memory_argument.MemArgKind.TheVariants as kind
-use Rattle.uses_steps.proofs.Codes.{reads_known, reads_some}
+use Rattle.uses_steps.proofs.Codes.{reads_known, reads_some, fault_known}
 use Rattle.uses_steps.proofs.numbers.peek_memory_argument.Goals as goal
 
 pub returns-clause-reads : goal.returns-clause-reads
@@ -13,3 +14,9 @@ pub returns-clause-found : goal.returns-clause-found
 returns-clause-found c =
     let reads = rw c.clone.ensures at c.read.ensures.reads in
     reads_some (EncodesMemArg c.args.reader.now.features kind.Plain c.args.max_align) c.read.result c.args.reader.now _ reads
+
+pub returns-clause-refused : goal.returns-clause-refused
+returns-clause-refused c = λ m offset known.
+    let fault = rw c.clone.ensures at c.read.ensures.fault in
+    let determines = rw c.features-2.ensures at c.memory_argument_refusals.ensures in
+    fault_known (MemArgFault c.args.reader.now.features kind.Plain) c.read.result c.args.reader.now m offset determines fault known

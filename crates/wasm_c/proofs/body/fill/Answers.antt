@@ -1,4 +1,4 @@
-use Rattle.std.proofs.Common.{◌≡◌, [], length, subst, arith, inl, inr}
+use Rattle.std.proofs.Common.{◌≡◌, [], subst, arith, inl, inr}
 use Rattle.wasm_operators.specs.below.Source.{rest}
 use Rattle.wasm_c.proofs.Filled.{filled_first, filled_on, filled_still, filled_to}
 use Rattle.wasm_c.proofs.body.fill.Goals as goal

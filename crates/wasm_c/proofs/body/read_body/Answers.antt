@@ -3,7 +3,7 @@ use Rattle.wasm_operators.specs.below.Source.{reader_of}
 use Rattle.wasm_operators.specs.Body.{OpensBody}
 use Rattle.wasm_operators.specs.Locals.{RefusesLocals}
 use Rattle.wasm_c.specs.Reads.{BodyMayAllocate}
-use Rattle.wasm_c.proofs.Found.{ends_body, memory_body, no_memory, refused_locals}
+use Rattle.wasm_c.proofs.Found.{ends_body, memory_body, no_memory}
 use Rattle.wasm_c.proofs.Written.{written_none}
 use Rattle.wasm_c.proofs.body.read_body.Goals as goal
 
@@ -14,7 +14,7 @@ returns-in-Ok c =
     let found = c.read_operators.ensures in (
       found.0,
       record {
-        ends = ends_body c.read_operators.result.end input c.in-Ok.operators found.0 opens found.1.ends;
+        ends = ends_body c.past_locals.ensures.body c.read_operators.result.end input c.in-Ok.operators found.0 opens found.1.ends;
         memory = memory_body c.read_operators.result.end input c.in-Ok.operators found.0 opens found.1.memory;
         counted = found.1.counted;
         in_array = found.1.in_array;
@@ -27,7 +27,7 @@ returns-in-Err c =
     let refused = subst (RefusesLocals c.in-Err.error) (c.new-body.ensures ∙ c.new_features.ensures) c.in-Err.ensures.opens in (
       [],
       record {
-        ends = refused_locals c.in-Err.error input refused;
+        ends = c.refused_locals.ensures.stopped c.in-Err.error input refused;
         memory = no_memory (BodyMayAllocate input []) c.in-Err.error input refused;
         counted = refl;
         in_array = written_none c.args.out.now;

@@ -1,11 +1,11 @@
 -- Written by tools/lists.py from tools/operators.tsv.
-use Rattle.std.proofs.Common.{None, refl, subst, arith, ◌≡◌}
+use Rattle.std.proofs.Common.{refl, subst, None, arith, ◌≡◌}
 use Rattle.wasm_decode_opcodes.specs.Entries.{align_at}
 use Rattle.wasm_decode_groups.proofs.Codes.{one_byte_memory_codes}
 use Rattle.wasm_decode_groups.proofs.one_byte_operators.align_of_memory.Goals as goal
 
 pub returns-in_default : goal.returns-in_default
 returns-in_default c =
-    let h = one_byte_memory_codes c.args.code (align_at None c.args.code) c.requires in
+    let h = one_byte_memory_codes c.args.code c.requires in
     let same : 0x3d ≡ c.args.code = first_of (omega (arith, h), grind (arith, h)) in
     subst (λ k. 1 ≡ align_at None k) same refl

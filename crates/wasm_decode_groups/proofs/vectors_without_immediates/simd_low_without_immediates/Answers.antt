@@ -1,10 +1,9 @@
--- Written by tools/lists.py from tools/operators.tsv.
-use Rattle.std.proofs.Common.{refl, arith, ◌≡◌}
-use Rattle.wasm_decode_groups.proofs.Codes.{simd_low_without_immediates_codes}
+use Rattle.std.proofs.Common.{ap}
+use Rattle.wasm_decode_opcodes.specs.Entry.{entry_kinds}
 use Rattle.wasm_decode_groups.proofs.vectors_without_immediates.simd_low_without_immediates.Goals as goal
 
-pub returns-in_default : goal.returns-in_default
-returns-in_default c =
-    let h = simd_low_without_immediates_codes c.args.code c.requires.without in
-    let same : 0x7f ≡ c.args.code = first_of (omega (arith, h), grind (arith, h)) in
-    (same, refl)
+pub make-requires-clause-kinds : goal.make-requires-clause-kinds
+make-requires-clause-kinds c = ap entry_kinds c.requires.without
+
+pub returns : goal.returns
+returns c = (c.make.ensures.1, c.make.ensures.2)

@@ -1,4 +1,4 @@
-use Rattle.std.proofs.Common.{◌≡◌, List, [], ◌∷◌, ◌++◌, Option, Vec, Global, refl, sym, subst, ap, ◌∙◌, inl, inr, rules}
+use Rattle.std.proofs.Common.{◌≡◌, [], ◌∷◌, ◌++◌, Option, Vec, Global, refl, sym, subst, ap, ◌∙◌, inl, inr, rules}
 use Rattle.wasm_module.specs.below.Source.{Reader, rest}
 use Rattle.wasm_module.specs.Names.{EncodesNameAssociation}
 use Rattle.wasm_functions.specs.Names.{bytes_of, with_names, ReadsItems}

@@ -1,4 +1,4 @@
-use Rattle.std.proofs.Common.{List, ℕ, length}
+use Rattle.std.proofs.Common.{length}
 use Rattle.wasm_disassembly.specs.operators.below.Source.{rest}
 use Rattle.wasm_module_listing.specs.Headers.{ShowsSections}
 use Rattle.wasm_module_listing.proofs.headers.list_sections.Given as goal

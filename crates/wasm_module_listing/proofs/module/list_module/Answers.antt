@@ -1,4 +1,4 @@
-use Rattle.std.proofs.Common.{ℕ, List, Bor, sym, subst}
+use Rattle.std.proofs.Common.{ℕ, List, Bor, subst}
 use Rattle.std.specs.Prelude.{option_map}
 use Rattle.wasm_module_listing.specs.Listing.{IsFunction, IsModuleOf, ListsModule, Succeeds}
 use Rattle.wasm_module_listing.proofs.Cuts.{succeeds_uncut, nothing_after}

@@ -1,4 +1,4 @@
-use Rattle.std.proofs.Common.{◌≡◌, ◌<◌, ◌≤◌, ◌++◌, ◌∷◌, [], sym, ap, subst, rules, inl, arith}
+use Rattle.std.proofs.Common.{◌≡◌, ◌<◌, ◌≤◌, ◌++◌, ◌∷◌, [], sym, subst, rules, inl, arith}
 use Rattle.std.specs.Vec.{vec_len, vec_capacity}
 use Rattle.wasm_decode.specs.below.Source.{rest, offset_of}
 use Rattle.wasm_decode.specs.opcodes.Allowed.{EncodesAllowed}

@@ -2,7 +2,7 @@ use Rattle.std.proofs.Common.{◌++◌, string_bytes, flat_map, ap, sym, ◌∙�
 use Rattle.std.proofs.lemmas.Result.{on_ok_weaker}
 use Rattle.wasm_instr.specs.imm.BranchTables.{numbers_of}
 use Rattle.wasm_text.specs.Values.{number_text}
-use Rattle.wasm_text.proofs.Targets.{numbers_are, first_returned, never_refused, target_written, table_written}
+use Rattle.wasm_text.proofs.Targets.{first_returned, never_refused, target_written, table_written}
 use Rattle.wasm_text.proofs.lists.write_branch_table.Goals as goal
 
 pub loop-target-init : goal.loop-target-init
@@ -10,7 +10,7 @@ loop-target-init c = (
   tt,
   tt,
   ap (λ ts. string_bytes c.args.out.now ++ flat_map number_text ts)
-      (c.into_iter-target-iterator.ensures.into_iter_gives ∙ sym (numbers_are c.args.table.now.targets _ c.targets-target-items.ensures.1)),
+      (c.into_iter-target-iterator.ensures.into_iter_gives ∙ sym (c.target_numbers.ensures c.args.table.now.count c.args.table.now.targets c.targets-target-items.result c.targets-target-items.ensures)),
 )
 
 pub loop-target-preserved-in-Continue-1 : goal.loop-target-preserved-in-Continue-1

@@ -1,8 +1,9 @@
 use Rattle.std.proofs.Common.{refl, sym, ap, ◌∙◌, arith, ◌++◌, ◌∷◌, [], length}
 use Rattle.wasm_instr.specs.imm.BranchTables.{numbers_of}
 use Rattle.wasm_view.proofs.Placed.{none_placed}
-use Rattle.wasm_view.proofs.Targets.{numbers_are, first_returned, never_refused, fits_below, one_fewer, one_further, none_left}
+use Rattle.wasm_view.proofs.Targets.{first_returned, never_refused, fits_below, one_fewer, one_further, none_left}
 use Rattle.wasm_view.proofs.lists.place_targets.Goals as goal
+use Rattle.wasm_instr.proofs.of_imm.BranchTables.{numbers_are}
 
 pub loop-target-init : goal.loop-target-init
 loop-target-init c = (

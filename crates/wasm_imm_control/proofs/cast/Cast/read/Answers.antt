@@ -1,9 +1,8 @@
 use Rattle.std.proofs.Common.{◌≤◌, arith, inl, inr}
 use Rattle.wasm_below.specs.Number.{EncodesUnsigned}
 use Rattle.wasm_below.proofs.Blocks.{refused_now}
-use Rattle.wasm_imm_control.specs.Casts.{first_null}
 use Rattle.wasm_imm_control.proofs.Faults.{no_heap_type, heap_type_read}
-use Rattle.wasm_imm_control.proofs.Casts.{first_refused, second_refused, cast_read}
+use Rattle.wasm_imm_control.proofs.Casts.{first_null, first_refused, second_refused, cast_read}
 use Rattle.wasm_imm_control.proofs.cast.Cast.read.Goals as goal
 
 pub returns-in-Err-read_reference-clause-reads : goal.returns-in-Err-read_reference-clause-reads

@@ -1,0 +1,14 @@
+-- Written by tools/lists.py from tools/operators.tsv.
+use Rattle.std.proofs.Common.{[], Some, refl, subst, arith, ◌≡◌, ◌∷◌}
+use Rattle.wasm_visit_groups.specs.instr.declared.operator.Operator.TheVariants as operator
+use Rattle.wasm_visit_groups.specs.instr.ops.atomic.AtomicOperator.TheVariants as atomic
+use Rattle.wasm_visit_groups.specs.instr.Immediate.{fence_order}
+use Rattle.wasm_decode_opcodes.specs.Decoding.{VisitsRow}
+use Rattle.wasm_decode_groups.proofs.Codes.{atomic_fence_codes}
+use Rattle.wasm_decode_groups.proofs.atomic_operators.OwnAtAtomicFenceOrdering.at.Goals as goal
+
+pub returns : goal.returns
+returns g c =
+    let h = atomic_fence_codes c.args._code c.requires.kinds in
+    let same : 0x03 ≡ c.args._code = first_of (omega (arith, h), grind (arith, h)) in
+    subst (λ k. VisitsRow g.V.Visitor.visits (Some 0xfe) k (fence_order c.args.it.0 ∷ []) c.args.v.now c.visit_atomic_fence.result c.visit_atomic_fence.new.self) same (operator.Atomic (atomic.AtomicFence (c.args.it.0)), refl, refl, refl, c.visit_atomic_fence.ensures)

@@ -1,0 +1,16 @@
+-- Written by tools/lists.py from tools/operators.tsv.
+use Rattle.std.proofs.Common.{[], Some, refl, subst, arith, ◌≡◌, ◌∷◌}
+use Rattle.wasm_visit_groups.specs.imm.declared.memory_argument.MemArgKind.TheVariants as kind
+use Rattle.wasm_visit_groups.specs.instr.declared.operator.Operator.TheVariants as operator
+use Rattle.wasm_visit_groups.specs.instr.ops.atomic.AtomicOperator.TheVariants as atomic
+use Rattle.wasm_visit_groups.specs.instr.Immediate.{memory_argument}
+use Rattle.wasm_decode_opcodes.specs.Decoding.{VisitsRow}
+use Rattle.wasm_decode_opcodes.specs.Entries.{align_at}
+use Rattle.wasm_decode_groups.proofs.Codes.{atomic_memory_op_codes}
+use Rattle.wasm_decode_groups.proofs.atomic_operators.OwnAtAtomicOpMemArg.at.Goals as goal
+
+pub returns-in_default : goal.returns-in_default
+returns-in_default g c =
+    let h = atomic_memory_op_codes c.args.code c.requires.kinds in
+    let same : 0x1d ≡ c.args.code = first_of (omega (arith, h), grind (arith, h)) in
+    subst (λ k. VisitsRow g.V.Visitor.visits (Some 0xfe) k (memory_argument kind.Op (align_at (Some 0xfe) k) c.args.it.0 ∷ []) c.args.v.now c.visit_i64_atomic_store32.result c.visit_i64_atomic_store32.new.self) same (operator.Atomic (atomic.I64AtomicStore32 (c.args.it.0)), refl, refl, refl, c.visit_i64_atomic_store32.ensures)

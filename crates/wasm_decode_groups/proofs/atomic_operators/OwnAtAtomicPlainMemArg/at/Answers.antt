@@ -1,0 +1,16 @@
+-- Written by tools/lists.py from tools/operators.tsv.
+use Rattle.std.proofs.Common.{[], Some, refl, subst, arith, ◌≡◌, ◌∷◌}
+use Rattle.wasm_visit_groups.specs.imm.declared.memory_argument.MemArgKind.TheVariants as kind
+use Rattle.wasm_visit_groups.specs.instr.declared.operator.Operator.TheVariants as operator
+use Rattle.wasm_visit_groups.specs.instr.ops.atomic.AtomicOperator.TheVariants as atomic
+use Rattle.wasm_visit_groups.specs.instr.Immediate.{memory_argument}
+use Rattle.wasm_decode_opcodes.specs.Decoding.{VisitsRow}
+use Rattle.wasm_decode_opcodes.specs.Entries.{align_at}
+use Rattle.wasm_decode_groups.proofs.Codes.{atomic_memory_codes}
+use Rattle.wasm_decode_groups.proofs.atomic_operators.OwnAtAtomicPlainMemArg.at.Goals as goal
+
+pub returns-in_default : goal.returns-in_default
+returns-in_default g c =
+    let h = atomic_memory_codes c.args.code c.requires.kinds in
+    let same : 0x02 ≡ c.args.code = first_of (omega (arith, h), grind (arith, h)) in
+    subst (λ k. VisitsRow g.V.Visitor.visits (Some 0xfe) k (memory_argument kind.Plain (align_at (Some 0xfe) k) c.args.it.0 ∷ []) c.args.v.now c.visit_memory_atomic_wait64.result c.visit_memory_atomic_wait64.new.self) same (operator.Atomic (atomic.MemoryAtomicWait64 (c.args.it.0)), refl, refl, refl, c.visit_memory_atomic_wait64.ensures)

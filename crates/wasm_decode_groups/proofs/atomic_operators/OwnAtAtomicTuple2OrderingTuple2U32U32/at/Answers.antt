@@ -1,0 +1,14 @@
+-- Written by tools/lists.py from tools/operators.tsv.
+use Rattle.std.proofs.Common.{[], Some, refl, subst, arith, ◌≡◌, ◌∷◌}
+use Rattle.wasm_visit_groups.specs.instr.declared.operator.Operator.TheVariants as operator
+use Rattle.wasm_visit_groups.specs.instr.ops.atomic.AtomicOperator.TheVariants as atomic
+use Rattle.wasm_visit_groups.specs.instr.Immediate.{unsigned_32, order}
+use Rattle.wasm_decode_opcodes.specs.Decoding.{VisitsRow}
+use Rattle.wasm_decode_groups.proofs.Codes.{atomic_ordered_unsigned_unsigned_codes}
+use Rattle.wasm_decode_groups.proofs.atomic_operators.OwnAtAtomicTuple2OrderingTuple2U32U32.at.Goals as goal
+
+pub returns-in_default : goal.returns-in_default
+returns-in_default g c =
+    let h = atomic_ordered_unsigned_unsigned_codes c.args.code c.requires.kinds in
+    let same : 0x66 ≡ c.args.code = first_of (omega (arith, h), grind (arith, h)) in
+    subst (λ k. VisitsRow g.V.Visitor.visits (Some 0xfe) k (order c.args.it.0 ∷ unsigned_32 c.args.it.1.0 ∷ unsigned_32 c.args.it.1.1 ∷ []) c.args.v.now c.visit_struct_atomic_rmw_cmpxchg.result c.visit_struct_atomic_rmw_cmpxchg.new.self) same (operator.Atomic (atomic.StructAtomicRmwCmpxchg (c.args.it.0) (c.args.it.1.0) (c.args.it.1.1)), refl, refl, refl, c.visit_struct_atomic_rmw_cmpxchg.ensures)

@@ -1,0 +1,14 @@
+-- Written by tools/lists.py from tools/operators.tsv.
+use Rattle.std.proofs.Common.{[], Some, refl, subst, arith, ◌≡◌, ◌∷◌}
+use Rattle.wasm_visit_groups.specs.instr.declared.operator.Operator.TheVariants as operator
+use Rattle.wasm_visit_groups.specs.instr.ops.gc.GcOperator.TheVariants as gc
+use Rattle.wasm_visit_groups.specs.instr.Immediate.{cast}
+use Rattle.wasm_decode_groups.specs.Arms.{IsRow}
+use Rattle.wasm_decode_groups.proofs.Codes.{gc_cast_codes}
+use Rattle.wasm_decode_groups.proofs.gc_operators.MakerMakesGcCast.make.Goals as goal
+
+pub returns-in_default : goal.returns-in_default
+returns-in_default c =
+    let h = gc_cast_codes c.args.code c.requires.kinds in
+    let same : 0x26 ≡ c.args.code = first_of (omega (arith, h), grind (arith, h)) in
+    subst (λ k. IsRow (Some 0xfb) k (cast c.args.it ∷ []) (operator.Gc (gc.BrOnCastDescEqFail (c.args.it.relative_depth) (c.args.it.from) (c.args.it.to)))) same (refl, refl, refl)

@@ -1,0 +1,15 @@
+-- Written by tools/lists.py from tools/operators.tsv.
+use Rattle.std.proofs.Common.{[], None, refl, subst, arith, ◌≡◌, ◌∷◌}
+use Rattle.wasm_visit_groups.specs.imm.declared.memory_argument.MemArgKind.TheVariants as kind
+use Rattle.wasm_visit_groups.specs.instr.declared.operator.Operator.TheVariants as operator
+use Rattle.wasm_visit_groups.specs.instr.Immediate.{memory_argument}
+use Rattle.wasm_decode_opcodes.specs.Entries.{align_at}
+use Rattle.wasm_decode_groups.specs.Arms.{IsRow}
+use Rattle.wasm_decode_groups.proofs.Codes.{one_byte_memory_codes}
+use Rattle.wasm_decode_groups.proofs.one_byte_operators.MakerMakesOneBytePlainMemArg.make.Goals as goal
+
+pub returns-in_default : goal.returns-in_default
+returns-in_default c =
+    let h = one_byte_memory_codes c.args.code c.requires.kinds in
+    let same : 0x3e ≡ c.args.code = first_of (omega (arith, h), grind (arith, h)) in
+    subst (λ k. IsRow None k (memory_argument kind.Plain (align_at None k) c.args.it.0 ∷ []) (operator.I64Store32 (c.args.it.0))) same (refl, refl, refl)

@@ -1,0 +1,13 @@
+-- Written by tools/lists.py from tools/operators.tsv.
+use Rattle.std.proofs.Common.{[], None, refl, subst, arith, ◌≡◌, ◌∷◌}
+use Rattle.wasm_visit_groups.specs.instr.declared.operator.Operator.TheVariants as operator
+use Rattle.wasm_visit_groups.specs.instr.Immediate.{unsigned_32}
+use Rattle.wasm_decode_groups.specs.Arms.{IsRow}
+use Rattle.wasm_decode_groups.proofs.Codes.{one_byte_unsigned_codes}
+use Rattle.wasm_decode_groups.proofs.one_byte_operators.MakerMakesOneByteU32.make.Goals as goal
+
+pub returns-in_default : goal.returns-in_default
+returns-in_default c =
+    let h = one_byte_unsigned_codes c.args.code c.requires.kinds in
+    let same : 0xe2 ≡ c.args.code = first_of (omega (arith, h), grind (arith, h)) in
+    subst (λ k. IsRow None k (unsigned_32 c.args.it ∷ []) (operator.Suspend (c.args.it))) same (refl, refl, refl)

@@ -1,0 +1,13 @@
+-- Written by tools/lists.py from tools/operators.tsv.
+use Rattle.std.proofs.Common.{[], None, refl, subst, arith, ◌≡◌, ◌∷◌}
+use Rattle.wasm_visit_groups.specs.instr.declared.operator.Operator.TheVariants as operator
+use Rattle.wasm_visit_groups.specs.instr.Immediate.{float_64}
+use Rattle.wasm_decode_opcodes.specs.Decoding.{VisitsRow}
+use Rattle.wasm_decode_groups.proofs.Codes.{one_byte_float_64_codes}
+use Rattle.wasm_decode_groups.proofs.one_byte_operators.OwnAtOneByteIeee64.at.Goals as goal
+
+pub returns : goal.returns
+returns g c =
+    let h = one_byte_float_64_codes c.args._code c.requires.kinds in
+    let same : 0x44 ≡ c.args._code = first_of (omega (arith, h), grind (arith, h)) in
+    subst (λ k. VisitsRow g.V.Visitor.visits None k (float_64 c.args.it ∷ []) c.args.v.now c.visit_f64_const.result c.visit_f64_const.new.self) same (operator.F64Const (c.args.it), refl, refl, refl, c.visit_f64_const.ensures)

@@ -1,0 +1,13 @@
+-- Written by tools/lists.py from tools/operators.tsv.
+use Rattle.std.proofs.Common.{[], None, refl, subst, arith, ◌≡◌, ◌∷◌}
+use Rattle.wasm_visit_groups.specs.instr.declared.operator.Operator.TheVariants as operator
+use Rattle.wasm_visit_groups.specs.instr.Immediate.{unsigned_32}
+use Rattle.wasm_decode_opcodes.specs.Decoding.{VisitsRow}
+use Rattle.wasm_decode_groups.proofs.Codes.{one_byte_unsigned_unsigned_codes}
+use Rattle.wasm_decode_groups.proofs.one_byte_operators.OwnAtOneByteTuple2U32U32.at.Goals as goal
+
+pub returns-in_default : goal.returns-in_default
+returns-in_default g c =
+    let h = one_byte_unsigned_unsigned_codes c.args.code c.requires.kinds in
+    let same : 0xe6 ≡ c.args.code = first_of (omega (arith, h), grind (arith, h)) in
+    subst (λ k. VisitsRow g.V.Visitor.visits None k (unsigned_32 c.args.it.0 ∷ unsigned_32 c.args.it.1 ∷ []) c.args.v.now c.visit_switch.result c.visit_switch.new.self) same (operator.Switch (c.args.it.0) (c.args.it.1), refl, refl, refl, c.visit_switch.ensures)

@@ -1,0 +1,16 @@
+-- Written by tools/lists.py from tools/operators.tsv.
+use Rattle.std.proofs.Common.{[], Some, refl, subst, arith, ◌≡◌, ◌∷◌}
+use Rattle.wasm_visit_groups.specs.imm.declared.memory_argument.MemArgKind.TheVariants as kind
+use Rattle.wasm_visit_groups.specs.instr.declared.operator.Operator.TheVariants as operator
+use Rattle.wasm_visit_groups.specs.instr.simd.simd.SimdOperator.TheVariants as simd
+use Rattle.wasm_visit_groups.specs.instr.Immediate.{memory_argument}
+use Rattle.wasm_decode_opcodes.specs.Entries.{align_at}
+use Rattle.wasm_decode_groups.specs.Arms.{IsRow}
+use Rattle.wasm_decode_groups.proofs.Codes.{simd_low_memory_codes}
+use Rattle.wasm_decode_groups.proofs.simd_low_operators.MakerMakesSimdLowPlainMemArg.make.Goals as goal
+
+pub returns-in_default : goal.returns-in_default
+returns-in_default c =
+    let h = simd_low_memory_codes c.args.code c.requires.kinds in
+    let same : 0x5d ≡ c.args.code = first_of (omega (arith, h), grind (arith, h)) in
+    subst (λ k. IsRow (Some 0xfd) k (memory_argument kind.Plain (align_at (Some 0xfd) k) c.args.it.0 ∷ []) (operator.Simd (simd.V128Load64Zero (c.args.it.0)))) same (refl, refl, refl)

@@ -1,0 +1,14 @@
+-- Written by tools/lists.py from tools/operators.tsv.
+use Rattle.std.proofs.Common.{[], Some, refl, subst, arith, ◌≡◌, ◌∷◌}
+use Rattle.wasm_visit_groups.specs.instr.declared.operator.Operator.TheVariants as operator
+use Rattle.wasm_visit_groups.specs.instr.simd.simd.SimdOperator.TheVariants as simd
+use Rattle.wasm_visit_groups.specs.instr.Immediate.{vector}
+use Rattle.wasm_decode_groups.specs.Arms.{IsRow}
+use Rattle.wasm_decode_groups.proofs.Codes.{simd_low_vector_codes}
+use Rattle.wasm_decode_groups.proofs.simd_low_operators.MakerMakesSimdLowV128.make.Goals as goal
+
+pub returns : goal.returns
+returns c =
+    let h = simd_low_vector_codes c.args._code c.requires.kinds in
+    let same : 0x0c ≡ c.args._code = first_of (omega (arith, h), grind (arith, h)) in
+    subst (λ k. IsRow (Some 0xfd) k (vector c.args.it ∷ []) (operator.Simd (simd.V128Const (c.args.it)))) same (refl, refl, refl)

@@ -1,0 +1,428 @@
+"""Writes the files of the groups whose codes have arms, with their proofs."""
+
+import re
+
+from arms import (
+    ARMS, COMMON_CALL, EVERY_CALL, GUARDS, KINDS, LISTS, MARKS, alone, by_alignment, group_text, kinds, listed, only, parts, places, type_of,
+)
+from entries import KIND_WORDS
+from parts import BOUNDS, COMMON, exponent, form_key, runs
+from table import HEAD, ROW_WORDS, imported
+from visits import GROUPS, type_name
+
+# The widths of the numbers that a visit takes as bits.
+SIGNED = {"signed_32": "w32", "signed_64": "w64"}
+CRATE = "crates/wasm_decode_groups"
+
+
+# ---- sources
+
+
+def named(names, text):
+    """Returns the names that occur in the text as whole words."""
+    return [it for it in names if re.search(rf"(?<![\w:]){re.escape(it)}(?!\w)", text)]
+
+
+def source(ops, group):
+    text = group_text(ops, group)
+    is_own = group.enum == "Own"
+    prelude = [f"◌{it}◌" for it in "≡≤<" if f" {it} " in text] + named(["[]"], text) + (["◌∷◌"] if " ∷ " in text else [])
+    prelude += ["None" if is_own else "Some", *named(["IfSome", "IfNone"], text)]
+    words = named(ROW_WORDS + KIND_WORDS, "\n".join(line for line in text.split("\n") if "{ " in line))
+    words = [it for it in words if it.startswith("is_")]
+    here = named(["At", "ByAny", "Maker", "Makes", "Own", "arm", *[it for it in MARKS.values() if it != "OneByte"]], text)
+    kind_types = named([kind.ty for kind in KINDS.values() if kind.ty.endswith(("MemArg", "FenceOrdering", "MemoryIndex", "TableIndex"))], text)
+    opcodes = [*kind_types, *named(["Guard", "Only", "unknown_opcode", "unknown_subopcode"], text)]
+    imm = named(["BlockType", "Cast", "Ieee32", "Ieee64", "MemArgKind", "Ordering", "ResumeTable", "Select", "TryTable", "V128"], text)
+    specs = named(["HasKindsAt"], text)
+    lines = [
+        f"//! Decoding of {group.short.removeprefix('the ')}. {HEAD}",
+        f"ghost use Rattle.std.specs.Prelude.{{{', '.join(prelude)}}};",
+        "ghost use Rattle.wasm_grammar.specs.declared.frame_kind.FrameKind.{FrameKind};",
+        *([f"ghost use Rattle.wasm_instr.specs.Immediate.{{{', '.join(words)}}};"] if words else []),
+        "ghost use Rattle.wasm_decode_opcodes.specs.Decoding.{DecodesAt, IsAfterCode};",
+        *(["ghost use Rattle.wasm_decode_opcodes.specs.Entries.{align_at};"] if "align_at" in text else []),
+        *([f"ghost use Rattle.wasm_decode_groups.specs.Arms.{{{', '.join(specs)}}};"] if specs else []),
+        *(["ghost use Rattle.wasm_decode_groups.specs.OneByte.{IsOneByteCode};"] if is_own else []),
+        "",
+        f"use crate::arm::{{{', '.join(sorted(here))}}};",
+        *(["use crate::one_byte_arms::{AtList, OneByte, guarded_arm, list_arm};", "use crate::out_of_line::other_one_byte_by;", "use std::alloc::Global;", "use wasm_grammar::FrameKind;"] if is_own else []),
+        *(["use crate::vectors_without_immediates::has_no_immediates;"] if "has_no_immediates(" in text else []),
+        f"use wasm_below::{{{', '.join(named(['BinaryReader', 'HeapType', 'Result'], text))}}};",
+        *([f"use wasm_imm::{{{', '.join(imm)}}};"] if imm else []),
+        f"use wasm_instr::{{{type_name(group)}}};",
+        *([f"use wasm_decode_opcodes::{{{', '.join(sorted(opcodes))}}};"] if opcodes else []),
+        f"use wasm_visit_groups::{{{group.trait}, Visitor}};",
+        "",
+    ]
+    return "\n".join([*lines, text])
+
+
+# ---- codes
+
+
+def test_name(key):
+    words = [f"{it.split()[1].lower()}_memory" if it.startswith("memory ") else it for it in key]
+    return "are_" + ("_".join(words) or "none")
+
+
+def test(name, these):
+    return [f"abbrev {name} : Option (List Kind) → Bool", f"{name} (Some ({these})) = true", f"{name} _ = false", ""]
+
+
+def ranges(codes):
+    return " ∷ ".join([f"(0x{first:02x}, 0x{last:02x})" for first, last in runs(codes)] + ["[]"])
+
+
+def entries_name(part):
+    return "opcode_entries" if part.is_own else f"{type_name(part.group).removesuffix('Operator').lower()}_entries"
+
+
+def codes_lemma(part):
+    """Returns the lemma that only the codes of a part have its kinds."""
+    codes, tested = ranges([op.code for op in part.alike]), test_name(part.key)
+    return [
+        f"pub {part.lemma}_codes : (code : ℕ) → HasKindsAt {part.place} code (λ bound. {kinds(part.key, 'bound')}) → InRanges code ({codes})",
+        f"{part.lemma}_codes code h = codes_in (λ e. {tested} (entry_kinds e)) ({codes}) {entries_name(part)} code refl refl (ap {tested} h)",
+        "",
+    ]
+
+
+def arm_lemmas(part):
+    """Returns the lemmas that the codes of a part have its kinds."""
+    name, place = part.lemma, part.place
+    if part.has_table:
+        return [
+            f"pub {name}_arm : (code : ℕ) → entry_at {place} code ≡ free [] → HasArm {place} code [] 0",
+            f"{name}_arm code e = (e, sym (ap align_in e))",
+            "",
+        ]
+    bound = f"(align_at {place} code)" if part.has_align else "0"
+    has = f"HasArm {place} code ({kinds(part.key, bound)}) {bound}"
+    found = [run for run in runs([op.code for op in part.free]) if run[0] < run[1]]
+    out = [f"abbrev {name}_at : ℕ → Type 0", f"{name}_at code = {has}", ""] if found else []
+    for first, last in found:
+        every = "tt"
+        for _ in range(first, last + 1):
+            every = f"((refl, refl), {every})"
+        out += [
+            f"pub {name}_{first:02x} : (code : ℕ) → 0x{first:02x} ≤ code → code ≤ 0x{last:02x} → {has}",
+            f"{name}_{first:02x} code from to = in_run {name}_at {last - first + 1} 0x{first:02x} code {every} from (omega arith)",
+            "",
+        ]
+    return out
+
+
+def unknown_lemma(ops, group):
+    """Returns the lemma that other codes have no operator."""
+    part = parts(ops, group)[0]
+    known = ranges([op.code for op in ops if op.prefix == part.prefix])
+    if part.is_own:
+        return [
+            f"pub one_byte_unknown : (code : ℕ) → (entry_at None code ≡ prefixes → ⊥) → (InRanges code ({known}) → ⊥) → entry_at None code ≡ unknown",
+            f"one_byte_unknown code apart outside = unknown_byte ({known}) opcode_entries code refl apart outside",
+            "",
+        ]
+    return [
+        f"pub {group.module}_unknown : (code : ℕ) → (InRanges code ({known}) → ⊥) → entry_at {part.place} code ≡ unknown",
+        f"{group.module}_unknown code outside = unknown_outside ({known}) {entries_name(part)} code refl outside",
+        "",
+    ]
+
+
+def list_lemmas(ops):
+    out, found = [], {}
+    for op in ops:
+        if op.name in LISTS and not op.prefix:
+            found.setdefault(LISTS[op.name], set()).add(op.code)
+    for kind, codes in found.items():
+        name = f"are_{kind.lemma}"
+        out += test(name, kind.kinds)
+        out += [
+            f"pub {kind.lemma}_codes : (code : ℕ) → entry_kinds (entry_at None code) ≡ Some ({kind.kinds}) → InRanges code ({ranges(codes)})",
+            f"{kind.lemma}_codes code h = codes_in (λ e. {name} (entry_kinds e)) ({ranges(codes)}) opcode_entries code refl refl (ap {name} h)",
+            "",
+        ]
+    return out
+
+
+def simd_lemmas(ops):
+    """Returns the lemmas on the codes of SIMD operators with immediates, and on those below 0x80, which all have an operator."""
+    those = [part for group in GROUPS if group.enum == "Simd" for part in parts(ops, group)]
+    others = ranges([op.code for part in those if not part.has_table for op in part.ops])
+    each = "tt"
+    for _ in range(0x80):
+        each = f"(refl, {each})"
+    return [
+        "abbrev pub simd_other_codes : List (ℕ × ℕ)",
+        f"simd_other_codes = {others}",
+        "",
+        "pub simd_others : (code : ℕ) → is_other (entry_at (Some 0xfd) code) ≡ true → InRanges code simd_other_codes",
+        "simd_others code other = codes_in is_other simd_other_codes simd_entries code refl refl other",
+        "",
+        "pub simd_low_known : (code : ℕ) → code < 0x80 → is_known (entry_at (Some 0xfd) code) ≡ true",
+        f"simd_low_known code low = in_run (λ c. is_known (entry_at (Some 0xfd) c) ≡ true) 0x80 0 code {each} (omega arith) (omega (arith, low))",
+        "",
+    ]
+
+
+def codes_file(ops):
+    groups = [group for group in GROUPS if group.module in ARMS]
+    body = []
+    for key in dict.fromkeys(part.key for group in groups for part in parts(ops, group)):
+        body += test(test_name(key), kinds(key, "align"))
+    for group in groups:
+        for part in parts(ops, group):
+            body += codes_lemma(part) + arm_lemmas(part)
+        if group.enum != "Simd":
+            body += unknown_lemma(ops, group)
+        if group.enum == "Own":
+            body += list_lemmas(ops)
+    body += simd_lemmas(ops)
+    text = "\n".join(body)
+    common = ["◌≡◌", "ℕ", *[f"◌{it}◌" for it in "<≤" if f" {it} " in text], "Bool", "true", "false", "List", "[]", "◌∷◌", "Option", "Some", *named(["None", "refl", "sym"], text), "ap", "arith"]
+    entries = named(["opcode_entries", "gc_entries", "misc_entries", "simd_entries", "atomic_entries"], text)
+    return "\n".join([
+        f"-- {HEAD}",
+        "-- The codes whose entries have these kinds, by groups.",
+        f"use Rattle.std.proofs.Common.{{{', '.join(common)}}}",
+        *(["use Rattle.wasm_imm.specs.declared.memory_argument.MemArgKind.TheVariants as kind"] if "kind." in text else []),
+        f"use Rattle.wasm_instr.specs.Immediate.{{Kind, {', '.join(named(KIND_WORDS, text))}}}",
+        f"use Rattle.wasm_decode_opcodes.specs.Entry.{{{', '.join(named(['unknown', 'prefixes', 'free', 'entry_kinds', 'align_in'], text))}}}",
+        f"use Rattle.wasm_decode_opcodes.specs.Entries.{{{', '.join([*entries, 'entry_at', *named(['align_at'], text)])}}}",
+        "use Rattle.wasm_decode_groups.specs.Arms.{HasArm, HasKindsAt}",
+        f"use Rattle.wasm_decode_groups.proofs.Ranges.{{{', '.join(['InRanges', 'codes_in', 'unknown_outside', 'unknown_byte', 'in_run', 'is_known', 'is_other'])}}}",
+        "",
+        text.rstrip(),
+        "",
+    ])
+
+
+# ---- proofs
+
+
+def made(part, op, value):
+    operands = "".join(f" ({it})" for it in [each.format(at) for kind, at in places(part.key, value) for each in kind.values])
+    return f"operator.{op.name}{operands}" if part.is_own else f"operator.{op.group} ({op.group.lower()}.{op.name}{operands})"
+
+
+def last_code(part, given):
+    """Returns the start of the proof for the last code of a part."""
+    goal = "returns" if part.is_one else "returns-in_default"
+    # a maker or a visit of one operator does not use the code
+    code = "c.args._code" if part.is_one else "c.args.code"
+    bound, also = [], ""
+    if part.is_bounded:
+        condition = BOUNDS[part.group.module].replace("code", code)
+        bound, also = [f"    let bound : {condition} = c.requires.group in"], ", bound"
+    omega = "" if part.is_own else also
+    return [
+        f"pub {goal} : goal.{goal}",
+        f"{goal} {given} =",
+        f"    let h = {part.lemma}_codes {code} c.requires.kinds in",
+        *bound,
+        f"    let same : {part.ops[-1].hex()} ≡ {code} = first_of (omega (arith, h{omega}), grind (arith, h{also})) in",
+    ]
+
+
+def proof(part, path, lines):
+    text = "\n".join(lines)
+    enum = part.ops[0].group
+    folder = "simd" if enum == "Simd" else "ops"
+    common = named(["[]", "None", "Some", "refl", "subst", "ap", "arith"], text)
+    common += [f"◌{it}◌" for it in ("≡", "∷", "≤", "<") if it in text]
+    words = named(ROW_WORDS, text.replace("c.", "@."))
+    if "to_z" in text:
+        common += ["rules", *named(["w32", "w64"], text), "to_z", "of_z"]
+    return "\n".join([
+        f"-- {HEAD}",
+        f"use Rattle.std.proofs.Common.{{{', '.join(common)}}}",
+        *(["use Rattle.std.proofs.lemmas.Int.{to_z-of_z}", "use mir.Val.{SFits}"] if "to_z" in text else []),
+        *(["use Rattle.wasm_imm.specs.declared.memory_argument.MemArgKind.TheVariants as kind"] if "kind." in text else []),
+        *(["use Rattle.wasm_instr.specs.declared.operator.Operator.TheVariants as operator"] if "operator." in text else []),
+        *([f"use Rattle.wasm_instr.specs.{folder}.{enum.lower()}.{enum}Operator.TheVariants as {enum.lower()}"] if f"({enum.lower()}." in text else []),
+        *([f"use Rattle.wasm_instr.specs.Immediate.{{{', '.join(words)}}}"] if words else []),
+        *(["use Rattle.wasm_decode_opcodes.specs.Decoding.{VisitsRow}"] if "VisitsRow" in text else []),
+        *(["use Rattle.wasm_decode_opcodes.specs.Entries.{align_at}"] if "align_at" in text else []),
+        *(["use Rattle.wasm_decode_groups.specs.Arms.{IsRow}"] if "IsRow" in text else []),
+        f"use Rattle.wasm_decode_groups.proofs.Codes.{{{part.lemma}_codes}}",
+        f"use Rattle.wasm_decode_groups.proofs.{path}.Goals as goal",
+        "",
+        text,
+        "",
+    ])
+
+
+def of_bits(part, value):
+    """Returns the operand of an operator whose visit takes a number's bits, the proof that it is the number, and the line before."""
+    width = SIGNED[part.key[0]]
+    number = f"to_z {width} (of_z {width} {value})"
+    return number, f"ap (λ z. {part.key[0]} z ∷ []) (to_z-of_z {width} {value} fits)", f"    let fits : SFits {width} {value} = search rules in"
+
+
+def visits_proof(part, path):
+    visit = f"c.{part.ops[-1].visit}"
+    term = listed(part.key, "c.args.it", f"(align_at {part.place} k)")
+    relation = f"VisitsRow g.V.Visitor.visits {part.place} k ({term}) c.args.v.now {visit}.result {visit}.new.self"
+    lines, op, same = last_code(part, "g c"), made(part, part.ops[-1], "c.args.it"), "refl"
+    if part.key and part.key[0] in SIGNED:
+        number, same, fits = of_bits(part, "c.args.it")
+        lines, op = [*lines, fits], op.replace("c.args.it", number)
+    return proof(part, path, [*lines, f"    subst (λ k. {relation}) same ({op}, refl, refl, {same}, {visit}.ensures)"])
+
+
+def makes_proof(part, path):
+    term = listed(part.key, "c.args.it", f"(align_at {part.place} k)")
+    op, same, lines = made(part, part.ops[-1], "c.args.it"), "refl", last_code(part, "c")
+    if part.key and part.key[0] in SIGNED:
+        number, same, fits = of_bits(part, "c.args.it")
+        lines, op = [*lines, fits], op.replace("c.args.it", number)
+    return proof(part, path, [*lines, f"    subst (λ k. IsRow {part.place} k ({term}) ({op})) same (refl, refl, {same})"])
+
+
+def alignment_proof(part, path):
+    last = by_alignment(part)[-1]
+    goal = "returns" if part.is_one else "returns-in_default"
+    return "\n".join([
+        f"-- {HEAD}",
+        f"use Rattle.std.proofs.Common.{{refl, subst, {'Some' if part.prefix else 'None'}, arith, ◌≡◌}}",
+        "use Rattle.wasm_decode_opcodes.specs.Entries.{align_at}",
+        f"use Rattle.wasm_decode_groups.proofs.Codes.{{{part.lemma}_codes}}",
+        f"use Rattle.wasm_decode_groups.proofs.{path}.Goals as goal",
+        "",
+        f"pub {goal} : goal.{goal}",
+        f"{goal} c =",
+        f"    let h = {part.lemma}_codes c.args.code c.requires in",
+        f"    let same : {last.hex()} ≡ c.args.code = first_of (omega (arith, h), grind (arith, h)) in",
+        f"    subst (λ k. {exponent(last)} ≡ align_at {part.place} k) same refl",
+        "",
+    ])
+
+
+def run_name(run):
+    first, last = run
+    return f"in-{first}" if first == last else f"in-{first}-to-{last}"
+
+
+def run_proofs(those, takes, bare):
+    """Returns the proofs that the runs have their kinds. `bare`: the first goal of `arm` is for a single code."""
+    out, names = [], []
+    aligned = set()
+    for part in those:
+        for run in runs([op.code for op in part.free if takes(op.code)]):
+            if run[0] == run[1]:
+                continue
+            (whole,) = [it for it in runs([op.code for op in part.free]) if it[0] <= run[0] and run[1] <= it[1]]
+            names.append(f"{part.lemma}_{whole[0]:02x}")
+            here = f"c.{run_name(run)}"
+            found = f"{names[-1]} c.args.code (omega (arith, {here})) (omega (arith, {here}))"
+            place = f"-{run_name(run)}" if bare else ""
+            bare = True
+            goal = f"arm-requires{place}-clause-kinds"
+            if part.has_align:
+                align = f"align_of_{part.title}"
+                first = "" if align not in aligned else f"-{run_name(run)}"
+                aligned.add(align)
+                out += [f"pub {align}-requires{first} : goal.{align}-requires{first}", f"{align}-requires{first} g c = ap entry_kinds ({found}).0", ""]
+                has = f"HasArm {part.place} c.args.code ({kinds(part.key, 'z')}) z"
+                found = f"subst (λ z. {has}) (sym c.{align}{first}.ensures) ({found})"
+            out += [f"pub {goal} : goal.{goal}", f"{goal} g c = {found}", ""]
+    return out, names
+
+
+def group_proof(path, body, names):
+    text = "\n".join(body)
+    return "\n".join([
+        f"-- {HEAD}",
+        f"use Rattle.std.proofs.Common.{{{', '.join([*named(['[]', 'None', 'Some', 'refl', 'sym', 'subst', 'ap', 'arith'], text), *[f'◌{it}◌' for it in '∷∙' if it in text]])}}}",
+        *(["use Rattle.wasm_imm.specs.declared.memory_argument.MemArgKind.TheVariants as kind"] if "kind." in text else []),
+        *([f"use Rattle.wasm_instr.specs.Immediate.{{{', '.join(named(KIND_WORDS, text))}}}"] if named(KIND_WORDS, text) else []),
+        *(["use Rattle.wasm_decode_opcodes.specs.Entry.{entry_kinds}"] if "entry_kinds" in text else []),
+        *(["use Rattle.wasm_decode_groups.specs.Arms.{HasArm}"] if "HasArm" in text else []),
+        *([f"use Rattle.wasm_decode_groups.proofs.Codes.{{{', '.join(dict.fromkeys(names))}}}"] if names else []),
+        *([f"use Rattle.wasm_decode_groups.proofs.WithoutImmediates.{{{', '.join(named(['others', 'no_operator'], text))}}}"] if named(["others", "no_operator"], text) else []),
+        f"use Rattle.wasm_decode_groups.proofs.{path}.Goals as goal",
+        "",
+        text,
+    ])
+
+
+def has_single(those, takes=lambda code: True):
+    return any(run[0] == run[1] for part in those for run in runs([op.code for op in part.free if takes(op.code)]))
+
+
+def prefixed_proof(ops, group):
+    those = [part for part in parts(ops, group) if not part.has_table]
+    body, names = run_proofs(those, lambda code: True, has_single(those) or group.enum == "Simd")
+    path = f"{group.module}_operators.{group.module}_by"
+    goal = "unknown_subopcode-requires-clause-unknown"
+    if group.enum != "Simd":
+        names.append(f"{group.module}_unknown")
+        body += [f"pub {goal} : goal.{goal}", f"{goal} g c = {names[-1]} c.args.code (λ h. grind (arith, h))", ""]
+        body += ["pub returns-in_default : goal.returns-in_default", "returns-in_default g c k = (refl, c.unknown_subopcode.ensures k)", ""]
+        return group_proof(path, body, names)
+    told = "c.has_no_immediates.ensures.exact"
+    (bare,) = [part for part in parts(ops, group) if part.has_table]
+    names.append(f"{bare.lemma}_arm")
+    if those:
+        # the last arm has all other codes: what the table leaves
+        last = next(line for line in reversed(body) if line.startswith("pub arm-requires-")).split()[1]
+        at = body.index(f"pub {last} : goal.{last}")
+        goal = "arm-requires-in_default-clause-kinds"
+        left = f"others c.args.code (omega (arith, c.requires.half)) (sym {told} ∙ c.if-has_no_immediates.false)"
+        body[at:at + 2] = [f"pub {goal} : goal.{goal}", f"{goal} g c = let h = {left} in {names[-2]} c.args.code (grind (arith, h)) (grind (arith, h))"]
+    first = "arm-requires-clause-kinds"
+    body += [f"pub {first} : goal.{first}", f"{first} g c = {names[-1]} c.args.code (c.has_no_immediates.ensures.without c.if-has_no_immediates.true)", ""]
+    if not those:
+        goal = "unknown_subopcode-requires-clause-unknown"
+        body += [f"pub {goal} : goal.{goal}", f"{goal} g c = no_operator c.args.code c.requires.half (sym {told} ∙ c.if-has_no_immediates.false)", ""]
+        body += ["pub returns : goal.returns", "returns g c k = (refl, c.unknown_subopcode.ensures k)", ""]
+    return group_proof(path, body, names)
+
+
+def one_byte_proofs(ops, group):
+    those = parts(ops, group)
+    common = [part for part in those if any(op.code in COMMON for op in part.free)]
+    few, few_names = run_proofs(common, lambda code: code in COMMON, True)
+    body, names = run_proofs(those, lambda code: True, True)
+    goal = "unknown_opcode-requires-clause-unknown"
+    apart = "c.requires.apart"
+    body += [f"pub {goal} : goal.{goal}", f"{goal} g c = one_byte_unknown c.args.code {apart}.apart (λ h. grind (arith, h, {apart}.table, {apart}.numeric))", ""]
+    body += ["pub returns-in_default : goal.returns-in_default", "returns-in_default g c = (refl, c.unknown_opcode.ensures c.args.frame)", ""]
+    module = "one_byte_operators"
+    return {
+        f"{module}.{COMMON_CALL}_by": group_proof(f"{module}.{COMMON_CALL}_by", few, few_names),
+        f"{module}.{EVERY_CALL}_by": group_proof(f"{module}.{EVERY_CALL}_by", body, [*names, "one_byte_unknown"]),
+    }
+
+
+def folder_of(key):
+    if not key:
+        return "Unit"
+    if len(key) > 1:
+        return "Tuple2" + folder_of(key[:1]) + folder_of(key[1:])
+    ty = KINDS[key[0]].ty
+    return {"[u8; 16]": "ArrayU816"}.get(ty, ty[0].upper() + ty[1:])
+
+
+def proofs(ops, group):
+    module, mark = f"{group.module}_operators", MARKS[group.module]
+    out = one_byte_proofs(ops, group) if group.enum == "Own" else {f"{module}.{group.module}_by": prefixed_proof(ops, group)}
+    for part in parts(ops, group):
+        at = f"{module}.OwnAt{mark}{folder_of(part.key)}.at"
+        make = f"{module}.MakerMakes{mark}{folder_of(part.key)}.make"
+        out[at] = visits_proof(part, at)
+        out[make] = makes_proof(part, make)
+        if part.has_align:
+            align = f"{module}.align_of_{part.title}"
+            out[align] = alignment_proof(part, align)
+    return out
+
+
+def arm_files(ops):
+    out = {f"{CRATE}/proofs/Codes.antt": codes_file(ops)}
+    for group in GROUPS:
+        if group.module in ARMS:
+            out[f"{CRATE}/src/{group.module}_operators.rt"] = source(ops, group)
+            out |= {f"{CRATE}/proofs/{path.replace('.', '/')}/Answers.antt": text for path, text in proofs(ops, group).items()}
+    return out

@@ -1,0 +1,397 @@
+"""Writes the decoders of the groups of visits: an arm for each run of codes, which names the type of their immediates."""
+
+from entries import GUARDS, KIND_NAMES
+from parts import ALONE, BOUNDS, COMMON, exponent, form_key, run_pattern, runs, title
+from table import doc, singular
+from visits import type_name
+
+# The groups whose codes have arms: all but the numeric operators, which have no immediates.
+ARMS = ("one_byte", "gc", "misc", "atomic", "simd_low", "simd_high")
+# The type for each group.
+MARKS = {"one_byte": "OneByte", "gc": "Gc", "misc": "Misc", "atomic": "Atomic", "simd_low": "SimdLow", "simd_high": "SimdHigh"}
+# The common operators with a one-byte opcode are inlined.
+COMMON_CALL = "common_one_byte"
+OTHERS_CALL = "other_one_byte"
+EVERY_CALL = "any_one_byte"
+
+
+class Kind:
+    """The type that is read, the immediate in clauses, and the values that a visit takes."""
+
+    def __init__(self, ty, term, values=("{0}",)):
+        self.ty = ty
+        self.term = term
+        self.values = values
+
+
+KINDS = {
+    "unsigned": Kind("u32", "unsigned_32 {0}"),
+    "signed_32": Kind("i32", "signed_32 {0}"),
+    "signed_64": Kind("i64", "signed_64 {0}"),
+    "float_32": Kind("Ieee32", "float_32 {0}"),
+    "float_64": Kind("Ieee64", "float_64 {0}"),
+    "vector": Kind("V128", "vector {0}"),
+    "lane_index": Kind("u8", "one_lane {0}"),
+    "lane_list": Kind("[u8; 16]", "sixteen_lanes {0}"),
+    "memory_index": Kind("MemoryIndex", "memory_index {0}.0", ("{0}.0",)),
+    "table_index": Kind("TableIndex", "table_index_32 {0}.0", ("{0}.0",)),
+    "ordered": Kind("Ordering", "order {0}"),
+    "fence": Kind("FenceOrdering", "fence_order {0}.0", ("{0}.0",)),
+    "heap_type": Kind("HeapType", "heap_type {0}"),
+    "cast": Kind("Cast", "cast {0}", ("{0}.relative_depth", "{0}.from", "{0}.to")),
+    "block_type": Kind("BlockType", "block_type {0}"),
+}
+for sort in ("Plain", "Op", "Rmw"):
+    KINDS[f"memory {sort}"] = Kind(f"{sort}MemArg", f"memory_argument kind.{sort} {{align}} {{0}}.0", ("{0}.0",))
+
+
+class ListKind:
+    """The type that is read, and the names of lemmas and kinds in proofs."""
+
+    def __init__(self, ty, lemma, kinds):
+        self.ty = ty
+        self.lemma = lemma
+        self.kinds = kinds
+
+
+SELECT = ListKind("Select", "select", "is_select_types ∷ []")
+TRIES = ListKind("TryTable", "try_table", "is_try_clauses ∷ []")
+RESUME = ListKind("(u32, ResumeTable)", "resume", "is_unsigned_32 ∷ is_resume_clauses ∷ []")
+THROW = ListKind("(u32, (u32, ResumeTable))", "resume_throw", "is_unsigned_32 ∷ is_unsigned_32 ∷ is_resume_clauses ∷ []")
+# The operators whose immediates may own a list. Two share the first opcode.
+LISTS = {"TypedSelect": SELECT, "TypedSelectMulti": SELECT, "TryTable": TRIES, "Resume": RESUME, "ResumeThrow": THROW, "ResumeThrowRef": RESUME}
+
+
+def is_typed(op):
+    """Returns whether the immediates own no list and borrow nothing."""
+    return all(it in KINDS for it in form_key(op))
+
+
+def unread(ops):
+    """Returns an error for each operator that the decoder would omit."""
+    wanting = [op for op in ops if not is_typed(op) and op.name not in LISTS and op.name != "BrTable"]
+    return [
+        f"{op.place}: wasm_decode_opcodes has no type for the immediates {', '.join(op.immediates)}: add it to src/kinds.rt and to KINDS in tools/generate/arms.py"
+        for op in wanting
+    ]
+
+
+class Part:
+    """The operators of a group with the same kinds of immediates. Those in `free` have no guard."""
+
+    def __init__(self, group, key, ops, every):
+        self.group = group
+        self.key = key
+        self.ops = sorted(ops, key=lambda op: op.code)
+        self.free = [op for op in self.ops if op.prefix or op.name not in GUARDS]
+        self.title = title(key)
+        self.is_one = len(self.ops) == 1
+        self.prefix = self.ops[0].prefix
+        # the operators of all groups with the same kinds of immediates
+        self.alike = [op for op in every if op.prefix == self.prefix and form_key(op) == key and is_typed(op)]
+
+    @property
+    def is_own(self):
+        return self.group.enum == "Own"
+
+    @property
+    def mark(self):
+        return MARKS[self.group.module]
+
+    @property
+    def type(self):
+        return type_of(self.key)
+
+    @property
+    def lemma(self):
+        """Returns the prefix of the lemmas' names."""
+        return f"{self.group.module}_{self.title}"
+
+    @property
+    def is_bounded(self):
+        """Returns whether operators of other groups have the same kinds of immediates."""
+        return not self.key and self.group.module in BOUNDS
+
+    @property
+    def has_align(self):
+        return bool(self.key) and self.key[0].startswith("memory ")
+
+    @property
+    def has_table(self):
+        """Returns whether a table identifies the operators."""
+        return self.group.enum == "Simd" and not self.key
+
+    @property
+    def place(self):
+        return f"(Some 0x{self.prefix})" if self.prefix else "None"
+
+
+def parts(ops, group):
+    found = {}
+    for op in group.of(ops):
+        if is_typed(op):
+            found.setdefault(form_key(op), []).append(op)
+    return [Part(group, key, those, ops) for key, those in found.items()]
+
+
+def alone(ops, group):
+    """Returns a part for each common operator with a separate arm."""
+    return [Part(group, form_key(op), [op], ops) for op in group.of(ops) if group.enum == "Own" and op.code in ALONE]
+
+
+def by_alignment(part):
+    """Returns a part's operators. The last one, if possible, differs in alignment from the first and the last code.
+
+    Otherwise the arm `_` returns the same as the codes at an end of the range. The compiler then keeps a jump for
+    these codes, and the first of them, `i32.load`, takes it.
+    """
+    ends = {exponent(part.ops[0]), exponent(part.ops[-1])}
+    last = next((op for op in reversed(part.ops) if exponent(op) not in ends), part.ops[-1])
+    return [*[op for op in part.ops if op is not last], last]
+
+
+def places(key, value="it"):
+    """Returns for each immediate its kind, and its value in the nested pairs."""
+    if len(key) < 2:
+        return [(KINDS[it], value) for it in key]
+    return [(KINDS[key[0]], f"{value}.0"), *places(key[1:], f"{value}.1")]
+
+
+def type_of(key):
+    """Returns the type of immediates: a nested pair for several."""
+    if not key:
+        return "()"
+    first = KINDS[key[0]].ty
+    return first if len(key) == 1 else f"({first}, {type_of(key[1:])})"
+
+
+def values_of(key, value="it"):
+    return [it.format(at) for kind, at in places(key, value) for it in kind.values]
+
+
+def listed(key, value, align):
+    """Returns the immediates with their values, in antt."""
+    return " ∷ ".join([kind.term.format(at, align=align) for kind, at in places(key, value)] + ["[]"])
+
+
+def kinds(key, bound):
+    """Returns the kinds of the immediates, in antt."""
+    out = [f"is_memory_argument kind.{it.split()[1]} {bound}" if it.startswith("memory ") else KIND_NAMES[it] for it in key]
+    return " ∷ ".join(out + ["[]"])
+
+
+def made_type(group):
+    return "Operator<'static>" if group.enum == "Own" else type_name(group)
+
+
+# ---- makers and visits
+
+
+def closed(results):
+    """Returns a match on the code, or the only result. The last code has the arm `_`: an unreachable arm would be compiled like the others."""
+    if len(results) == 1:
+        return [f"        {results[0][1]}"]
+    return ["        match code {", *[f"            {code} => {it}," for code, it in results[:-1]], f"            _ => {results[-1][1]},", "        }"]
+
+
+def operator(part, op):
+    fields = ", ".join(f"{name}: {value}" for (name, _), value in zip(op.fields, values_of(part.key)))
+    made = f"{type_name(part.group)}::{op.name}"
+    return f"{made} {{ {fields} }}" if fields else made
+
+
+def method(part, name, params, result, results):
+    code = "_code" if part.is_one else "code"
+    it = "it" if part.key else "_it"
+    return ["    #[inline(always)]", f"    fn {name}({params}{code}: u32, {it}: {part.type}) -> {result} {{", *closed(results), "    }", "}", ""]
+
+
+def makes(part):
+    results = [(op.hex(), operator(part, op)) for op in part.ops]
+    return [f"impl Makes<{part.mark}, {part.type}> for Maker {{", *method(part, "make", "", made_type(part.group), results)]
+
+
+def visits(part):
+    values = ", ".join(values_of(part.key))
+    results = [(op.hex(), f"v.{op.visit}({values})") for op in part.ops]
+    return [f"impl<V: {part.group.trait}> At<V, {part.mark}, {part.type}> for Own {{", *method(part, "at", "v: &mut V, ", "V::Output", results)]
+
+
+def only(part):
+    return f"Only<{part.ops[0].hex()}, {part.type}>"
+
+
+def only_visit(part):
+    it = "it" if part.key else "_it"
+    return [
+        f"impl<V: {part.group.trait}> At<V, {part.mark}, {only(part)}> for Own {{",
+        "    #[inline(always)]",
+        f"    fn at(v: &mut V, _code: u32, {it}: {only(part)}) -> V::Output {{",
+        f"        v.{part.ops[0].visit}({', '.join(values_of(part.key, 'it.0'))})",
+        "    }",
+        "}",
+        "",
+    ]
+
+
+def alignment(part):
+    return [
+        "/// Returns the natural alignment as an exponent.",
+        "#[inline(always)]",
+        f"fn align_of_{part.title}(code: u32) -> u8",
+        f"    requires {{ HasKindsAt {part.place} code (λ bound. {kinds(part.key, 'bound').replace('kind.', 'MemArgKind.')}) }}",
+        f"    ensures {{ result ≡ align_at {part.place} code }}",
+        "{",
+        *[line.removeprefix("    ") for line in closed([(op.hex(), exponent(op)) for op in by_alignment(part)])],
+        "}",
+        "",
+    ]
+
+
+# ---- arms
+
+
+def call(part, code, ty=None):
+    bound = f"align_of_{part.title}({code})" if part.has_align else "0"
+    return f"arm::<V, {part.mark}, {ty or part.type}, R>(v, reader, start, {code}, {bound})"
+
+
+def arms(those, code="code", takes=lambda code: True):
+    """Returns an arm for each run of the codes that `takes` accepts."""
+    out = []
+    for part in those:
+        for run in runs([op.code for op in part.free if takes(op.code)]):
+            pattern = run_pattern(run)
+            out.append(f"{pattern} => {call(part, pattern if run[0] == run[1] else code)},")
+    return out
+
+
+def alias(group, types, lists=()):
+    """Returns the trait of the routes through a group, and the two routes."""
+    mark = MARKS[group.module]
+    every = " + ".join([f"At<V, {mark}, {ty}>" for ty in types] + [f"AtList<V, {ty}>" for ty in lists])
+    return [
+        *doc(f"A route for {group.short}."),
+        f"pub trait At{mark}<V: Visitor>: {every} {{}}",
+        "",
+        f"impl<V: {group.trait}> At{mark}<V> for Own {{}}",
+        "",
+        f"impl<V: Visitor> At{mark}<V> for ByAny {{}}",
+        "",
+    ]
+
+
+PARAMS = "v: &mut V, reader: &mut BinaryReader<'_>, start: usize, code: u32"
+OWN_PARAMS = "alloc: Global, v: &mut V, reader: &mut BinaryReader<'_>, start: usize, frame: FrameKind, code: u8"
+
+
+def prefixed_head(group, name, params, text):
+    half = {"simd_low": ["    requires half { code < 0x80 }"], "simd_high": ["    requires half { 0x80 ≤ code }"]}.get(group.module, [])
+    prefix = {"gc": "0xfb", "misc": "0xfc", "atomic": "0xfe"}.get(group.module, "0xfd")
+    return [
+        *doc(text),
+        "#[inline(always)]",
+        f"pub fn {name}<{params}>({PARAMS}) -> Result<V::Output>",
+        f"    requires after {{ IsAfterCode start (Some {prefix}) code reader.old }}",
+        *half,
+        "    ensures { (frame : FrameKind) → DecodesAt V.visits frame start result reader.old reader.new v.old v.new }",
+        "{",
+    ]
+
+
+def prefixed_body(those, group):
+    unknown = f"Err(unknown_subopcode(reader, start, 0x{those[0].prefix}, code))"
+    if group.enum != "Simd":
+        return ["    match code {", *arms(those), f"        _ => {unknown},", "    }", "}", ""]
+    (bare,) = [part for part in those if part.has_table]
+    out = ["    if has_no_immediates(code) {", f"        return {call(bare, 'code')};", "    }"]
+    others = arms([part for part in those if not part.has_table])
+    if not others:
+        return [*out, f"    {unknown}", "}", ""]
+    return [*out, "    match code {", *others[:-1], f"        _ => {others[-1].partition(' => ')[2]}", "    }", "}", ""]
+
+
+def prefixed(those, group):
+    """Returns the functions of a group with a prefix byte: by the visitor's visits, and by any route."""
+    name = group.module
+    visited = f"Reads the immediates of {singular(group.short)} and"
+    return [
+        *prefixed_head(group, name, f"V: {group.trait}", f"{visited} visits it."),
+        f"    {name}_by::<V, Own>(v, reader, start, code)",
+        "}",
+        "",
+        *prefixed_head(group, f"{name}_by", f"V: Visitor, R: At{MARKS[name]}<V>", f"{visited} passes them to `R`."),
+        *prefixed_body(those, group),
+        *alias(group, [part.type for part in those]),
+    ]
+
+
+def own_head(name, params, text):
+    return [
+        *doc(text),
+        "#[inline(always)]",
+        f"pub fn {name}<{params}>({OWN_PARAMS}) -> Result<V::Output>",
+        "    requires after { IsAfterCode start None code reader.old }",
+        "    requires apart { IsOneByteCode code }",
+        "    ensures { DecodesAt V.visits frame start result reader.old reader.new v.old v.new }",
+        "{",
+    ]
+
+
+def common_head(name, params, text):
+    return [
+        *doc(text),
+        "///",
+        "/// Returns `None` for other opcodes. Then nothing changes.",
+        "#[inline(always)]",
+        f"pub fn {name}<{params}>(v: &mut V, reader: &mut BinaryReader<'_>, start: usize, code: u8) -> Option<Result<V::Output>>",
+        "    requires { IsAfterCode start None code reader.old }",
+        "    ensures common { IfSome result (λ outcome. (frame : FrameKind) → DecodesAt V.visits frame start outcome reader.old reader.new v.old v.new) }",
+        "    ensures reader { IfNone result (reader.new ≡ reader.old) }",
+        "    ensures visitor { IfNone result (v.new ≡ v.old) }",
+        "{",
+    ]
+
+
+def one_byte(ops, those, group):
+    """Returns the functions of the operators with a one-byte opcode: for the common ones, and for all."""
+    singles = alone(ops, group)
+    common = [part for part in those if any(op.code in COMMON for op in part.free)]
+    every = alias(group, [*[part.type for part in those], *map(only, singles)], dict.fromkeys(it.ty for it in LISTS.values()))
+    listed_ops = [op for op in group.of(ops) if op.name in LISTS and op.name != "TypedSelectMulti"]
+    guarded = [op for op in group.of(ops) if op.name in GUARDS]
+    read = f"Reads the immediates of {singular(group.short)} and"
+    return [
+        *own_head("one_byte", f"V: {group.trait}", f"{read} visits it. Common operators are inlined."),
+        "    one_byte_by::<V, Own>(alloc, v, reader, start, frame, code)", "}", "",
+        *own_head("one_byte_by", "V: Visitor, R: AtOneByte<V>", f"{read} passes them to `R`. Common operators are inlined."),
+        f"    match {COMMON_CALL}_by::<V, R>(v, reader, start, code) {{",
+        "        Some(outcome) => outcome,",
+        f"        None => {OTHERS_CALL}_by::<V, R>(alloc, v, reader, start, frame, code),",
+        "    }", "}", "",
+        *common_head(COMMON_CALL, f"V: {group.trait}", f"{read} visits it, if its opcode is a common one."),
+        f"    {COMMON_CALL}_by::<V, Own>(v, reader, start, code)", "}", "",
+        *common_head(f"{COMMON_CALL}_by", "V: Visitor, R: AtOneByte<V>", f"{read} passes them to `R`, if its opcode is a common one."),
+        "    match code {",
+        *[f"        {pattern} => Some({it.rstrip(',')})," for pattern, _, it in (arm.partition(" => ") for arm in arms(common, "code as u32", lambda code: code in COMMON))],
+        *[f"        {part.ops[0].hex()} => Some({call(part, part.ops[0].hex(), only(part))})," for part in singles],
+        "        _ => None,", "    }", "}", "",
+        *own_head(f"{EVERY_CALL}_by", "V: Visitor, R: AtOneByte<V>", f"{read} passes them to `R`. Every operator has an arm here."),
+        "    match code {",
+        *arms(those, "code as u32"),
+        *[f"        {op.hex()} => guarded_arm::<V, {type_of(form_key(op))}, R>(v, reader, start, frame, {op.hex()}, Guard::{op.name})," for op in guarded],
+        *[f"        {op.hex()} => list_arm::<V, {LISTS[op.name].ty}, R>(alloc, v, reader, start, {op.hex()})," for op in listed_ops],
+        "        _ => Err(unknown_opcode(reader, start, code)),", "    }", "}", "",
+        *every,
+    ]
+
+
+def group_text(ops, group):
+    those = parts(ops, group)
+    out = one_byte(ops, those, group) if group.enum == "Own" else prefixed(those, group)
+    for part in those:
+        out += alignment(part) if part.has_align else []
+        out += [*makes(part), *visits(part)]
+    for part in alone(ops, group):
+        out += only_visit(part)
+    return "\n".join(out)
