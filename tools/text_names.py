@@ -15,6 +15,7 @@ from pathlib import Path
 
 sys.path.insert(0, str(Path(__file__).resolve().parent / "generate"))
 
+from immediates import KINDS
 from table import TOP, table
 
 BY_HAND = TOP / "tools" / "original" / "text_names.tsv"
@@ -23,15 +24,10 @@ OLDER = {
     "i16x8.dot_i8x16_i7x16_s": "i16x8.relaxed_dot_i8x16_i7x16_s",
     "i32x4.dot_i8x16_i7x16_add_s": "i32x4.relaxed_dot_i8x16_i7x16_add_s",
 }
-# The least encoding of an immediate of each kind.
-LEAST = {
-    "float_32": "00000000", "float_64": "0000000000000000", "vector": "00" * 16, "lane_list": "00" * 16,
-    "heap_type": "70", "cast": "00007070", "block_type": "40", "branch_table": "0000", "one_type": "017f",
-    "types": "027f7f", "try_table": "4000",
-}
-OPENERS = ("Block", "Loop", "If", "Try", "TryTable")
-# Operators that occur only inside a construct, and what opens it.
-INSIDE = {"Else": "0440", "Catch": "0640", "CatchAll": "0640", "Delegate": "0640", "Rethrow": "064019"}
+# What opens the construct around an operator, by its role.
+BEFORE = {"turns_else": "0440", "turns_catch": "0640", "turns_catch_all": "0640", "delegates": "0640"}
+# The same for operators whose role does not need it, but wabt does.
+INSIDE = {"Rethrow": "064019"}
 
 
 def leb128(number):
@@ -46,10 +42,7 @@ def encoding(op):
     out = bytes.fromhex(op.prefix) + (leb128(op.code) if op.prefix else bytes([op.code]))
     for immediate in op.immediates:
         word, *more = immediate.split()
-        if word == "memory":
-            out += bytes([int(more[1]), 0])
-        else:
-            out += bytes.fromhex(LEAST.get(word, "00"))
+        out += bytes.fromhex(KINDS[word].least.format(**dict(zip(("sort", "align"), more))))
     return out
 
 
@@ -58,9 +51,9 @@ def section(number, contents):
 
 
 def module(op):
-    before = bytes.fromhex(INSIDE.get(op.name, ""))
-    closed = op.name in ("Delegate", "End")
-    ends = b"\x0b" * (((op.name in OPENERS or bool(before)) and not closed) + (op.name != "End"))
+    before = bytes.fromhex(BEFORE.get(op.role) or INSIDE.get(op.name, ""))
+    is_open = (op.role.startswith("opens") or bool(before)) and op.role != "delegates"
+    ends = b"\x0b" * (is_open + (op.role != "ends"))
     body = b"\x00" + before + encoding(op) + ends
     parts = [
         (1, "01600000"), (3, "0100"), (4, "01700000"), (5, "01030101"), (13, "010000"),
@@ -98,7 +91,7 @@ def main():
     with tempfile.TemporaryDirectory() as folder:
         for op in table():
             name = wabt_name(op, Path(folder) / "one.wasm")
-            key = (op.prefix, op.code, "types" if op.name == "TypedSelectMulti" else "")
+            key = (op.prefix, op.code, "types" if "types" in op.kinds else "")
             other = written.pop(key, None)
             known += name is not None
             if name is not None and other is not None:

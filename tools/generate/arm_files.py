@@ -3,15 +3,13 @@
 import re
 
 from arms import (
-    ARMS, COMMON_CALL, EVERY_CALL, GUARDS, KINDS, LISTS, MARKS, alone, by_alignment, group_text, kinds, listed, only, parts, places, type_of,
+    COMMON_CALL, EVERY_CALL, by_alignment, group_text, has_list_arm, kinds, listed, parts, places,
 )
-from entries import KIND_WORDS
-from parts import BOUNDS, COMMON, exponent, form_key, runs
-from table import HEAD, ROW_WORDS, imported
+from immediates import FORMS, KIND_WORDS, ROW_WORDS, kinds_term
+from parts import runs
+from table import ENUMS, HEAD, SIMD_HALF
 from visits import GROUPS, type_name
 
-# The widths of the numbers that a visit takes as bits.
-SIGNED = {"signed_32": "w32", "signed_64": "w64"}
 CRATE = "crates/wasm_decode_groups"
 
 
@@ -23,6 +21,11 @@ def named(names, text):
     return [it for it in names if re.search(rf"(?<![\w:]){re.escape(it)}(?!\w)", text)]
 
 
+def read_types(crate):
+    """Returns the types that are read and that this crate defines."""
+    return dict.fromkeys(kind.read for kind in FORMS.values() if kind.read_crate == crate)
+
+
 def source(ops, group):
     text = group_text(ops, group)
     is_own = group.enum == "Own"
@@ -30,10 +33,11 @@ def source(ops, group):
     prelude += ["None" if is_own else "Some", *named(["IfSome", "IfNone"], text)]
     words = named(ROW_WORDS + KIND_WORDS, "\n".join(line for line in text.split("\n") if "{ " in line))
     words = [it for it in words if it.startswith("is_")]
-    here = named(["At", "ByAny", "Maker", "Makes", "Own", "arm", *[it for it in MARKS.values() if it != "OneByte"]], text)
-    kind_types = named([kind.ty for kind in KINDS.values() if kind.ty.endswith(("MemArg", "FenceOrdering", "MemoryIndex", "TableIndex"))], text)
-    opcodes = [*kind_types, *named(["Guard", "Only", "unknown_opcode", "unknown_subopcode"], text)]
-    imm = named(["BlockType", "Cast", "Ieee32", "Ieee64", "MemArgKind", "Ordering", "ResumeTable", "Select", "TryTable", "V128"], text)
+    marks = [it.mark for it in GROUPS if it.has_arms and it.module != "one_byte"]
+    here = named(["At", "ByAny", "Maker", "Makes", "Own", "arm", *marks], text)
+    opcodes = named([*read_types("wasm_decode_opcodes"), "Guard", "Only", "unknown_opcode", "unknown_subopcode"], text)
+    imm = named(sorted([*read_types("wasm_imm"), "MemArgKind"]), text)
+    below = named(sorted([*read_types("wasm_below"), "BinaryReader", "Result"]), text)
     specs = named(["HasKindsAt"], text)
     lines = [
         f"//! Decoding of {group.short.removeprefix('the ')}. {HEAD}",
@@ -48,7 +52,7 @@ def source(ops, group):
         f"use crate::arm::{{{', '.join(sorted(here))}}};",
         *(["use crate::one_byte_arms::{AtList, OneByte, guarded_arm, list_arm};", "use crate::out_of_line::other_one_byte_by;", "use std::alloc::Global;", "use wasm_grammar::FrameKind;"] if is_own else []),
         *(["use crate::vectors_without_immediates::has_no_immediates;"] if "has_no_immediates(" in text else []),
-        f"use wasm_below::{{{', '.join(named(['BinaryReader', 'HeapType', 'Result'], text))}}};",
+        f"use wasm_below::{{{', '.join(below)}}};",
         *([f"use wasm_imm::{{{', '.join(imm)}}};"] if imm else []),
         f"use wasm_instr::{{{type_name(group)}}};",
         *([f"use wasm_decode_opcodes::{{{', '.join(sorted(opcodes))}}};"] if opcodes else []),
@@ -132,26 +136,25 @@ def unknown_lemma(ops, group):
 
 def list_lemmas(ops):
     out, found = [], {}
-    for op in ops:
-        if op.name in LISTS and not op.prefix:
-            found.setdefault(LISTS[op.name], set()).add(op.code)
-    for kind, codes in found.items():
-        name = f"are_{kind.lemma}"
-        out += test(name, kind.kinds)
+    for op in filter(has_list_arm, ops):
+        found.setdefault((op.combination.list_arm, kinds_term(op.immediates)), set()).add(op.code)
+    for (arm, those), codes in found.items():
+        name = f"are_{arm}"
+        out += test(name, those)
         out += [
-            f"pub {kind.lemma}_codes : (code : ℕ) → entry_kinds (entry_at None code) ≡ Some ({kind.kinds}) → InRanges code ({ranges(codes)})",
-            f"{kind.lemma}_codes code h = codes_in (λ e. {name} (entry_kinds e)) ({ranges(codes)}) opcode_entries code refl refl (ap {name} h)",
+            f"pub {arm}_codes : (code : ℕ) → entry_kinds (entry_at None code) ≡ Some ({those}) → InRanges code ({ranges(codes)})",
+            f"{arm}_codes code h = codes_in (λ e. {name} (entry_kinds e)) ({ranges(codes)}) opcode_entries code refl refl (ap {name} h)",
             "",
         ]
     return out
 
 
 def simd_lemmas(ops):
-    """Returns the lemmas on the codes of SIMD operators with immediates, and on those below 0x80, which all have an operator."""
+    """Returns the lemmas on the codes of SIMD operators with immediates, and on the codes below `SIMD_HALF`, which all have an operator."""
     those = [part for group in GROUPS if group.enum == "Simd" for part in parts(ops, group)]
     others = ranges([op.code for part in those if not part.has_table for op in part.ops])
     each = "tt"
-    for _ in range(0x80):
+    for _ in range(SIMD_HALF):
         each = f"(refl, {each})"
     return [
         "abbrev pub simd_other_codes : List (ℕ × ℕ)",
@@ -160,14 +163,14 @@ def simd_lemmas(ops):
         "pub simd_others : (code : ℕ) → is_other (entry_at (Some 0xfd) code) ≡ true → InRanges code simd_other_codes",
         "simd_others code other = codes_in is_other simd_other_codes simd_entries code refl refl other",
         "",
-        "pub simd_low_known : (code : ℕ) → code < 0x80 → is_known (entry_at (Some 0xfd) code) ≡ true",
-        f"simd_low_known code low = in_run (λ c. is_known (entry_at (Some 0xfd) c) ≡ true) 0x80 0 code {each} (omega arith) (omega (arith, low))",
+        f"pub simd_low_known : (code : ℕ) → code < 0x{SIMD_HALF:02x} → is_known (entry_at (Some 0xfd) code) ≡ true",
+        f"simd_low_known code low = in_run (λ c. is_known (entry_at (Some 0xfd) c) ≡ true) 0x{SIMD_HALF:02x} 0 code {each} (omega arith) (omega (arith, low))",
         "",
     ]
 
 
 def codes_file(ops):
-    groups = [group for group in GROUPS if group.module in ARMS]
+    groups = [group for group in GROUPS if group.has_arms]
     body = []
     for key in dict.fromkeys(part.key for group in groups for part in parts(ops, group)):
         body += test(test_name(key), kinds(key, "align"))
@@ -202,7 +205,7 @@ def codes_file(ops):
 
 
 def made(part, op, value):
-    operands = "".join(f" ({it})" for it in [each.format(at) for kind, at in places(part.key, value) for each in kind.values])
+    operands = "".join(f" ({it})" for it in [each.format(at) for kind, at in places(part.key, value) for each in kind.visited])
     return f"operator.{op.name}{operands}" if part.is_own else f"operator.{op.group} ({op.group.lower()}.{op.name}{operands})"
 
 
@@ -213,7 +216,7 @@ def last_code(part, given):
     code = "c.args._code" if part.is_one else "c.args.code"
     bound, also = [], ""
     if part.is_bounded:
-        condition = BOUNDS[part.group.module].replace("code", code)
+        condition = part.group.condition.replace("code", code)
         bound, also = [f"    let bound : {condition} = c.requires.group in"], ", bound"
     omega = "" if part.is_own else also
     return [
@@ -228,7 +231,7 @@ def last_code(part, given):
 def proof(part, path, lines):
     text = "\n".join(lines)
     enum = part.ops[0].group
-    folder = "simd" if enum == "Simd" else "ops"
+    folder = next((it.part for it in ENUMS if it.group == enum), "")
     common = named(["[]", "None", "Some", "refl", "subst", "ap", "arith"], text)
     common += [f"◌{it}◌" for it in ("≡", "∷", "≤", "<") if it in text]
     words = named(ROW_WORDS, text.replace("c.", "@."))
@@ -253,11 +256,17 @@ def proof(part, path, lines):
     ])
 
 
+def is_signed(part):
+    """Returns whether the visits of a part take a number's bits."""
+    return bool(part.key) and FORMS[part.key[0]].width != ""
+
+
 def of_bits(part, value):
     """Returns the operand of an operator whose visit takes a number's bits, the proof that it is the number, and the line before."""
-    width = SIGNED[part.key[0]]
+    kind = FORMS[part.key[0]]
+    width = kind.width
     number = f"to_z {width} (of_z {width} {value})"
-    return number, f"ap (λ z. {part.key[0]} z ∷ []) (to_z-of_z {width} {value} fits)", f"    let fits : SFits {width} {value} = search rules in"
+    return number, f"ap (λ z. {kind.immediate} z ∷ []) (to_z-of_z {width} {value} fits)", f"    let fits : SFits {width} {value} = search rules in"
 
 
 def visits_proof(part, path):
@@ -265,7 +274,7 @@ def visits_proof(part, path):
     term = listed(part.key, "c.args.it", f"(align_at {part.place} k)")
     relation = f"VisitsRow g.V.Visitor.visits {part.place} k ({term}) c.args.v.now {visit}.result {visit}.new.self"
     lines, op, same = last_code(part, "g c"), made(part, part.ops[-1], "c.args.it"), "refl"
-    if part.key and part.key[0] in SIGNED:
+    if is_signed(part):
         number, same, fits = of_bits(part, "c.args.it")
         lines, op = [*lines, fits], op.replace("c.args.it", number)
     return proof(part, path, [*lines, f"    subst (λ k. {relation}) same ({op}, refl, refl, {same}, {visit}.ensures)"])
@@ -274,7 +283,7 @@ def visits_proof(part, path):
 def makes_proof(part, path):
     term = listed(part.key, "c.args.it", f"(align_at {part.place} k)")
     op, same, lines = made(part, part.ops[-1], "c.args.it"), "refl", last_code(part, "c")
-    if part.key and part.key[0] in SIGNED:
+    if is_signed(part):
         number, same, fits = of_bits(part, "c.args.it")
         lines, op = [*lines, fits], op.replace("c.args.it", number)
     return proof(part, path, [*lines, f"    subst (λ k. IsRow {part.place} k ({term}) ({op})) same (refl, refl, {same})"])
@@ -294,7 +303,7 @@ def alignment_proof(part, path):
         f"{goal} c =",
         f"    let h = {part.lemma}_codes c.args.code c.requires in",
         f"    let same : {last.hex()} ≡ c.args.code = first_of (omega (arith, h), grind (arith, h)) in",
-        f"    subst (λ k. {exponent(last)} ≡ align_at {part.place} k) same refl",
+        f"    subst (λ k. {last.align} ≡ align_at {part.place} k) same refl",
         "",
     ])
 
@@ -309,7 +318,7 @@ def run_proofs(those, takes, bare):
     out, names = [], []
     aligned = set()
     for part in those:
-        for run in runs([op.code for op in part.free if takes(op.code)]):
+        for run in runs([op.code for op in part.free if takes(op)]):
             if run[0] == run[1]:
                 continue
             (whole,) = [it for it in runs([op.code for op in part.free]) if it[0] <= run[0] and run[1] <= it[1]]
@@ -347,13 +356,13 @@ def group_proof(path, body, names):
     ])
 
 
-def has_single(those, takes=lambda code: True):
-    return any(run[0] == run[1] for part in those for run in runs([op.code for op in part.free if takes(op.code)]))
+def has_single(those):
+    return any(run[0] == run[1] for part in those for run in runs([op.code for op in part.free]))
 
 
 def prefixed_proof(ops, group):
     those = [part for part in parts(ops, group) if not part.has_table]
-    body, names = run_proofs(those, lambda code: True, has_single(those) or group.enum == "Simd")
+    body, names = run_proofs(those, lambda op: True, has_single(those) or group.enum == "Simd")
     path = f"{group.module}_operators.{group.module}_by"
     goal = "unknown_subopcode-requires-clause-unknown"
     if group.enum != "Simd":
@@ -382,9 +391,9 @@ def prefixed_proof(ops, group):
 
 def one_byte_proofs(ops, group):
     those = parts(ops, group)
-    common = [part for part in those if any(op.code in COMMON for op in part.free)]
-    few, few_names = run_proofs(common, lambda code: code in COMMON, True)
-    body, names = run_proofs(those, lambda code: True, True)
+    common = [part for part in those if any(op.is_common for op in part.free)]
+    few, few_names = run_proofs(common, lambda op: op.is_common, True)
+    body, names = run_proofs(those, lambda op: True, True)
     goal = "unknown_opcode-requires-clause-unknown"
     apart = "c.requires.apart"
     body += [f"pub {goal} : goal.{goal}", f"{goal} g c = one_byte_unknown c.args.code {apart}.apart (λ h. grind (arith, h, {apart}.table, {apart}.numeric))", ""]
@@ -401,12 +410,12 @@ def folder_of(key):
         return "Unit"
     if len(key) > 1:
         return "Tuple2" + folder_of(key[:1]) + folder_of(key[1:])
-    ty = KINDS[key[0]].ty
+    ty = FORMS[key[0]].read
     return {"[u8; 16]": "ArrayU816"}.get(ty, ty[0].upper() + ty[1:])
 
 
 def proofs(ops, group):
-    module, mark = f"{group.module}_operators", MARKS[group.module]
+    module, mark = f"{group.module}_operators", group.mark
     out = one_byte_proofs(ops, group) if group.enum == "Own" else {f"{module}.{group.module}_by": prefixed_proof(ops, group)}
     for part in parts(ops, group):
         at = f"{module}.OwnAt{mark}{folder_of(part.key)}.at"
@@ -422,7 +431,7 @@ def proofs(ops, group):
 def arm_files(ops):
     out = {f"{CRATE}/proofs/Codes.antt": codes_file(ops)}
     for group in GROUPS:
-        if group.module in ARMS:
+        if group.has_arms:
             out[f"{CRATE}/src/{group.module}_operators.rt"] = source(ops, group)
             out |= {f"{CRATE}/proofs/{path.replace('.', '/')}/Answers.antt": text for path, text in proofs(ops, group).items()}
     return out

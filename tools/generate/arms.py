@@ -1,77 +1,26 @@
 """Writes the decoders of the groups of visits: an arm for each run of codes, which names the type of their immediates."""
 
-from entries import GUARDS, KIND_NAMES
-from parts import ALONE, BOUNDS, COMMON, exponent, form_key, run_pattern, runs, title
+from immediates import FORMS, kinds_term
+from parts import run_pattern, runs, title
 from table import doc, singular
 from visits import type_name
 
-# The groups whose codes have arms: all but the numeric operators, which have no immediates.
-ARMS = ("one_byte", "gc", "misc", "atomic", "simd_low", "simd_high")
-# The type for each group.
-MARKS = {"one_byte": "OneByte", "gc": "Gc", "misc": "Misc", "atomic": "Atomic", "simd_low": "SimdLow", "simd_high": "SimdHigh"}
 # The common operators with a one-byte opcode are inlined.
 COMMON_CALL = "common_one_byte"
 OTHERS_CALL = "other_one_byte"
 EVERY_CALL = "any_one_byte"
 
 
-class Kind:
-    """The type that is read, the immediate in clauses, and the values that a visit takes."""
-
-    def __init__(self, ty, term, values=("{0}",)):
-        self.ty = ty
-        self.term = term
-        self.values = values
-
-
-KINDS = {
-    "unsigned": Kind("u32", "unsigned_32 {0}"),
-    "signed_32": Kind("i32", "signed_32 {0}"),
-    "signed_64": Kind("i64", "signed_64 {0}"),
-    "float_32": Kind("Ieee32", "float_32 {0}"),
-    "float_64": Kind("Ieee64", "float_64 {0}"),
-    "vector": Kind("V128", "vector {0}"),
-    "lane_index": Kind("u8", "one_lane {0}"),
-    "lane_list": Kind("[u8; 16]", "sixteen_lanes {0}"),
-    "memory_index": Kind("MemoryIndex", "memory_index {0}.0", ("{0}.0",)),
-    "table_index": Kind("TableIndex", "table_index_32 {0}.0", ("{0}.0",)),
-    "ordered": Kind("Ordering", "order {0}"),
-    "fence": Kind("FenceOrdering", "fence_order {0}.0", ("{0}.0",)),
-    "heap_type": Kind("HeapType", "heap_type {0}"),
-    "cast": Kind("Cast", "cast {0}", ("{0}.relative_depth", "{0}.from", "{0}.to")),
-    "block_type": Kind("BlockType", "block_type {0}"),
-}
-for sort in ("Plain", "Op", "Rmw"):
-    KINDS[f"memory {sort}"] = Kind(f"{sort}MemArg", f"memory_argument kind.{sort} {{align}} {{0}}.0", ("{0}.0",))
-
-
-class ListKind:
-    """The type that is read, and the names of lemmas and kinds in proofs."""
-
-    def __init__(self, ty, lemma, kinds):
-        self.ty = ty
-        self.lemma = lemma
-        self.kinds = kinds
-
-
-SELECT = ListKind("Select", "select", "is_select_types ∷ []")
-TRIES = ListKind("TryTable", "try_table", "is_try_clauses ∷ []")
-RESUME = ListKind("(u32, ResumeTable)", "resume", "is_unsigned_32 ∷ is_resume_clauses ∷ []")
-THROW = ListKind("(u32, (u32, ResumeTable))", "resume_throw", "is_unsigned_32 ∷ is_unsigned_32 ∷ is_resume_clauses ∷ []")
-# The operators whose immediates may own a list. Two share the first opcode.
-LISTS = {"TypedSelect": SELECT, "TypedSelectMulti": SELECT, "TryTable": TRIES, "Resume": RESUME, "ResumeThrow": THROW, "ResumeThrowRef": RESUME}
-
-
-def is_typed(op):
-    """Returns whether the immediates own no list and borrow nothing."""
-    return all(it in KINDS for it in form_key(op))
+def has_list_arm(op):
+    """Returns whether an arm reads immediates that may own a list."""
+    return op.group == "Own" and op.combination is not None and op.combination.list_arm != ""
 
 
 def unread(ops):
     """Returns an error for each operator that the decoder would omit."""
-    wanting = [op for op in ops if not is_typed(op) and op.name not in LISTS and op.name != "BrTable"]
+    wanting = [op for op in ops if op.may_hold and not op.borrows and not has_list_arm(op)]
     return [
-        f"{op.place}: wasm_decode_opcodes has no type for the immediates {', '.join(op.immediates)}: add it to src/kinds.rt and to KINDS in tools/generate/arms.py"
+        f"{op.place}: wasm_decode_groups has no arm for the immediates {', '.join(op.immediates)}: write it in src/one_byte_arms.rt, and name it in COMBINATIONS of tools/generate/immediates.py"
         for op in wanting
     ]
 
@@ -83,12 +32,12 @@ class Part:
         self.group = group
         self.key = key
         self.ops = sorted(ops, key=lambda op: op.code)
-        self.free = [op for op in self.ops if op.prefix or op.name not in GUARDS]
+        self.free = [op for op in self.ops if not op.has_guard]
         self.title = title(key)
         self.is_one = len(self.ops) == 1
         self.prefix = self.ops[0].prefix
         # the operators of all groups with the same kinds of immediates
-        self.alike = [op for op in every if op.prefix == self.prefix and form_key(op) == key and is_typed(op)]
+        self.alike = [op for op in every if op.prefix == self.prefix and op.forms == key]
 
     @property
     def is_own(self):
@@ -96,7 +45,7 @@ class Part:
 
     @property
     def mark(self):
-        return MARKS[self.group.module]
+        return self.group.mark
 
     @property
     def type(self):
@@ -110,7 +59,7 @@ class Part:
     @property
     def is_bounded(self):
         """Returns whether operators of other groups have the same kinds of immediates."""
-        return not self.key and self.group.module in BOUNDS
+        return not self.key and self.group.condition != ""
 
     @property
     def has_align(self):
@@ -129,14 +78,14 @@ class Part:
 def parts(ops, group):
     found = {}
     for op in group.of(ops):
-        if is_typed(op):
-            found.setdefault(form_key(op), []).append(op)
+        if not op.may_hold:
+            found.setdefault(op.forms, []).append(op)
     return [Part(group, key, those, ops) for key, those in found.items()]
 
 
 def alone(ops, group):
     """Returns a part for each common operator with a separate arm."""
-    return [Part(group, form_key(op), [op], ops) for op in group.of(ops) if group.enum == "Own" and op.code in ALONE]
+    return [Part(group, op.forms, [op], ops) for op in group.of(ops) if op.is_alone]
 
 
 def by_alignment(part):
@@ -145,39 +94,38 @@ def by_alignment(part):
     Otherwise the arm `_` returns the same as the codes at an end of the range. The compiler then keeps a jump for
     these codes, and the first of them, `i32.load`, takes it.
     """
-    ends = {exponent(part.ops[0]), exponent(part.ops[-1])}
-    last = next((op for op in reversed(part.ops) if exponent(op) not in ends), part.ops[-1])
+    ends = {part.ops[0].align, part.ops[-1].align}
+    last = next((op for op in reversed(part.ops) if op.align not in ends), part.ops[-1])
     return [*[op for op in part.ops if op is not last], last]
 
 
 def places(key, value="it"):
     """Returns for each immediate its kind, and its value in the nested pairs."""
     if len(key) < 2:
-        return [(KINDS[it], value) for it in key]
-    return [(KINDS[key[0]], f"{value}.0"), *places(key[1:], f"{value}.1")]
+        return [(FORMS[it], value) for it in key]
+    return [(FORMS[key[0]], f"{value}.0"), *places(key[1:], f"{value}.1")]
 
 
 def type_of(key):
     """Returns the type of immediates: a nested pair for several."""
     if not key:
         return "()"
-    first = KINDS[key[0]].ty
+    first = FORMS[key[0]].read
     return first if len(key) == 1 else f"({first}, {type_of(key[1:])})"
 
 
 def values_of(key, value="it"):
-    return [it.format(at) for kind, at in places(key, value) for it in kind.values]
+    return [it.format(at) for kind, at in places(key, value) for it in kind.visited]
 
 
 def listed(key, value, align):
     """Returns the immediates with their values, in antt."""
-    return " ∷ ".join([kind.term.format(at, align=align) for kind, at in places(key, value)] + ["[]"])
+    return " ∷ ".join([kind.read_term(at, align) for kind, at in places(key, value)] + ["[]"])
 
 
 def kinds(key, bound):
     """Returns the kinds of the immediates, in antt."""
-    out = [f"is_memory_argument kind.{it.split()[1]} {bound}" if it.startswith("memory ") else KIND_NAMES[it] for it in key]
-    return " ∷ ".join(out + ["[]"])
+    return kinds_term(f"{it} {bound}" if FORMS[it].sort else it for it in key)
 
 
 def made_type(group):
@@ -242,7 +190,7 @@ def alignment(part):
         f"    requires {{ HasKindsAt {part.place} code (λ bound. {kinds(part.key, 'bound').replace('kind.', 'MemArgKind.')}) }}",
         f"    ensures {{ result ≡ align_at {part.place} code }}",
         "{",
-        *[line.removeprefix("    ") for line in closed([(op.hex(), exponent(op)) for op in by_alignment(part)])],
+        *[line.removeprefix("    ") for line in closed([(op.hex(), op.align) for op in by_alignment(part)])],
         "}",
         "",
     ]
@@ -256,11 +204,11 @@ def call(part, code, ty=None):
     return f"arm::<V, {part.mark}, {ty or part.type}, R>(v, reader, start, {code}, {bound})"
 
 
-def arms(those, code="code", takes=lambda code: True):
-    """Returns an arm for each run of the codes that `takes` accepts."""
+def arms(those, code="code", takes=lambda op: True):
+    """Returns an arm for each run of codes of the operators that `takes` accepts."""
     out = []
     for part in those:
-        for run in runs([op.code for op in part.free if takes(op.code)]):
+        for run in runs([op.code for op in part.free if takes(op)]):
             pattern = run_pattern(run)
             out.append(f"{pattern} => {call(part, pattern if run[0] == run[1] else code)},")
     return out
@@ -268,7 +216,7 @@ def arms(those, code="code", takes=lambda code: True):
 
 def alias(group, types, lists=()):
     """Returns the trait of the routes through a group, and the two routes."""
-    mark = MARKS[group.module]
+    mark = group.mark
     every = " + ".join([f"At<V, {mark}, {ty}>" for ty in types] + [f"AtList<V, {ty}>" for ty in lists])
     return [
         *doc(f"A route for {group.short}."),
@@ -286,13 +234,12 @@ OWN_PARAMS = "alloc: Global, v: &mut V, reader: &mut BinaryReader<'_>, start: us
 
 
 def prefixed_head(group, name, params, text):
-    half = {"simd_low": ["    requires half { code < 0x80 }"], "simd_high": ["    requires half { 0x80 ≤ code }"]}.get(group.module, [])
-    prefix = {"gc": "0xfb", "misc": "0xfc", "atomic": "0xfe"}.get(group.module, "0xfd")
+    half = [f"    requires half {{ {group.condition} }}"] if group.condition else []
     return [
         *doc(text),
         "#[inline(always)]",
         f"pub fn {name}<{params}>({PARAMS}) -> Result<V::Output>",
-        f"    requires after {{ IsAfterCode start (Some {prefix}) code reader.old }}",
+        f"    requires after {{ IsAfterCode start (Some 0x{group.prefix}) code reader.old }}",
         *half,
         "    ensures { (frame : FrameKind) → DecodesAt V.visits frame start result reader.old reader.new v.old v.new }",
         "{",
@@ -320,7 +267,7 @@ def prefixed(those, group):
         f"    {name}_by::<V, Own>(v, reader, start, code)",
         "}",
         "",
-        *prefixed_head(group, f"{name}_by", f"V: Visitor, R: At{MARKS[name]}<V>", f"{visited} passes them to `R`."),
+        *prefixed_head(group, f"{name}_by", f"V: Visitor, R: At{group.mark}<V>", f"{visited} passes them to `R`."),
         *prefixed_body(those, group),
         *alias(group, [part.type for part in those]),
     ]
@@ -356,10 +303,10 @@ def common_head(name, params, text):
 def one_byte(ops, those, group):
     """Returns the functions of the operators with a one-byte opcode: for the common ones, and for all."""
     singles = alone(ops, group)
-    common = [part for part in those if any(op.code in COMMON for op in part.free)]
-    every = alias(group, [*[part.type for part in those], *map(only, singles)], dict.fromkeys(it.ty for it in LISTS.values()))
-    listed_ops = [op for op in group.of(ops) if op.name in LISTS and op.name != "TypedSelectMulti"]
-    guarded = [op for op in group.of(ops) if op.name in GUARDS]
+    common = [part for part in those if any(op.is_common for op in part.free)]
+    with_lists = {op.code: type_of(op.forms) for op in group.of(ops) if has_list_arm(op)}
+    every = alias(group, [*[part.type for part in those], *map(only, singles)], dict.fromkeys(with_lists.values()))
+    guarded = [op for op in group.of(ops) if op.has_guard]
     read = f"Reads the immediates of {singular(group.short)} and"
     return [
         *own_head("one_byte", f"V: {group.trait}", f"{read} visits it. Common operators are inlined."),
@@ -373,14 +320,14 @@ def one_byte(ops, those, group):
         f"    {COMMON_CALL}_by::<V, Own>(v, reader, start, code)", "}", "",
         *common_head(f"{COMMON_CALL}_by", "V: Visitor, R: AtOneByte<V>", f"{read} passes them to `R`, if its opcode is a common one."),
         "    match code {",
-        *[f"        {pattern} => Some({it.rstrip(',')})," for pattern, _, it in (arm.partition(" => ") for arm in arms(common, "code as u32", lambda code: code in COMMON))],
+        *[f"        {pattern} => Some({it.rstrip(',')})," for pattern, _, it in (arm.partition(" => ") for arm in arms(common, "code as u32", lambda op: op.is_common))],
         *[f"        {part.ops[0].hex()} => Some({call(part, part.ops[0].hex(), only(part))})," for part in singles],
         "        _ => None,", "    }", "}", "",
         *own_head(f"{EVERY_CALL}_by", "V: Visitor, R: AtOneByte<V>", f"{read} passes them to `R`. Every operator has an arm here."),
         "    match code {",
         *arms(those, "code as u32"),
-        *[f"        {op.hex()} => guarded_arm::<V, {type_of(form_key(op))}, R>(v, reader, start, frame, {op.hex()}, Guard::{op.name})," for op in guarded],
-        *[f"        {op.hex()} => list_arm::<V, {LISTS[op.name].ty}, R>(alloc, v, reader, start, {op.hex()})," for op in listed_ops],
+        *[f"        {op.hex()} => guarded_arm::<V, {type_of(op.forms)}, R>(v, reader, start, frame, {op.hex()}, Guard::{op.name})," for op in guarded],
+        *[f"        0x{code:02x} => list_arm::<V, {ty}, R>(alloc, v, reader, start, 0x{code:02x})," for code, ty in with_lists.items()],
         "        _ => Err(unknown_opcode(reader, start, code)),", "    }", "}", "",
         *every,
     ]

@@ -1,62 +1,28 @@
 """Writes the lists of operators of the cargo crate (bindings/rust/src)."""
 
 from arities import REACHING
-from plain import kinds, number
-from table import HEAD, SHARED
-
-TYPES = {"SelectTypes": "Vec<ValType>"}
-# The types of fields in the macros, except Rust's and `$crate::NAME`.
-MACRO_TYPES = {"SelectTypes": "Vec<$crate::ValType>"}
-PRIMITIVE = {"u8", "u32", "i32", "i64", "[u8; 16]"}
-# The proposals of SIMD operators.
-SIMD = ("simd", "relaxed_simd")
-# The values of the fields, by the kinds of immediates: from the C struct `op` and the `bytes` from the operator on.
-VALUES = {
-    (): [],
-    ("unsigned",): ["op.first"],
-    ("memory_index",): ["op.first"],
-    ("unsigned", "unsigned"): ["op.first", "op.second"],
-    ("unsigned", "table_index"): ["op.first", "op.second"],
-    ("memory",): ["op.memory_argument()"],
-    ("memory", "lane_index"): ["op.memory_argument()", "op.lane"],
-    ("lane_index",): ["op.lane"],
-    ("signed_32",): ["op.wide as i32"],
-    ("signed_64",): ["op.wide as i64"],
-    ("float_32",): ["Ieee32(op.wide as u32)"],
-    ("float_64",): ["Ieee64(op.wide)"],
-    ("vector",): ["V128(op.bytes)"],
-    ("lane_list",): ["op.bytes"],
-    ("ordered", "unsigned"): ["op.order()", "op.first"],
-    ("ordered", "unsigned", "unsigned"): ["op.order()", "op.first", "op.second"],
-    ("fence",): ["op.order()"],
-    ("heap_type",): ["heap_type(op.kind, op.first)"],
-    ("cast",): ["op.first", "ref_type(op.kind, op.second)", "ref_type(op.other_kind, op.third)"],
-    ("block_type",): ["op.block_type()"],
-    ("branch_table",): ["BrTable::of(op, bytes, features)"],
-    ("one_type",): ["val_type(op.kind, op.first)"],
-    ("types",): ["lists::select_types(op, bytes, features)"],
-    ("try_table",): ["lists::try_table(op, bytes, features)"],
-    ("unsigned", "resume_table"): ["op.first", "lists::resume_table(bytes, features, op.second)"],
-    ("unsigned", "unsigned", "resume_table"): ["op.first", "op.second", "lists::resume_table(bytes, features, op.third)"],
-}
+from immediates import TYPES
+from plain import number
+from table import HEAD, shared
 
 
 def variant(op):
-    fields = ", ".join(f"{name}: {TYPES.get(ty, ty)}" for name, ty in op.fields)
+    fields = ", ".join(f"{name}: {TYPES[ty].cargo_type()}" for name, ty in op.fields)
     return f"    {op.name}{f' {{ {fields} }}' if fields else ''},"
 
 
-def arm(op):
-    """Returns the pattern of an opcode, with the shape if two operators share it."""
-    return f"0x{number(op):x}{' if op.shape == 19' if op.name == SHARED[0] else ''}"
+def arm(op, first):
+    """Returns the pattern of an opcode, with the shape for the first of two operators that share it."""
+    return f"0x{number(op):x}" + (f" if op.shape == {op.combination.number}" if op is first else "")
 
 
 def made(op):
-    fields = ", ".join(f"{name}: {value}" for (name, _), value in zip(op.fields, VALUES[kinds(op)]))
+    fields = ", ".join(f"{name}: {value}" for (name, _), value in zip(op.fields, op.combination.values))
     return f"Operator::{op.name}{f' {{ {fields} }}' if fields else ''}"
 
 
 def operator_source(ops):
+    first, _ = shared(ops)
     lines = [
         f"//! The operators. {HEAD}",
         "",
@@ -79,7 +45,7 @@ def operator_source(ops):
         "#[rustfmt::skip]",
         "pub(crate) fn operator_of<'a>(op: &PlainOperator, bytes: &'a [u8], features: u32) -> Operator<'a> {",
         "    match op.opcode {",
-        *[f"        {arm(op)} => {made(op)}," for op in ops],
+        *[f"        {arm(op, first)} => {made(op)}," for op in ops],
         "        opcode => panic!(\"the library has an operator that this crate has not: {opcode:#x}\"),",
         "    }",
         "}",
@@ -88,6 +54,7 @@ def operator_source(ops):
 
 
 def visit_source(ops):
+    first, _ = shared(ops)
     lines = [
         f"//! Calls of a visitor's methods. {HEAD}",
         "",
@@ -102,7 +69,7 @@ def visit_source(ops):
         "#[rustfmt::skip]",
         "pub(crate) fn visit_not_simd<'a, V: VisitOperator<'a>>(visitor: &mut V, op: &PlainOperator, bytes: &'a [u8], features: u32) -> V::Output {",
         "    match op.opcode {",
-        *[visit_arm(op) for op in ops if op.proposal not in SIMD],
+        *[visit_arm(op, first) for op in ops if op.group != "Simd"],
         "        opcode => panic!(\"the library has an operator that this crate has not: {opcode:#x}\"),",
         "    }",
         "}",
@@ -112,7 +79,7 @@ def visit_source(ops):
         "#[rustfmt::skip]",
         "pub(crate) fn visit_simd<'a, V: VisitSimdOperator<'a> + ?Sized>(visitor: &mut V, op: &PlainOperator) -> V::Output {",
         "    match op.opcode {",
-        *[visit_arm(op) for op in ops if op.proposal in SIMD],
+        *[visit_arm(op, first) for op in ops if op.group == "Simd"],
         "        opcode => panic!(\"the library has an operator that this crate has not: {opcode:#x}\"),",
         "    }",
         "}",
@@ -120,12 +87,8 @@ def visit_source(ops):
     return "\n".join(lines) + "\n"
 
 
-def visit_arm(op):
-    return f"        {arm(op)} => visitor.{op.visit}({', '.join(VALUES[kinds(op)])}),"
-
-
-def macro_type(ty):
-    return MACRO_TYPES.get(ty, ty if ty in PRIMITIVE else f"$crate::{ty}")
+def visit_arm(op, first):
+    return f"        {arm(op, first)} => visitor.{op.visit}({', '.join(op.combination.values)}),"
 
 
 def arity(op):
@@ -136,7 +99,7 @@ def arity(op):
 
 
 def entry(op):
-    fields = ", ".join(f"{name}: {macro_type(ty)}" for name, ty in op.fields)
+    fields = ", ".join(f"{name}: {TYPES[ty].cargo_type('$crate::')}" for name, ty in op.fields)
     return f"            @{op.proposal} {op.name}{f' {{ {fields} }}' if fields else ''} => {op.visit} {arity(op)}"
 
 
@@ -180,8 +143,8 @@ NAMES = """\
 
 
 def macros_source(ops):
-    simd = [op for op in ops if op.proposal in SIMD]
-    others = [op for op in ops if op.proposal not in SIMD]
+    simd = [op for op in ops if op.group == "Simd"]
+    others = [op for op in ops if op.group != "Simd"]
     every = ["/// Calls a macro with the list of all operators.", "///", *FORM, "///", *NAMES]
     plain = ["/// Calls a macro with the list of the operators that are not SIMD operators, as `for_each_operator!` does."]
     vector = ["/// Calls a macro with the list of the SIMD operators, as `for_each_operator!` does."]
@@ -196,6 +159,6 @@ def macros_source(ops):
 
 def cargo_files(ops):
     """Returns the files, over the operators whose immediates have values here."""
-    ops = [op for op in ops if kinds(op) in VALUES]
+    ops = [op for op in ops if op.combination]
     sources = {"operator": operator_source, "visit": visit_source, "macros": macros_source}
     return {f"bindings/rust/src/{name}.rs": source(ops) for name, source in sources.items()}

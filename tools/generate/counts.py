@@ -2,7 +2,7 @@
 
 import re
 
-from table import TOP
+from table import SIMD_HALF, TOP
 
 COUNTED = re.compile(r"\b(\d+) (?:(SIMD|one-byte|numeric) )?(operators|visits|proposals)\b")
 
@@ -22,8 +22,9 @@ def counts(ops):
         "": {len(ops), len(ops) - each["Simd"], *one_byte, *each.values()},
     }
     # (the branch table is in no group, and SIMD operators are in two)
-    low = sum(op.code < 0x80 for op in groups["Simd"])
-    without_table = {len(ops) - 1, len(ops) - 1 - each["Simd"], each["Own"] - 1}
+    low = sum(op.code < SIMD_HALF for op in groups["Simd"])
+    tables = sum(op.borrows for op in ops)
+    without_table = {len(ops) - tables, len(ops) - tables - each["Simd"], each["Own"] - tables}
     found = {(word, what): given for word, given in operators.items() for what in ("operators", "visits")}
     found["", "visits"] = operators[""] | without_table | {low, each["Simd"] - low}
     found["", "proposals"] = {len({op.proposal for op in ops})}

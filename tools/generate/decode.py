@@ -1,23 +1,23 @@
 """Writes the decoders that have no arms: of the numeric operators, and of the SIMD operators without immediates."""
 
-from arms import MARKS, closed, parts
-from table import HEAD
+from arms import closed, parts
+from table import HEAD, NUMERIC, SIMD_HALF
 from visits import GROUPS
 
 
 def operators_without_immediates(part):
     """Returns the function that makes a SIMD operator without immediates."""
-    low = part.group.module == "simd_low"
+    half = f"{'below' if part.group.module == 'simd_low' else 'at least'} 0x{SIMD_HALF:02x}"
     return [
         "",
-        f"/// Returns the SIMD operator without immediates that has this subopcode, which is {'below 0x80' if low else 'at least 0x80'}.",
+        f"/// Returns the SIMD operator without immediates that has this subopcode, which is {half}.",
         "#[inline(always)]",
         f"pub fn {part.group.module}_without_immediates(code: u32) -> SimdOperator",
         "    requires without { entry_at (Some 0xfd) code ≡ free [] }",
-        f"    requires half {{ {'code < 0x80' if low else '0x80 ≤ code'} }}",
+        f"    requires half {{ {part.group.condition} }}",
         "    ensures { IsVectorWithoutImmediates code result }",
         "{",
-        f"    <Maker as Makes<{MARKS[part.group.module]}, ()>>::make(code, ())",
+        f"    <Maker as Makes<{part.mark}, ()>>::make(code, ())",
         "}",
     ]
 
@@ -86,8 +86,8 @@ def numeric_decode(ops, group):
         "/// Visits the numeric operator with this opcode.",
         "#[inline(always)]",
         f"pub fn numeric<V: {group.trait}>(v: &mut V, code: u8) -> V::Output",
-        "    requires from { 0x45 ≤ code }",
-        "    requires to { code ≤ 0xc4 }",
+        f"    requires from {{ 0x{NUMERIC[0]:02x} ≤ code }}",
+        f"    requires to {{ code ≤ 0x{NUMERIC[-1]:02x} }}",
         "    ensures { VisitsRow V.visits None code [] v.old result v.new }",
         "{",
         *closed([(op.hex(), f"v.{op.visit}()") for op in sorted(those, key=lambda op: op.code)]),

@@ -1,46 +1,16 @@
 """Writes the entry of each opcode and subopcode, and lemmas that the entries agree with the rows."""
 
+from immediates import KIND_WORDS, kinds_term
 from table import HEAD, PREFIXES, by_cases, held, imported, pattern
 
-# The operators that are checked before their immediates.
-GUARDS = {
-    "Else": "guard.Else",
-    "Try": "guard.Try",
-    "Catch": "guard.Catch",
-    "CatchAll": "guard.CatchAll",
-    "Delegate": "guard.Delegate",
-}
-KIND_NAMES = {
-    "unsigned": "is_unsigned_32", "signed_32": "is_signed_32", "signed_64": "is_signed_64",
-    "float_32": "is_float_32", "float_64": "is_float_64", "lane_index": "is_one_lane",
-    "lane_list": "is_sixteen_lanes", "vector": "is_vector", "memory_index": "is_memory_index",
-    "table_index": "is_table_index", "ordered": "is_order", "fence": "is_fence_order",
-    "heap_type": "is_heap_type", "cast": "is_cast", "block_type": "is_block_type",
-    "branch_table": "is_branch_table", "one_type": "is_select_types", "types": "is_select_types",
-    "try_table": "is_try_clauses", "resume_table": "is_resume_clauses",
-}
-KIND_WORDS = [*dict.fromkeys(KIND_NAMES.values()), "is_memory_argument"]
 ENTRY = "Rattle.wasm_decode_opcodes.specs.Entry"
 GUARD = "Rattle.wasm_decode_opcodes.specs.declared.guard.Guard"
 OPERATOR = "Rattle.wasm_instr.specs.declared.operator.Operator"
 
 
-def kind(immediate):
-    word, *more = immediate.split()
-    if word == "memory":
-        return f"is_memory_argument kind.{more[0]} {more[1]}"
-    return KIND_NAMES[word]
-
-
-def kinds(op):
-    return " ∷ ".join([kind(it) for it in op.immediates] + ["[]"])
-
-
 def entry(op):
-    inner = f"({kinds(op)})" if op.immediates else "[]"
-    if op.prefix == "" and op.name in GUARDS:
-        return f"guarded {GUARDS[op.name]} {inner}"
-    return f"free {inner}"
+    inner = f"({kinds_term(op.immediates)})" if op.immediates else "[]"
+    return f"guarded guard.{op.name} {inner}" if op.has_guard else f"free {inner}"
 
 
 def entries(name, those, prefixes=()):
@@ -94,7 +64,7 @@ def entries_told(ops):
     body = []
     for enum in held():
         those = [op for op in ops if op.group == enum.group]
-        prefix = f"(Some 0x{those[0].prefix})" if those[0].prefix else "None"
+        prefix = f"(Some 0x{enum.prefix})" if enum.prefix else "None"
         low = enum.module
         body.append(f"{low}_agrees : (op : {enum.type}) → entry_at {prefix} ({enum.opcode} op) ≡ free (map kind_of ({low}_immediates op))")
         body += [*by_cases(f"{low}_agrees", those[0], low, "refl"), ""]
@@ -107,8 +77,7 @@ def entries_told(ops):
     body.append("pub prefix_agrees : (op : Operator) (p : ℕ) → prefix_of op ≡ Some p → entry_at None p ≡ prefixes")
     for enum in held():
         if enum.group != "Numeric":
-            byte = next(prefix for prefix, group in PREFIXES.items() if group == enum.group)
-            body.append(f"prefix_agrees (operator.{enum.group} op) p e = let h : 0x{byte} ≡ p = cc e in ap (entry_at None) (sym h)")
+            body.append(f"prefix_agrees (operator.{enum.group} op) p e = let h : 0x{enum.prefix} ≡ p = cc e in ap (entry_at None) (sym h)")
     body.append(f"prefix_agrees {pattern(own[0], 'operator')} p e = absurd (cc e)")
     body.append("prefix_agrees op p e = absurd (cc e)")
     text = "\n".join(body)
@@ -120,8 +89,7 @@ def entries_told(ops):
     uses += [f"use {OPERATOR}.{{Operator}}", f"use {OPERATOR}.TheVariants as operator"]
     uses.append("use Rattle.wasm_instr.specs.Row.{prefix_of, opcode_of}")
     for enum in held():
-        part = enum.crate.removeprefix("wasm_instr_")
-        path = f"Rattle.wasm_instr.specs.{part}.{enum.module}.{enum.type}"
+        path = f"Rattle.wasm_instr.specs.{enum.part}.{enum.module}.{enum.type}"
         uses += [f"use {path}.{{{enum.type}}}", f"use {path}.TheVariants as {enum.module}"]
         uses.append(f"use Rattle.wasm_instr.specs.{enum.group}.{{{enum.opcode}, {enum.module}_immediates}}")
     uses.append("use Rattle.wasm_instr.specs.Immediate.{kind_of}")

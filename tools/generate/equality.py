@@ -1,41 +1,24 @@
 """Lists for each variant why the equality of its fields is exact."""
 
-from source import Shape, fields_name, shapes
+from immediates import TYPES
+from source import Shape, shapes
 from table import HEAD, held
 
-EXACT = {
-    "u8": "Decides-eqb",
-    "u32": "Decides-eqb",
-    "i32": "Decides-int_eq",
-    "i64": "Decides-int_eq",
-    "Ieee32": "Decides-eqb",
-    "Ieee64": "Decides-eqb",
-    "[u8; 16]": "lanes_exact",
-    "V128": "vector_exact",
-    "MemArg": "argument_exact",
-    "Ordering": "order_exact",
-    "HeapType": "heap_exact",
-    "RefType": "ref_exact",
-    "ValType": "value_exact",
-    "BlockType": "block_exact",
-    "BrTable<'a>": "table_exact",
-    "SelectTypes": "types_exact",
-    "TryTable": "try_exact",
-    "ResumeTable": "resume_exact",
-}
-HOMES = {
-    "lemmas.Bool.Decides": ["Decides-eqb", "Decides-int_eq"],
-    "of_below.TypeEquality": ["heap_exact", "ref_exact", "value_exact"],
-    "ControlEquality": ["block_exact", "table_exact", "types_exact", "try_exact", "resume_exact"],
-    "ImmediateEquality": ["lanes_exact", "vector_exact", "argument_exact", "order_exact"],
-}
 COUNTS = ("none", "one", "two", "three")
 WIDTH = 160
 
 
 def variant_exact(types):
     blanks = ["_"] * len(types)
-    return " ".join([COUNTS[len(types)], *blanks, *(EXACT[ty] for ty in types)])
+    return " ".join([COUNTS[len(types)], *blanks, *(TYPES[ty].exact for ty in types)])
+
+
+def homes():
+    """Returns the lemmas by file."""
+    found = {}
+    for ty in TYPES.values():
+        found.setdefault(ty.home, {})[ty.exact] = ty
+    return found
 
 
 def chain(terms):
@@ -53,7 +36,7 @@ def imports(below, terms, extra=()):
     crate, own = below
     words = {word for term in terms for word in term.split()} | set(extra)
     out = []
-    for home, names in HOMES.items():
+    for home, names in homes().items():
         used = [name for name in names if name in words]
         if used and home.startswith("lemmas"):
             out.append(f"use Rattle.std.proofs.{home}.{{{', '.join(used)}}}")

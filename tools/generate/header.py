@@ -2,8 +2,9 @@
 
 import re
 
-from plain import kinds, number
-from table import PROPOSALS, SHARED, TOP
+from immediates import KINDS
+from plain import number
+from table import PROPOSALS, TOP, shared
 
 PATH = "include/wasm_operators.h"
 # The names of indices, if they are not those in the table.
@@ -26,49 +27,26 @@ INDICES = {
     "argument_index": "type index of the continuation",
     "result_index": "type index of the result",
 }
-# What the fields of the C struct hold for other immediates.
-HELD = {
-    "memory": "memarg; max_align: {align}",
-    "lane_index": "lane",
-    "signed_32": "wide: value",
-    "signed_64": "wide: value",
-    "float_32": "wide: bits",
-    "float_64": "wide: bits",
-    "vector": "bytes: value",
-    "lane_list": "bytes: lanes",
-    "ordered": "ordering",
-    "fence": "ordering",
-    "heap_type": "kind, first: heap type",
-    "cast": "first: label; kind, second: source type; other_kind, third: target type",
-    "block_type": "kind, first: block type",
-    "branch_table": "first: number of targets; second: default target",
-    "one_type": "SELECT_ONE: kind, first: type",
-    "types": "SELECT_MANY: first: number of types",
-    "try_table": "kind, first: block type; second: number of catches",
-    "resume_table": "{next}: number of clauses",
-}
-# The immediates that are indices, and the fields that hold them in order.
-INDEXED = ("unsigned", "memory_index", "table_index")
+# The fields that hold indices, in order.
 PLACES = ("first", "second", "third")
 
 
 def meaning(op):
     names = [name for name, _ in op.fields]
     told, used = [], 0
-    for kind, immediate in zip(kinds(op), op.immediates):
-        if kind in INDEXED:
+    for kind, immediate in zip(op.kinds, op.immediates):
+        if KINDS[kind].is_index:
             name = names[len(told)]
             told.append(f"{PLACES[used]}: {INDICES.get(name, name.replace('_', ' '))}")
             used += 1
         else:
-            told.append(HELD[kind].format(align=immediate.split()[-1], next=PLACES[used]))
+            told.append(KINDS[kind].held.format(align=immediate.split()[-1], next=PLACES[used]))
     return "; ".join(told)
 
 
-def meanings(op, ops):
-    """Returns what the fields hold for an operator, and for the one that shares its opcode."""
-    others = [it for it in ops if it.name == SHARED[1]] if op.name == SHARED[0] else []
-    return "; ".join(meaning(it) for it in [op, *others])
+def meanings(op, pair):
+    """Returns what the fields hold for an operator, or for the two that share an opcode."""
+    return "; ".join(meaning(it) for it in (pair if op in pair else [op]))
 
 
 def enum(rows):
@@ -84,8 +62,9 @@ def proposal_cases(ops):
 
 
 def header(ops, text):
-    distinct = [op for op in ops if op.name != SHARED[1]]
-    opcodes = enum([(f"WASM_OP_{op.name}", f"0x{number(op):x}", meanings(op, ops)) for op in distinct])
+    pair = shared(ops)
+    distinct = [op for op in ops if op is not pair[1]]
+    opcodes = enum([(f"WASM_OP_{op.name}", f"0x{number(op):x}", meanings(op, pair)) for op in distinct])
     proposals = enum([(f"WASM_PROPOSAL_{it.upper()}", at, "") for at, it in enumerate(PROPOSALS)])
     for start, end, new in (
         ("#define WASM_LONGEST_NAME ", "\n", str(max(len(op.name) for op in ops))),

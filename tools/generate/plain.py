@@ -1,57 +1,15 @@
 """Writes the conversion of operators to a C struct (crates/wasm_view)."""
 
-from table import ENUMS, HEAD, PREFIXES, SHARED, held
+from immediates import COMBINATIONS, TYPES
+from table import ENUMS, HEAD, held, shared
 
-# The function of src/shapes.rt for operators with these immediates.
-SHAPES = {
-    (): "nothing",
-    ("unsigned",): "index",
-    ("memory_index",): "index",
-    ("unsigned", "unsigned"): "two_indices",
-    ("unsigned", "table_index"): "two_indices",
-    ("memory",): "memory",
-    ("memory", "lane_index"): "memory_lane",
-    ("lane_index",): "lane",
-    ("signed_32",): "integer_32",
-    ("signed_64",): "integer_64",
-    ("float_32",): "float_32",
-    ("float_64",): "float_64",
-    ("vector",): "vector",
-    ("lane_list",): "lanes",
-    ("ordered", "unsigned"): "ordered",
-    ("ordered", "unsigned", "unsigned"): "ordered_two",
-    ("fence",): "fence",
-    ("heap_type",): "heap",
-    ("cast",): "cast",
-    ("block_type",): "block",
-    ("branch_table",): "table",
-    ("one_type",): "select_one",
-    ("types",): "select_many",
-    ("try_table",): "try_table",
-    ("unsigned", "resume_table"): "resume",
-    ("unsigned", "unsigned", "resume_table"): "resume_throw",
-}
-# The shape of a select with one type.
-ONE_TYPE = 19
-# Passed by reference.
-BORROWED = ("BlockType", "ValType", "BrTable<'a>", "SelectTypes", "TryTable", "ResumeTable")
-# The most frequent operators, which are converted inline.
-COMMON = (
-    "Else", "End", "Br", "BrIf", "Return", "Call", "Drop", "Select", "LocalGet", "LocalSet", "LocalTee", "GlobalGet",
-    "GlobalSet", "I32Load", "I64Load", "I32Load8S", "I32Load8U", "I32Load16U", "I32Store", "I64Store", "I32Store8",
-    "I32Store16", "I32Const", "I64Const",
-)
 # The names of a shape's fields in patterns.
 BOUND = ["a", "b", "c"]
 
 
-def kinds(op):
-    return tuple(immediate.split()[0] for immediate in op.immediates)
-
-
 def unshaped(ops):
-    told = "its immediates have no shape: give them one in tools/generate/plain.py, crates/wasm_view/src/shapes.rt and specs/View.antt"
-    return [f"{op.place}: {told}" for op in ops if kinds(op) not in SHAPES]
+    lacks = "its immediates have no shape: give them one in tools/generate/immediates.py, crates/wasm_view/src/shapes.rt and specs/View.antt"
+    return [f"{op.place}: {lacks}" for op in ops if op.combination is None]
 
 
 def number(op):
@@ -88,8 +46,7 @@ def opcodes_source(ops):
     ]
     for enum in held():
         those = [op for op in ops if op.group == enum.group]
-        prefix = next((byte for byte, group in PREFIXES.items() if group == enum.group), None)
-        wanted = f"opcode_number (Some 0x{prefix}) ({enum.opcode} op)" if prefix else f"{enum.opcode} op"
+        wanted = f"opcode_number (Some 0x{enum.prefix}) ({enum.opcode} op)" if enum.prefix else f"{enum.opcode} op"
         lines += [
             "",
             f"fn {enum.opcode}(op: {enum.type}) -> u32",
@@ -111,22 +68,22 @@ def bound(op):
 def shape_arms(ops, ty, by_reference):
     groups = {}
     for op in ops:
-        groups.setdefault(kinds(op), []).append(op)
+        groups.setdefault(op.kinds, []).append(op)
     arms = []
-    for shape in [it for it in SHAPES if it in groups]:
-        those = groups[shape]
+    for kinds in [it for it in COMBINATIONS if it in groups]:
+        those = groups[kinds]
         fields = bound(those[0])
         patterns = []
         for op in those:
             inside = ", ".join(f"{name}: {to}" for name, _, to in bound(op))
             patterns.append(f"{ty}::{op.name}" + (f" {{ {inside} }}" if inside else ""))
-        values = [to if kind in BORROWED or not by_reference else f"*{to}" for _, kind, to in fields]
-        arms.append(f"{' | '.join(patterns)} => {', '.join([f'shapes::{SHAPES[shape]}(offset', 'opcode', *values])}),")
+        values = [to if TYPES[kind].by_reference or not by_reference else f"*{to}" for _, kind, to in fields]
+        arms.append(f"{' | '.join(patterns)} => {', '.join([f'shapes::{COMBINATIONS[kinds].shape}(offset', 'opcode', *values])}),")
     return arms
 
 
 def common_source(ops):
-    common = [op for op in ops if op.name in COMMON]
+    common = [op for op in ops if "view" in op.inline]
     lines = [
         f"//! {HEAD}",
         "ghost use Rattle.std.specs.Prelude.{◌≡◌};",
@@ -209,8 +166,9 @@ NAMES_EACH = 48
 def names_in_parts(ops):
     """Splits the names by number into named parts, each with the first of two that share a number."""
     parts = []
+    _, second = shared(ops)
     for group in ["Own", *[enum.group for enum in held()]]:
-        those = [op for op in ops if op.group == group and op.name != SHARED[1]]
+        those = [op for op in ops if op.group == group and op is not second]
         for at in range(0, len(those), NAMES_EACH):
             parts.append((f"{group.lower()}_names_{at // NAMES_EACH}", those[at : at + NAMES_EACH]))
     return parts
@@ -232,19 +190,19 @@ def names_spec(ops):
         behind = f"{parts[at + 1][0]} number" if at + 1 < len(parts) else "[]"
         lines[-1] = lines[-1][: -len("(")] + "(" + behind + ")" * len(those)
         lines.append("")
-    first, second = [next(op for op in ops if op.name == name) for name in SHARED]
+    first, second = shared(ops)
     lines += [
-        "-- The name by number and shape: two operators share 0x1c, and shape 19 selects `TypedSelect`.",
+        f"-- The name by number and shape: two operators share 0x{number(first):x}, and shape {first.combination.number} selects `{first.name}`.",
         "abbrev pub name_at : ℕ → ℕ → List ℕ",
         "name_at number shape =",
-        f'    if number == 0x{number(first):x} then (if shape == {ONE_TYPE} then codes "{first.name}" else codes "{second.name}") else {parts[0][0]} number',
+        f'    if number == 0x{number(first):x} then (if shape == {first.combination.number} then codes "{first.name}" else codes "{second.name}") else {parts[0][0]} number',
     ]
     return "\n".join(lines) + "\n"
 
 
 def names_source(ops):
     parts = names_in_parts(ops)
-    first, second = [next(op for op in ops if op.name == name) for name in SHARED]
+    first, second = shared(ops)
     words = ", ".join(sorted(name for name, _ in parts))
     lines = [
         f"//! {HEAD}",
@@ -256,7 +214,7 @@ def names_source(ops):
         "    ensures { result.now ≡ name_at number shape }",
         "{",
         f"if number == 0x{number(first):x} {{",
-        f'return if shape == {ONE_TYPE} {{ "{first.name}" }} else {{ "{second.name}" }};',
+        f'return if shape == {first.combination.number} {{ "{first.name}" }} else {{ "{second.name}" }};',
         "}",
         f"{parts[0][0]}(number)",
         "}",
@@ -278,7 +236,7 @@ def names_source(ops):
 
 
 def plain_files(ops):
-    ops = [op for op in ops if kinds(op) in SHAPES]
+    ops = [op for op in ops if op.combination]
     return {
         "crates/wasm_view/src/names.rt": names_source(ops),
         "crates/wasm_view/specs/Names.antt": names_spec(ops),

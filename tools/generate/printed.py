@@ -1,9 +1,10 @@
 """Writes a value of each operator for the program that prints all operators."""
 
+from immediates import TYPES
 from source import uses
 from table import ENUMS, HEAD, held
 
-# The values of fields in constants: by name, else by type.
+# The values of fields by name. Other fields have the value of their type.
 BY_NAME = {
     "array_size": "5",
     "struct_type_index": "1",
@@ -17,46 +18,20 @@ BY_NAME = {
     "table_index": "4",
     "mem": "6",
     "lane": "7",
+    "from_ref_type": "nullable()?",
+    "to_ref_type": "not_nullable()?",
 }
-BY_TYPE = {
-    "u8": "9",
-    "u32": "9",
-    "i32": "-1",
-    "i64": "-2",
-    "[u8; 16]": "LANES",
-    "MemArg": "MEMARG",
-    "Ordering": "Ordering::AcqRel",
-    "HeapType": "HeapType::Concrete(7)",
-    "ValType": "ValType::I64",
-    "BlockType": "BlockType::FuncType(0)",
-}
-# The values made at run time, by src/parts.rt. Those with `alloc` allocate.
-CALLS = {
-    "Ieee32": "float_32()",
-    "Ieee64": "float_64()",
-    "V128": "vector()",
-    "BrTable<'a>": "branch_table()?",
-    "SelectTypes": "select(alloc)?",
-    "TryTable": "try_table(alloc)?",
-    "ResumeTable": "resume_table(alloc)?",
-}
-CALLS_BY_NAME = {"from_ref_type": "nullable()?", "to_ref_type": "not_nullable()?"}
-MADE = (*CALLS, "RefType")
 # The names of the lists of the operators of one byte, and the least length of each.
 OWN_PARTS = ["first", "second", "third", "fourth", "fifth", "sixth"]
 LEAST = 12
 
 
 def is_made(op):
-    return any(ty in MADE for _, ty in op.fields)
+    return any(TYPES[ty].is_made for _, ty in op.fields)
 
 
 def value_of(name, ty):
-    if ty in ("u32", "u8") and name in BY_NAME:
-        return BY_NAME[name]
-    if ty == "RefType":
-        return CALLS_BY_NAME.get(name, "nullable()?")
-    return CALLS.get(ty) or BY_TYPE[ty]
+    return BY_NAME.get(name, TYPES[ty].value)
 
 
 def made(op, ty):

@@ -1,30 +1,10 @@
 """Writes functions that print fields in the format of tools/original/samples.tsv."""
 
-from source import LAYERS, rust_binding
+from immediates import TYPES
+from source import rust_binding, uses_of
 from table import HEAD, held
 
 CRATE = "crates/wasm_tests_texts/src/fields"
-# The function of src/values.rt for each type.
-PRINTERS = {
-    "u32": "number",
-    "u8": "lane",
-    "i32": "signed_32",
-    "i64": "signed_64",
-    "Ieee32": "float_32",
-    "Ieee64": "float_64",
-    "V128": "vector",
-    "[u8; 16]": "lanes",
-    "MemArg": "memory_argument",
-    "Ordering": "ordering",
-    "HeapType": "heap_type",
-    "RefType": "reference_type",
-    "ValType": "value_type",
-    "BlockType": "block_type",
-    "BrTable<'a>": "branch_table",
-    "SelectTypes": "select_types",
-    "TryTable": "try_table",
-    "ResumeTable": "resume_table",
-}
 
 
 def shape_name(fields):
@@ -32,7 +12,7 @@ def shape_name(fields):
 
 
 def printed(name, ty):
-    return f'values::{PRINTERS[ty]}(out, "{name}", {name})'
+    return f'values::{TYPES[ty].printer}(out, "{name}", {name})'
 
 
 def call_of(fields):
@@ -63,16 +43,10 @@ def shape_source(fields):
 
 def shapes_source(ops):
     those = [fields for fields in shapes(ops) if len(fields) > 1]
-    types = {ty for fields in those for _, ty in fields}
-    layers = {}
-    for ty in types:
-        name = ty.split("<")[0]
-        if name in LAYERS:
-            layers.setdefault(LAYERS[name], set()).add(name)
     out = [
         f"//! {HEAD}",
         "use crate::values::{self, Written};",
-        *[f"use {layer}::{{{', '.join(sorted(layers[layer]))}}};" for layer in sorted(layers)],
+        *uses_of([ty for fields in those for _, ty in fields]),
     ]
     for fields in those:
         out += shape_source(fields)

@@ -1,11 +1,10 @@
 """Writes the rows of the operators as definitions, and the lemmas that a row determines its operator."""
 
+from immediates import ROW_WORDS, VALUE_WORDS
 from table import (
     HEAD,
+    NUMERIC,
     PREFIXES,
-    ROW_WORDS,
-    SHARED,
-    VALUE_WORDS,
     by_cases,
     enum_uses,
     grouped,
@@ -14,6 +13,7 @@ from table import (
     imported,
     made_of,
     pattern,
+    shared,
     variant_of,
 )
 
@@ -21,6 +21,8 @@ from source import Shape, fields_name, names_of, shapes
 
 IMMEDIATE = "Rattle.wasm_imm.specs.Immediate"
 VALUES = "Rattle.wasm_imm.proofs.Values"
+# In the list by opcode, an operator for the opcodes without one. Any without immediates serves.
+FILLER = "operator.Nop"
 ALIASES = {
     "kind": "use Rattle.wasm_imm.specs.declared.memory_argument.MemArgKind.TheVariants as kind",
     "select": "use Rattle.wasm_imm.specs.control.select.Select.TheVariants as select",
@@ -182,7 +184,7 @@ def equality_answer(enum):
 
 def numeric_range(none):
     out = ["", "abbrev pub is_numeric : ℕ → Bool"]
-    out.append("is_numeric code = ltb 0x44 code && ltb code 0xc5")
+    out.append(f"is_numeric code = ltb 0x{NUMERIC.start - 1:02x} code && ltb code 0x{NUMERIC.stop:02x}")
     for lemma, claim in {
         "numeric_range": "is_numeric (numeric_opcode op)",
         "numeric_short": "ltb (numeric_opcode op) 0xfb",
@@ -227,25 +229,25 @@ def operator_rows(ops):
 
 
 def operators_by_opcode(ops):
-    one, many = SHARED
-    found = {op.code: op for op in ops if op.name != many}
+    one, many = shared(ops)
+    found = {op.code: op for op in ops if op is not many}
     body = [
         "abbrev select_at : Select → Operator",
-        f"select_at (select.One ty) = operator.{one} ty",
-        f"select_at (select.Multi tys) = operator.{many} tys",
+        f"select_at (select.One ty) = operator.{one.name} ty",
+        f"select_at (select.Multi tys) = operator.{many.name} tys",
         "",
         "abbrev makers : List (List Immediate → Operator)",
         "makers =",
     ]
     for code in range(max(found) + 1):
         op = found.get(code)
-        made = "operator.Nop" if op is None else made_of(op, "operator")
-        if op is not None and op.name == one:
+        made = FILLER if op is None else made_of(op, "operator")
+        if op is one:
             made = "select_at (select_in is)"
         body.append(f"    (λ is. {made}) ∷")
     body += ["    []", "", "-- The operator with this opcode, which is not numeric, and these immediates."]
     body += ["abbrev pub own_at : ℕ → List Immediate → Operator"]
-    body.append("own_at code is = get_or makers code (λ is. operator.Nop) is")
+    body.append(f"own_at code is = get_or makers code (λ is. {FILLER}) is")
     titles = ["The operators with a one-byte opcode by opcode, except the numeric ones."]
     uses = [
         "use Rattle.std.proofs.Common.{ℕ, List, [], ◌∷◌, get_or}",

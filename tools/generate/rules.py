@@ -3,23 +3,8 @@
 import re
 
 from arities import REACHING
-from table import (
-    COLUMNS,
-    KINDS,
-    LARGEST_ALIGN,
-    MEMORY_SORTS,
-    OWNING,
-    PREFIXES,
-    PROPOSALS,
-    ROW_WORDS,
-    SHARED,
-    TABLE,
-    VALUE_WORDS,
-    Operator,
-    held,
-    named,
-    rows_of,
-)
+from immediates import KINDS, LARGEST_ALIGN, MEMORY_SORTS, OWNING, ROW_WORDS, TYPES, VALUE_WORDS, WRITERS
+from table import COLUMNS, FEATURES, INLINE, PREFIXES, PROPOSALS, ROLES, TABLE, Operator, held, named, rows_of
 
 # Keywords of Rust, and names in the generated definitions.
 TAKEN = set(
@@ -27,7 +12,6 @@ TAKEN = set(
     " pub ref return self static struct super trait true type unsafe use where while async await ghost result"
     " op code is alloc result kind select operator numeric gc misc simd atomic".split()
 ) | set(ROW_WORDS) | set(VALUE_WORDS)
-TYPES = {ty for kind in KINDS.values() for ty in kind.types}
 # Limits of the toolchain: variants of an enum, and of an enum that may own or borrow.
 MOST_VARIANTS = 256
 MOST_OWNING = 128
@@ -36,6 +20,10 @@ LARGEST_SUBOPCODE = 0x3FF
 # The contract of `reaching` requires fewer than 8 operands.
 MOST_TAKEN = 7
 VECTOR_PROPOSALS = ("simd", "relaxed_simd")
+# The visit of `VisitOperator`, whose argument borrows.
+BORROWING_VISIT = "visit_br_table"
+# The immediates of the two operators that share a code. The length of the list determines the operator.
+SHARING = (("one_type",), ("types",))
 
 
 def faults(path=TABLE):
@@ -90,7 +78,8 @@ def row_faults(op):
         out.append(f"{op.code:02x} is a prefix byte, or more than a byte")
     if op.code > LARGEST_SUBOPCODE:
         out.append(f"the subopcode is above {LARGEST_SUBOPCODE:x}")
-    return out + field_faults(op) + immediate_faults(op) + arity_faults(op)
+    checks = (field_faults, immediate_faults, writer_faults, frame_faults, inline_faults, arity_faults)
+    return out + [fault for check in checks for fault in check(op)]
 
 
 def field_faults(op):
@@ -117,8 +106,44 @@ def immediate_faults(op):
     types = [ty for _, ty in op.fields]
     if not out and types != wanted:
         out.append(f"the immediates need fields of {', '.join(wanted) or 'no type'}, and the fields are of {', '.join(types) or 'none'}")
-    if "branch_table" in op.immediates and op.name != "BrTable":
-        out.append("only BrTable may have a branch table: it borrows, and `VisitOperator` has its visit")
+    if "branch_table" in op.kinds and op.visit != BORROWING_VISIT:
+        out.append(f"only the operator with {BORROWING_VISIT} may have a branch table: it borrows, and `VisitOperator` has its visit")
+    return out
+
+
+def writer_faults(op):
+    if op.writer == "":
+        return []
+    if op.writer not in WRITERS:
+        return [f"the writer {op.writer!r} is not one of {', '.join(WRITERS)}"]
+    types = tuple(ty for _, ty in op.fields)
+    if types != WRITERS[op.writer]:
+        return [f"the writer {op.writer} takes {', '.join(WRITERS[op.writer])}, and the fields are of {', '.join(types) or 'none'}"]
+    return []
+
+
+def frame_faults(op):
+    out = []
+    if op.role not in ("", *ROLES):
+        out.append(f"the role {op.role!r} is not one of {', '.join(ROLES)}, or empty")
+    if op.feature not in ("", *FEATURES):
+        out.append(f"the feature {op.feature!r} is not one of {', '.join(FEATURES)}, or empty")
+    if (op.role or op.feature) and op.group != "Own":
+        out.append("only an operator with a one-byte opcode that is not numeric may have a role or a feature")
+    return out
+
+
+def inline_faults(op):
+    wrong = [it for it in op.inline if it not in INLINE]
+    out = [f"{it!r} is not one of {', '.join(INLINE)}" for it in wrong]
+    if not wrong and op.inline != [it for it in INLINE if it in op.inline]:
+        out.append(f"the places where it is inline are not in the order {', '.join(INLINE)}")
+    if op.inline and op.group != "Own":
+        out.append("only an operator with a one-byte opcode that is not numeric may be inline")
+    if op.is_common and op.is_alone:
+        out.append("it is inline in the arm of its kinds or in a separate arm, not in both")
+    if (op.is_common or op.is_alone) and (op.has_guard or op.may_hold):
+        out.append("the decoder has no inline arm for an operator that needs a frame or a feature, or may own or borrow")
     return out
 
 
@@ -142,7 +167,7 @@ def arity_faults(op):
 
 
 def shared_faults(ops):
-    out = []
+    out, pairs = [], 0
     for what, key in {
         "the name": lambda op: op.name.lower(),
         "the visit": lambda op: op.visit,
@@ -151,8 +176,9 @@ def shared_faults(ops):
         first = {}
         for op in ops:
             other = first.setdefault(key(op), op)
-            is_pair = what == "the code" and (other.name, op.name) == SHARED
-            if other is not op and not is_pair:
+            is_pair = what == "the code" and (other.kinds, op.kinds) == SHARING
+            pairs += is_pair
+            if other is not op and not (is_pair and pairs == 1):
                 out.append(f"{op.place}: {what} is already used by {other.name}, line {other.place.split(':')[-2]}")
     return out
 

@@ -2,24 +2,9 @@
 
 import re
 
+from immediates import TYPES
 from table import ENUMS, HEAD, Enum, Operator, grouped, held, variant_of
 
-# The crates of the types of fields that are not primitive.
-LAYERS = {
-    "BlockType": "wasm_imm",
-    "BrTable": "wasm_imm",
-    "HeapType": "wasm_below",
-    "Ieee32": "wasm_imm",
-    "Ieee64": "wasm_imm",
-    "MemArg": "wasm_imm",
-    "Ordering": "wasm_imm",
-    "RefType": "wasm_below",
-    "ResumeTable": "wasm_imm",
-    "SelectTypes": "wasm_imm",
-    "TryTable": "wasm_imm",
-    "V128": "wasm_imm",
-    "ValType": "wasm_below",
-}
 # An enum with more variants than LARGE is split into functions of PART variants.
 LARGE = 128
 PART = 64
@@ -31,12 +16,15 @@ DEBUG_PART = 24
 
 
 def uses(ops, more=()):
+    return uses_of([ty for op in ops for _, ty in op.fields], more)
+
+
+def uses_of(types, more=()):
+    """Returns the `use` lines of types of fields, and of other names with their crates."""
     found = {}
-    for op in ops:
-        for _, ty in op.fields:
-            name = ty.split("<")[0]
-            if name in LAYERS:
-                found.setdefault(LAYERS[name], set()).add(name)
+    for ty in types:
+        if TYPES[ty].crate:
+            found.setdefault(TYPES[ty].crate, set()).add(TYPES[ty].word)
     for crate, name in more:
         found.setdefault(crate, set()).add(name)
     return [f"use {crate}::{{{', '.join(sorted(found[crate]))}}};" for crate in sorted(found)]
@@ -517,9 +505,9 @@ def lifetime(ty):
 def clone_arm(op, ty):
     copied = []
     for name, field in op.fields:
-        if field in ("SelectTypes", "TryTable", "ResumeTable"):
+        if TYPES[field].owns_list:
             copied.append(f"{name}: {name}.clone(alloc)?")
-        elif field.startswith("BrTable"):
+        elif TYPES[field].borrows:
             copied.append(f"{name}: same_table({name})")
         else:
             copied.append(f"{name}: *{name}")

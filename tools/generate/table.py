@@ -4,12 +4,32 @@ import re
 import textwrap
 from pathlib import Path
 
+from immediates import BORROWING, COMBINATIONS, HOLDING, KINDS, OWNING
+
 TOP = Path(__file__).resolve().parent.parent.parent
 TABLE = TOP / "tools" / "operators.tsv"
 HEAD = "Written by tools/lists.py from tools/operators.tsv."
 WIDTH = 100
-COLUMNS = ["proposal", "name", "text", "visit", "prefix", "code", "fields", "immediates", "takes", "leaves"]
+COLUMNS = [
+    "proposal", "name", "text", "visit", "prefix", "code", "fields", "immediates", "writer", "role", "feature", "inline",
+    "takes", "leaves",
+]
 PREFIXES = {"fb": "Gc", "fc": "Misc", "fd": "Simd", "fe": "Atomic"}
+# The opcodes of the numeric operators, and the first subopcode of the second half of the SIMD operators.
+NUMERIC = range(0x45, 0xC5)
+SIMD_HALF = 0x80
+# The roles except `plain`, as `role_of` of wasm_instr (specs/Roles.antt) names them.
+ROLES = (
+    "opens block", "opens loop", "opens try_table", "opens_if", "opens_try", "turns_else", "turns_catch",
+    "turns_catch_all", "delegates", "ends",
+)
+# The roles that need a certain innermost frame.
+FRAMED_ROLES = ("turns_else", "turns_catch", "turns_catch_all", "delegates")
+# The features that operators need, whatever their immediates.
+FEATURES = ("LEGACY_EXCEPTIONS",)
+# Where a frequent operator is handled inline: in the decoder's arm of its kinds, in a separate arm of the decoder, in
+# wasm_view. A separate arm is for a code apart from the others: the arm of its kinds is inlined for each run of codes.
+INLINE = ("decoder", "decoder alone", "view")
 
 
 class Operator:
@@ -23,6 +43,10 @@ class Operator:
         self.code = int(row["code"], 16)
         self.fields = [tuple(f.split(": ")) for f in row["fields"].split(", ") if f]
         self.immediates = [i for i in row["immediates"].split(", ") if i]
+        self.writer = row["writer"]
+        self.role = row["role"]
+        self.feature = row["feature"]
+        self.inline = [i for i in row["inline"].split(", ") if i]
         self.takes = row["takes"]
         self.leaves = row["leaves"]
         self.place = f"{place}: {self.name}"
@@ -31,7 +55,25 @@ class Operator:
     def group(self):
         if self.prefix:
             return PREFIXES[self.prefix]
-        return "Numeric" if 0x45 <= self.code <= 0xC4 else "Own"
+        return "Numeric" if self.code in NUMERIC else "Own"
+
+    @property
+    def kinds(self):
+        return tuple(it.split(" ")[0] for it in self.immediates)
+
+    @property
+    def forms(self):
+        """Returns the kinds without alignment, for example `memory Rmw`."""
+        return tuple(" ".join(it.split(" ")[:2]) for it in self.immediates)
+
+    @property
+    def align(self):
+        """Returns the natural alignment of the memory argument as an exponent."""
+        return next(it.split()[2] for it in self.immediates if it.startswith("memory "))
+
+    @property
+    def combination(self):
+        return COMBINATIONS.get(self.kinds)
 
     @property
     def is_by_rule(self):
@@ -40,6 +82,30 @@ class Operator:
     @property
     def holds_list(self):
         return any(ty in OWNING for _, ty in self.fields)
+
+    @property
+    def borrows(self):
+        return any(ty in BORROWING for _, ty in self.fields)
+
+    @property
+    def may_hold(self):
+        """Returns whether the immediates may own a list, or borrow."""
+        return any(kind in HOLDING for kind in self.kinds)
+
+    @property
+    def has_guard(self):
+        """Returns whether frame or features are checked before the immediates."""
+        return self.role in FRAMED_ROLES or self.feature != ""
+
+    @property
+    def is_common(self):
+        """Returns whether the decoder's arm of its kinds is inline for this operator."""
+        return "decoder" in self.inline
+
+    @property
+    def is_alone(self):
+        """Returns whether the decoder has a separate inline arm for this operator."""
+        return "decoder alone" in self.inline
 
     def hex(self):
         return f"0x{self.code:02x}"
@@ -65,6 +131,11 @@ def doc(text):
     return [f"/// {line}" for line in textwrap.wrap(text, WIDTH - len("/// "))]
 
 
+def prefix_of(group):
+    """Returns the prefix byte of an enum's operators, or nothing."""
+    return next((byte for byte, enum in PREFIXES.items() if enum == group), "")
+
+
 class Enum:
     def __init__(self, group, crate, module, title, section="", more=""):
         self.group = group
@@ -75,10 +146,12 @@ class Enum:
         self.doc = doc(f"{title.capitalize()}{more}. {section[:1].upper()}{section[1:]}.")
         self.type = "Operator" if group == "Own" else f"{group}Operator"
         self.opcode = f"{module}_opcode" if group == "Numeric" else f"{module}_subopcode"
+        self.prefix = prefix_of(group)
+        self.part = crate.removeprefix("wasm_instr_")
 
 
 ENUMS = [
-    Enum("Numeric", "wasm_instr_ops", "numeric", "the numeric operators with a one-byte opcode", "Numeric Instructions", ", 0x45 to 0xc4, without immediates"),
+    Enum("Numeric", "wasm_instr_ops", "numeric", "the numeric operators with a one-byte opcode", "Numeric Instructions", f", 0x{NUMERIC[0]:02x} to 0x{NUMERIC[-1]:02x}, without immediates"),
     Enum("Gc", "wasm_instr_ops", "gc", "the operators with the prefix byte 0xfb", "Aggregate Instructions; proposal custom descriptors", ": structures, arrays and casts"),
     Enum("Misc", "wasm_instr_ops", "misc", "the operators with the prefix byte 0xfc", "Numeric, Memory and Table Instructions; proposals memory control and wide arithmetic"),
     Enum("Atomic", "wasm_instr_ops", "atomic", "the operators with the prefix byte 0xfe", "proposals threads, shared-everything threads and acquire-release atomics"),
@@ -98,51 +171,22 @@ def held():
     return sorted(ENUMS, key=lambda enum: HELD.index(enum.group))
 
 
-class Kind:
-    """The types of the fields, the term over them, and the functions that take its values from a list."""
-
-    def __init__(self, types, term, values):
-        self.types = types
-        self.term = term
-        self.values = values
-
-
-CAST = "cast (record {{ relative_depth = {0}; from = {1}; to = {2} }})"
-KINDS = {
-    "unsigned": Kind(["u32"], "unsigned_32 {0}", ["number_in"]),
-    "signed_32": Kind(["i32"], "signed_32 {0}", ["integer_in"]),
-    "signed_64": Kind(["i64"], "signed_64 {0}", ["integer_in"]),
-    "float_32": Kind(["Ieee32"], "float_32 {0}", ["number_in"]),
-    "float_64": Kind(["Ieee64"], "float_64 {0}", ["number_in"]),
-    "lane_index": Kind(["u8"], "one_lane {0}", ["number_in"]),
-    "lane_list": Kind(["[u8; 16]"], "sixteen_lanes {0}", ["bytes_in"]),
-    "vector": Kind(["V128"], "vector {0}", ["vector_in"]),
-    "memory": Kind(["MemArg"], "memory_argument kind.{sort} {align} {0}", ["argument_in"]),
-    "memory_index": Kind(["u32"], "memory_index {0}", ["number_in"]),
-    "table_index": Kind(["u32"], "table_index_32 {0}", ["number_in"]),
-    "ordered": Kind(["Ordering"], "order {0}", ["order_in"]),
-    "fence": Kind(["Ordering"], "fence_order {0}", ["order_in"]),
-    "heap_type": Kind(["HeapType"], "heap_type {0}", ["heap_type_in"]),
-    "cast": Kind(["u32", "RefType", "RefType"], CAST, ["depth_in", "from_in", "to_in"]),
-    "block_type": Kind(["BlockType"], "block_type {0}", ["block_type_in"]),
-    "branch_table": Kind(["BrTable<'a>"], "branch_table {0}", ["branch_table_in"]),
-    "one_type": Kind(["ValType"], "select_types (select.One {0})", ["one_type_in"]),
-    "types": Kind(["SelectTypes"], "select_types (select.Multi {0})", ["types_in"]),
-    "try_table": Kind(["TryTable"], "try_clauses {0}", ["try_table_in"]),
-    "resume_table": Kind(["ResumeTable"], "resume_clauses {0}", ["resume_table_in"]),
-}
-# The kinds of memory arguments, and the largest natural alignment.
-MEMORY_SORTS = ("Plain", "Op", "Rmw")
-LARGEST_ALIGN = 4
-OWNING = ("SelectTypes", "TryTable", "ResumeTable")
-# They share an opcode.
-SHARED = ("TypedSelect", "TypedSelectMulti")
 PROPOSALS = (
     "mvp", "sign_extension", "gc", "custom_descriptors", "saturating_float_to_int", "bulk_memory",
     "reference_types", "tail_call", "memory_control", "threads", "simd", "relaxed_simd", "exceptions",
     "legacy_exceptions", "shared_everything_threads", "function_references", "stack_switching",
     "wide_arithmetic", "acquire_release_atomics",
 )
+
+
+def shared(ops):
+    """Returns the two operators with the same code. The first has one type as its immediate, the second several."""
+    found = {}
+    for op in ops:
+        other = found.setdefault((op.prefix, op.code), op)
+        if other is not op:
+            return other, op
+    return None
 
 
 def variant_of(proposal):
@@ -156,7 +200,8 @@ def immediates_of(op):
         word, *more = immediate.split()
         kind = KINDS[word]
         count = len(kind.types)
-        out.append(kind.term.format(*names[:count], **dict(zip(("sort", "align"), more))))
+        argument = kind.argument.format(*names[:count], **dict(zip(("sort", "align"), more)))
+        out.append(f"{kind.immediate} {argument}")
         del names[:count]
     return " ∷ ".join(out + ["[]"])
 
@@ -165,8 +210,8 @@ def made_of(op, alias):
     """Returns the operator made from the list of immediates `is`, in antt."""
     values = []
     rest = "is"
-    for immediate in op.immediates:
-        values += [f"({value} {rest})" for value in KINDS[immediate.split()[0]].values]
+    for kind in op.kinds:
+        values += [f"({value} {rest})" for value in KINDS[kind].taken]
         rest = f"(tail_of {rest})"
     return " ".join([f"{alias}.{op.name}"] + values)
 
@@ -181,17 +226,6 @@ def pattern(op, alias, named=True):
         return f"{alias}.{op.name}"
     names = " ".join(name if named else "_" for name, _ in op.fields)
     return f"({alias}.{op.name} {names})"
-
-
-# The definitions that a file may import: of immediates, and of their values in a list.
-ROW_WORDS = [
-    "unsigned_32", "signed_32", "signed_64", "float_32", "float_64", "vector", "one_lane",
-    "sixteen_lanes", "memory_argument", "memory_index", "table_index_32", "order", "fence_order",
-    "heap_type", "cast", "block_type", "branch_table", "select_types", "try_clauses",
-    "resume_clauses",
-]
-VALUE_WORDS = ["tail_of", *dict.fromkeys(it for kind in KINDS.values() for it in kind.values)]
-VALUE_WORDS.insert(VALUE_WORDS.index("one_type_in"), "select_in")
 
 
 def enum_uses(enum):

@@ -1,59 +1,15 @@
 """Writes the names of the operators in the text format, and the functions that write their operands."""
 
+from immediates import KINDS
 from source import arms, rust_binding
-from table import ENUMS, HEAD, KINDS, held, pattern
+from table import ENUMS, HEAD, held, pattern
 
 CRATE = "crates/wasm_text"
-# The function of src/operands.rt for these immediates.
-WRITERS = {
-    ("unsigned",): "one_number",
-    ("memory_index",): "one_number",
-    ("unsigned", "unsigned"): "two_numbers",
-    ("unsigned", "table_index"): "indirect",
-    ("table_index",): "one_number",
-    ("signed_32",): "signed_32",
-    ("signed_64",): "signed_64",
-    ("float_32",): "float_32",
-    ("float_64",): "float_64",
-    ("vector",): "vector",
-    ("lane_index",): "lane",
-    ("lane_list",): "lanes",
-    ("memory",): "memory_argument",
-    ("memory", "lane_index"): "memory_argument_and_lane",
-    ("ordered",): "order",
-    ("ordered", "unsigned"): "ordered_number",
-    ("ordered", "unsigned", "unsigned"): "ordered_numbers",
-    ("fence",): "fence",
-    ("heap_type",): "heap_type",
-    ("cast",): "cast",
-    ("block_type",): "block_type",
-    ("branch_table",): "branch_table",
-    ("one_type",): "one_type",
-    ("types",): "types",
-    ("try_table",): "try_table",
-    ("resume_table",): "clauses",
-    ("unsigned", "resume_table"): "number_and_clauses",
-    ("unsigned", "unsigned", "resume_table"): "numbers_and_clauses",
-}
-# Operands that differ from the immediates in order, as `operands_of` defines.
-OTHERS = {
-    "ReturnCallIndirect": "indirect",
-    "RefTestNonNull": "reference_without_null",
-    "RefCastNonNull": "reference_without_null",
-    "RefCastDescEqNonNull": "reference_without_null",
-    "RefTestNullable": "reference_with_null",
-    "RefCastNullable": "reference_with_null",
-    "RefCastDescEqNullable": "reference_with_null",
-}
 
 
 def inner_uses(enum):
-    path = f"Rattle.wasm_instr.specs.{'simd' if enum.group == 'Simd' else 'ops'}.{enum.module}.{enum.type}"
+    path = f"Rattle.wasm_instr.specs.{enum.part}.{enum.module}.{enum.type}"
     return [f"use {path}.{{{enum.type}}}", f"use {path}.TheVariants as {enum.module}"]
-
-
-def kinds_of(op):
-    return tuple(it.split()[0] for it in op.immediates)
 
 
 def call_of(op):
@@ -61,15 +17,15 @@ def call_of(op):
     names = [name for name, _ in op.fields]
     if not names:
         return "Ok(())"
-    writer = OTHERS.get(op.name) or WRITERS.get(kinds_of(op))
+    writer = op.writer or (op.combination.writer if op.combination else "")
     if writer:
         return f"operands::{writer}(out, {', '.join(names)})"
     calls = []
-    for kind in kinds_of(op):
-        count = len(KINDS[kind].types)
-        calls.append(f"operands::{WRITERS[kind,]}(out, {', '.join(names[:count])})")
+    for kind in (KINDS[word] for word in op.kinds):
+        count = len(kind.types)
+        calls.append(f"operands::{kind.writer}(out, {', '.join(names[:count])})")
         del names[:count]
-    return f"{{ {'?; '.join(calls)} }}"
+    return calls[0] if len(calls) == 1 else f"{{ {'?; '.join(calls)} }}"
 
 
 def name_specs(ops):
@@ -157,11 +113,12 @@ def operand_files(ops):
             continue
         low = enum.module
         those = [op for op in ops if op.group == enum.group]
-        claim = "gc_operands op.now" if low == "gc" else f"immediates_text ({low}_immediates op.now)"
-        words = "gc_operands" if low == "gc" else "immediates_text"
+        has_writers = any(op.writer for op in those)
+        words = f"{low}_operands" if has_writers else "immediates_text"
+        claim = f"{words} op.now" if has_writers else f"{words} ({low}_immediates op.now)"
         text = operand_function(low, enum.type, those)
         text.insert(1, f"ensures {{ OnOk result (string_bytes out.new ≡ string_bytes out.old ++ {claim}) }}")
-        row = [] if low == "gc" else [f"ghost use Rattle.wasm_instr.specs.{enum.group}.{{{low}_immediates}};"]
+        row = [] if has_writers else [f"ghost use Rattle.wasm_instr.specs.{enum.group}.{{{low}_immediates}};"]
         out[f"{CRATE}/src/operators/{low}.rt"] = "\n".join([
             f"//! {HEAD}",
             "ghost use Rattle.std.specs.Prelude.{◌≡◌, ◌++◌, OnOk, string_bytes};",

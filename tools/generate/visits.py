@@ -1,46 +1,81 @@
 """Writes the groups of visits, the dispatch of each group, and the visits of the factory."""
 
 from source import uses
-from table import HEAD, WIDTH, doc, held, singular
+from table import HEAD, NUMERIC, SIMD_HALF, WIDTH, doc, held, prefix_of, singular
 
 
 class Group:
-    def __init__(self, module, trait, enum, short, title, section):
+    """A group of visits. `condition` is on the code, if the same list of entries has operators of other groups without immediates."""
+
+    def __init__(self, module, trait, enum, short, title, section, *, given="self, reader, start, code", condition=""):
         self.module = module
         self.trait = trait
         self.enum = enum
         self.short = short
         self.title = title
         self.section = section
+        # the arguments of the call that decodes
+        self.given = given
+        self.condition = condition
+        # its type in the decoder, and its prefix byte
+        self.mark = trait.removeprefix("Visit")
+        self.prefix = prefix_of(enum)
 
     @property
     def bound(self):
         return "VisitSimdOperator" if self.enum == "Simd" else "VisitGroups"
 
+    @property
+    def has_arms(self):
+        """Returns whether its codes have arms in the decoder: the numeric operators have no immediates."""
+        return self.enum != "Numeric"
+
     def has(self, op):
-        if op.group != self.enum or op.name == "BrTable":
+        if op.group != self.enum or op.borrows:
             return False
         if self.enum == "Simd":
-            return (op.code < 0x80) == (self.module == "simd_low")
+            return (op.code < SIMD_HALF) == (self.module == "simd_low")
         return True
 
     def of(self, ops):
         return [op for op in ops if self.has(op)]
 
 
+FROM, TO = f"0x{NUMERIC[0]:02x}", f"0x{NUMERIC[-1]:02x}"
+HALF = f"0x{SIMD_HALF:02x}"
 GROUPS = [
-    Group("one_byte", "VisitOneByte", "Own", "the operators with a one-byte opcode", "the operators with a one-byte opcode, except the numeric ones and the branch table", "Instructions."),
-    Group("numeric", "VisitNumeric", "Numeric", "the numeric operators", "the numeric operators with a one-byte opcode, 0x45 to 0xc4", "Numeric Instructions."),
-    Group("gc", "VisitGc", "Gc", "the operators with prefix 0xfb", "the operators with the prefix byte 0xfb", "Aggregate Instructions."),
-    Group("misc", "VisitMisc", "Misc", "the operators with prefix 0xfc", "the operators with the prefix byte 0xfc", "Numeric, Memory and Table Instructions."),
-    Group("atomic", "VisitAtomic", "Atomic", "the operators with prefix 0xfe", "the operators with the prefix byte 0xfe", "Proposal threads."),
-    Group("simd_low", "VisitSimdLow", "Simd", "the SIMD operators below 0x80", "the SIMD operators with a subopcode below 0x80", "Vector Instructions."),
-    Group("simd_high", "VisitSimdHigh", "Simd", "the SIMD operators from 0x80 on", "the SIMD operators with a subopcode of at least 0x80", "Vector Instructions."),
+    Group(
+        "one_byte", "VisitOneByte", "Own", "the operators with a one-byte opcode",
+        "the operators with a one-byte opcode, except the numeric ones and the branch table", "Instructions.",
+        given="alloc, self, reader, start, frame, code", condition=f"{FROM} ≤ code → code ≤ {TO} → ⊥",
+    ),
+    Group(
+        "numeric", "VisitNumeric", "Numeric", "the numeric operators",
+        f"the numeric operators with a one-byte opcode, {FROM} to {TO}", "Numeric Instructions.", given="self, code",
+    ),
+    Group(
+        "gc", "VisitGc", "Gc", "the operators with prefix 0xfb", "the operators with the prefix byte 0xfb",
+        "Aggregate Instructions.",
+    ),
+    Group(
+        "misc", "VisitMisc", "Misc", "the operators with prefix 0xfc", "the operators with the prefix byte 0xfc",
+        "Numeric, Memory and Table Instructions.",
+    ),
+    Group(
+        "atomic", "VisitAtomic", "Atomic", "the operators with prefix 0xfe", "the operators with the prefix byte 0xfe",
+        "Proposal threads.",
+    ),
+    Group(
+        "simd_low", "VisitSimdLow", "Simd", f"the SIMD operators below {HALF}",
+        f"the SIMD operators with a subopcode below {HALF}", "Vector Instructions.", condition=f"code < {HALF}",
+    ),
+    Group(
+        "simd_high", "VisitSimdHigh", "Simd", f"the SIMD operators from {HALF} on",
+        f"the SIMD operators with a subopcode of at least {HALF}", "Vector Instructions.", condition=f"{HALF} ≤ code",
+    ),
 ]
 FIXED = [group for group in GROUPS if group.enum != "Simd"]
 VECTORS = [group for group in GROUPS if group.enum == "Simd"]
-
-ONE_BYTE_OTHERS = " | ".join(["Operator::BrTable { targets: _ }"] + [f"Operator::{enum.group}(_)" for enum in held()])
 
 
 def signature(op, answer):
@@ -70,8 +105,7 @@ def ghost_uses(group):
     lines = ["ghost use Rattle.wasm_instr.specs.declared.operator.Operator.{Operator};"]
     for enum in held():
         if enum.group == group.enum:
-            part = enum.crate.removeprefix("wasm_instr_")
-            lines.append(f"ghost use Rattle.wasm_instr.specs.{part}.{enum.module}.{enum.type}.{{{enum.type}}};")
+            lines.append(f"ghost use Rattle.wasm_instr.specs.{enum.part}.{enum.module}.{enum.type}.{{{enum.type}}};")
     return lines
 
 
@@ -80,9 +114,8 @@ def braced(names):
 
 
 def naming(group):
-    given = {"one_byte": "alloc, self, reader, start, frame, code", "numeric": "self, code"}.get(group.module, "self, reader, start, code")
     low = group.module
-    methods = [(f"dispatch_{low}", f"dispatch::{low}(self, op)"), (f"decode_{low}", f"decode::{low}({given})")]
+    methods = [(f"dispatch_{low}", f"dispatch::{low}(self, op)"), (f"decode_{low}", f"decode::{low}({group.given})")]
     return methods + ([("decode_below_0x20", methods[1][1])] if low == "one_byte" else [])
 
 
@@ -124,11 +157,17 @@ def arm(op):
     return f"        {pattern} => {call}," if has_room else f"        {pattern} => {{ {call} }}"
 
 
+def one_byte_others(ops):
+    """Returns the patterns of the operators that are not in the group of one-byte operators."""
+    fields = [(op.name, ", ".join(f"{name}: _" for name, _ in op.fields)) for op in ops if op.borrows]
+    return " | ".join([f"Operator::{name} {{ {inner} }}" for name, inner in fields] + [f"Operator::{enum.group}(_)" for enum in held()])
+
+
 def group_dispatch(ops, group):
     param = "Operator<'_>" if group.enum == "Own" else type_name(group)
     told = "op.entry" if group.enum == "Own" else f"(Operator.{group.enum} op)"
-    wanted = {"one_byte": "IsOneByte", "simd_low": "IsSimdLow", "simd_high": "IsSimdHigh"}.get(group.module)
-    others = ONE_BYTE_OTHERS if group.enum == "Own" else "_"
+    wanted = f"Is{group.mark}" if group.condition else ""
+    others = one_byte_others(ops) if group.enum == "Own" else "_"
     return [
         "",
         f"/// Calls the visit of {singular(group.short).replace('SIMD operator', 'SIMD operator with a subopcode')}.",
@@ -145,7 +184,7 @@ def group_dispatch(ops, group):
 
 
 def dispatch(ops, groups):
-    wanted = ["IsOneByte"] if groups is FIXED else ["IsSimdHigh", "IsSimdLow"]
+    wanted = sorted(f"Is{group.mark}" for group in groups if group.condition)
     types = sorted({"Operator"} | {type_name(group) for group in groups}) if groups is FIXED else ["SimdOperator"]
     out = [
         f"//! {HEAD}",

@@ -4,7 +4,7 @@ from pathlib import Path
 import doc_examples
 import header
 import sections
-from table import table
+from table import shared, table
 
 TOP = Path(__file__).resolve().parent.parent.parent
 HEADER = (TOP / header.PATH).read_text(encoding="utf-8")
@@ -59,7 +59,7 @@ fn one() {}
 
     def test_meanings_of_fields(self):
         ops = table()
-        told = {op.name: header.meanings(op, ops) for op in ops}
+        told = {op.name: header.meanings(op, shared(ops)) for op in ops}
         self.assertEqual(told["Nop"], "")
         self.assertEqual(told["Br"], "first: label")
         self.assertEqual(told["MemoryCopy"], "first: target memory index; second: source memory index")

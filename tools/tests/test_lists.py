@@ -4,9 +4,10 @@ from pathlib import Path
 
 import layout
 from counts import wrong_counts
+from immediates import KINDS
 from lists import files, left_over, stale
 from rules import faults
-from table import COLUMNS, HEAD, KINDS, rows_of, table
+from table import COLUMNS, HEAD, rows_of, table
 
 # Prefix byte and proposal of the groups that may grow. There are 256 SIMD operators already.
 GROUPS = {"Own": ("", "mvp"), "Gc": ("fb", "gc"), "Misc": ("fc", "bulk_memory"), "Atomic": ("fe", "threads")}

@@ -5,8 +5,9 @@ import unittest
 from pathlib import Path
 
 import forwarding
+from immediates import KINDS
 from paths import crates
-from table import COLUMNS, KINDS, table
+from table import COLUMNS, FEATURES, INLINE, ROLES, table
 from visits import GROUPS
 
 TOP = Path(__file__).resolve().parent.parent.parent
@@ -91,8 +92,10 @@ class Architecture(unittest.TestCase):
 class Columns(unittest.TestCase):
     def test_each_column_and_kind_is_described(self):
         lines = section("docs/ADDING-AN-OPERATOR.md", "The columns of `tools/operators.tsv`")
-        described = [name for row in rows(lines) for name in re.findall(r"`(\w+)`", row[0])]
-        self.assertEqual(described, COLUMNS)
+        described = {name: row[1] for row in rows(lines) for name in re.findall(r"`(\w+)`", row[0])}
+        self.assertEqual(list(described), COLUMNS)
+        for column, values in {"role": ("role_of", *ROLES), "feature": FEATURES, "inline": (*INLINE, "wasm_view")}.items():
+            self.assertEqual(set(re.findall(r"`([^`]+)`", described[column])), set(values))
         kinds = re.search(r"The kinds are (.*?)\. ", "\n".join(lines))[1]
         self.assertEqual(set(re.findall(r"`(\w+)`", kinds)), set(KINDS))
 

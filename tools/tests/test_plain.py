@@ -1,7 +1,7 @@
 import unittest
 
 import plain
-from table import SHARED, table
+from table import shared, table
 
 
 class Plain(unittest.TestCase):
@@ -9,7 +9,9 @@ class Plain(unittest.TestCase):
         self.assertEqual(plain.unshaped(table()), [])
 
     def test_a_number_belongs_to_one_operator_but_for_the_two_of_a_select(self):
-        numbers = [plain.number(op) for op in table() if op.name != SHARED[1]]
+        ops = table()
+        _, second = shared(ops)
+        numbers = [plain.number(op) for op in ops if op is not second]
         self.assertEqual(len(numbers), len(set(numbers)))
 
 

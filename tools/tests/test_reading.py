@@ -3,7 +3,7 @@ import unittest
 
 import expected_reading as reading
 from original import originals
-from printed_fields import PRINTERS, printed_field_files
+from printed_fields import printed_field_files
 from table import table
 
 
@@ -111,9 +111,6 @@ class Wanted(unittest.TestCase):
 
 
 class Printed(unittest.TestCase):
-    def test_each_type_has_its_printer(self):
-        self.assertEqual({ty for op in table() for _, ty in op.fields}, set(PRINTERS))
-
     def test_each_operator_with_fields_is_printed(self):
         text = "".join(printed_field_files(table()).values())
         for op in table():

@@ -1,10 +1,14 @@
+import re
 import tempfile
 import unittest
 from pathlib import Path
 
+import expected_reading as reading
 from original import differences, originals, proposals
 from rules import faults
-from table import COLUMNS, PROPOSALS, SHARED, Operator, rows_of, table
+from table import COLUMNS, PROPOSALS, TOP, Operator, rows_of, shared, table
+
+SHARED = ("TypedSelect", "TypedSelectMulti")
 
 
 def faults_with(change):
@@ -14,6 +18,10 @@ def faults_with(change):
         path = Path(folder) / "operators.tsv"
         path.write_text("".join("\t".join(cells) + "\n" for cells in rows), encoding="utf-8")
         return [fault.removeprefix(f"{folder}/") for fault in faults(path)]
+
+
+def cells_of(**row):
+    return [row.get(column, "") for column in COLUMNS]
 
 
 def line_of(rows, name):
@@ -36,6 +44,7 @@ class Original(unittest.TestCase):
         for op in originals():
             found.setdefault((op.prefix, op.code), []).append(op.name)
         self.assertEqual([tuple(names) for names in found.values() if len(names) > 1], [SHARED])
+        self.assertEqual(tuple(op.name for op in shared(table())), SHARED)
 
     def test_table_is_the_original(self):
         self.assertEqual(differences(table()), [])
@@ -99,7 +108,8 @@ WRONG = [
     ("Br", "fields", "", "the immediates need fields of u32, and the fields are of none"),
     ("MemoryCopy", "fields", "mem: u32, mem: u32", "two fields are named mem"),
     ("Br", "immediates", "number", "the immediate 'number' is of no known kind"),
-    ("Br", "immediates", "branch_table", "only BrTable may have a branch table"),
+    ("Br", "immediates", "branch_table", "only the operator with visit_br_table may have a branch table"),
+    ("Br", "immediates", "unsigned,  , unsigned", "the immediate ' ' is of no known kind"),
     ("I32Load", "immediates", "memory", "memory is followed by one of Plain, Op, Rmw"),
     ("I32Load", "immediates", "memory Plain 5", "memory is followed by one of Plain, Op, Rmw"),
     ("I32Load", "immediates", "memory Simple 2", "memory is followed by one of Plain, Op, Rmw"),
@@ -110,7 +120,31 @@ WRONG = [
     ("Nop", "takes", "1 and an array", "does not have exactly one memory argument"),
     ("I32Load", "takes", "8 and an array", "takes more than 7 operands besides the array"),
     ("Nop", "visit", "visit_nop ", "a blank at the edge"),
+    ("Br", "writer", "one_number", "the writer 'one_number' is not one of indirect, reference_with_null, reference_without_null"),
+    ("Br", "writer", "indirect", "the writer indirect takes u32, u32, and the fields are of u32"),
+    ("Nop", "writer", "reference_with_null", "takes HeapType, and the fields are of none"),
+    ("Block", "role", "opens", "the role 'opens' is not one of opens block, opens loop,"),
+    ("Nop", "role", "plain", "the role 'plain' is not one of opens block, opens loop,"),
+    ("RefI31", "role", "ends", "only an operator with a one-byte opcode that is not numeric may have a role or a feature"),
+    ("I32Add", "feature", "LEGACY_EXCEPTIONS", "only an operator with a one-byte opcode that is not numeric may have a role or a feature"),
+    ("Try", "feature", "legacy_exceptions", "the feature 'legacy_exceptions' is not one of LEGACY_EXCEPTIONS"),
+    ("Nop", "inline", "decode", "'decode' is not one of decoder, decoder alone, view"),
+    ("Nop", "inline", "view, decoder", "not in the order decoder, decoder alone, view"),
+    ("Nop", "inline", "view, view", "not in the order decoder, decoder alone, view"),
+    ("Nop", "inline", "decoder, decoder alone", "in the arm of its kinds or in a separate arm, not in both"),
+    ("Else", "inline", "decoder", "the decoder has no inline arm for an operator that needs a frame or a feature"),
+    ("Try", "inline", "decoder alone", "the decoder has no inline arm for an operator that needs a frame or a feature"),
+    ("TryTable", "inline", "decoder", "the decoder has no inline arm for an operator that needs a frame or a feature, or may own or borrow"),
+    ("BrTable", "inline", "decoder", "the decoder has no inline arm for an operator that needs a frame or a feature, or may own or borrow"),
+    ("I32Add", "inline", "decoder", "only an operator with a one-byte opcode that is not numeric may be inline"),
+    ("RefI31", "inline", "view", "only an operator with a one-byte opcode that is not numeric may be inline"),
 ]
+
+
+VECTOR = {
+    "proposal": "simd", "name": "V128More", "text": "v128.more", "visit": "visit_v128_more", "prefix": "fd",
+    "code": "200", "takes": "0", "leaves": "0",
+}
 
 
 class Rules(unittest.TestCase):
@@ -138,20 +172,31 @@ class Rules(unittest.TestCase):
         found = faults_with(lambda rows: rows[0].reverse())
         self.assertEqual(found, [f"operators.tsv:1: the columns are {', '.join(COLUMNS)}"])
         found = faults_with(lambda rows: rows[3].pop())
-        self.assertEqual(found, ["operators.tsv:4: Block: 9 columns, and not 10"])
+        self.assertEqual(found, [f"operators.tsv:4: Block: {len(COLUMNS) - 1} columns, and not {len(COLUMNS)}"])
         found = faults_with(lambda rows: rows.insert(1, []))
         self.assertIn("operators.tsv:2: a row with no name: ", found[0])
 
+    def test_only_two_share_a_code(self):
+        one = {"text": "trial", "proposal": "mvp", "code": "16", "takes": "by rule", "leaves": "by rule"}
+        first = one | {"name": "TrialOne", "visit": "visit_trial_one", "fields": "ty: ValType", "immediates": "one_type"}
+        second = one | {"name": "Trials", "visit": "visit_trials", "fields": "tys: SelectTypes", "immediates": "types"}
+
+        def change(rows):
+            rows.extend([cells_of(**first), cells_of(**second)])
+
+        found = faults_with(change)
+        self.assertEqual(len(found), 1)
+        self.assertIn("Trials: the code is already used by TrialOne, line 630", found[0])
+
     def test_too_many_variants(self):
         def change(rows):
-            rows.append(["simd", "V128More", "v128.more", "visit_v128_more", "fd", "200", "", "", "0", "0"])
+            rows.append(cells_of(**VECTOR))
 
         self.assertIn("has 257 variants", faults_with(change)[0])
 
     def test_lists_in_large_enums(self):
         def change(rows):
-            row = ["simd", "V128More", "v128.more", "visit_v128_more", "fd", "200", "tys: SelectTypes", "types", "0", "0"]
-            rows[line_of(rows, "I8x16Add")] = row
+            rows[line_of(rows, "I8x16Add")] = cells_of(**VECTOR, fields="tys: SelectTypes", immediates="types")
 
         self.assertIn("an enum with a list has at most 128 variants", faults_with(change)[0])
 
@@ -161,3 +206,51 @@ class Rules(unittest.TestCase):
             rows[2][0] = "mpv"
 
         self.assertEqual(len(faults_with(change)), 2)
+
+
+def lines_of(path):
+    return (TOP / "crates" / path).read_text(encoding="utf-8").splitlines()
+
+
+def by_name(path, definition):
+    """Returns what a definition by cases gives for each operator with a case."""
+    cases = (re.match(rf"{definition} \(?operator\.(\w+)[^=]*= (.*)", line) for line in lines_of(path))
+    return {case[1]: case[2] for case in cases if case}
+
+
+def codes_of(path, definition):
+    (line,) = [line for line in lines_of(path) if line.startswith(f"{definition} opcode = ")]
+    return {int(code, 16) for code in re.findall("0x([0-9a-f]+)", line)}
+
+
+class Columns(unittest.TestCase):
+    """Compares columns with definitions and expectations that are written by hand."""
+
+    ops = table()
+
+    def codes(self, *roles):
+        return {op.code for op in self.ops if op.role.startswith(roles)}
+
+    def test_roles(self):
+        cases = by_name("wasm_instr/specs/Roles.antt", "role_of").items()
+        wanted = {name: " ".join(role.split(" (")[0].split()[: 2 if role.startswith("opens ") else 1]) for name, role in cases}
+        self.assertEqual({op.name: op.role for op in self.ops if op.role}, wanted)
+        self.assertEqual(len(wanted), 10)
+
+    def test_roles_of_lines(self):
+        path = "wasm_lines/specs/Lines.antt"
+        self.assertEqual(codes_of(path, "opens"), self.codes("opens"))
+        self.assertEqual(codes_of(path, "closes"), self.codes("ends", "delegates"))
+        self.assertEqual(codes_of(path, "is_outside"), self.codes("turns", "ends", "delegates"))
+
+    def test_guards(self):
+        guards = by_name("wasm_decode_opcodes/specs/Entry.antt", "guard_of")
+        self.assertEqual({op.name: f"Some guard.{op.name}" for op in self.ops if op.has_guard}, guards)
+        framed = [fields.split()[0] for _, fields, *_ in reading.FRAMED]
+        self.assertEqual({op.name for op in self.ops if op.role.startswith(("turns", "delegates"))}, set(framed))
+
+    def test_features(self):
+        enabled = by_name("wasm_instr/specs/Encoding.antt", "IsEnabled f")
+        wanted = {name: claim.removeprefix("HasFeature ").removesuffix(" f").upper() for name, claim in enabled.items()}
+        self.assertEqual({op.name: op.feature for op in self.ops if op.feature}, wanted)
+        self.assertEqual({op.text for op in self.ops if op.feature}, {name for _, name in reading.LEGACY})
