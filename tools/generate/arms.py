@@ -89,11 +89,8 @@ def alone(ops, group):
 
 
 def by_alignment(part):
-    """Returns a part's operators. The last one, if possible, differs in alignment from the first and the last code.
-
-    Otherwise the arm `_` returns the same as the codes at an end of the range. The compiler then keeps a jump for
-    these codes, and the first of them, `i32.load`, takes it.
-    """
+    """Returns a part's operators. The last one, if possible, differs in alignment from those at both ends: else the
+    compiler keeps a jump, which `i32.load` takes."""
     ends = {part.ops[0].align, part.ops[-1].align}
     last = next((op for op in reversed(part.ops) if op.align not in ends), part.ops[-1])
     return [*[op for op in part.ops if op is not last], last]
