@@ -15,7 +15,7 @@ use Rattle.wasm_module.specs.declared.preamble.Preamble.{Preamble}
 use Rattle.wasm_module.specs.declared.preamble.PreambleKind.{PreambleKind}
 use Rattle.wasm_module.specs.declared.preamble.PreambleKind.TheVariants as kind
 use Rattle.wasm_functions.specs.Items.{ItemsOccur}
-use Rattle.wasm_functions.specs.Parameters.{AreKnownTypes, Announces, RecTypesOccur, CountsParameters}
+use Rattle.wasm_functions.specs.Parameters.{IsKnownType, AreKnownTypes, Announces, RecTypesOccur, CountsParameters}
 use Rattle.wasm_functions.specs.Sections.{BeginsModule, SectionsOccur, IsSection}
 use Rattle.wasm_functions.specs.ModuleFunctions.{IsKnownImport, CountsImports, ListsTypes}
 use Rattle.wasm_functions.specs.declared.fault.ModuleFault.{ModuleFault}
@@ -97,13 +97,13 @@ pub record HasSubTypesTo (n : ℕ) (r next : Reader) : Type 0 where
   pub fewer : length types < n
   pub known : AreKnownTypes types
 
--- The next of `n` sub types is in error, or of no known sort (its byte and offset); or allocation
--- for it failed.
+-- The next of `n` sub types is in error, or of no known sort (its byte and offset); or it is of a
+-- known sort and allocation for it failed.
 abbrev pub SubTypesFault : ModuleFault → ℕ → Reader → Type 0
 SubTypesFault (fault.Refused e) n r = (next : Reader) × HasSubTypesTo n r next × IsRefusedAs EncodesSubType SubTypeFault e next
 SubTypesFault (fault.TypeKind byte offset) n r =
     (next : Reader) × HasSubTypesTo n r next × (offset ≡ offset_of next) × (after : Reader) × Reads EncodesSubType (Ok (composite.Other byte)) next after
-SubTypesFault fault.Memory n r = (next : Reader) × HasSubTypesTo n r next × (ty : CompositeType) × (after : Reader) × Reads EncodesSubType (Ok ty) next after
+SubTypesFault fault.Memory n r = (next : Reader) × HasSubTypesTo n r next × (ty : CompositeType) × (after : Reader) × Reads EncodesSubType (Ok ty) next after × IsKnownType ty
 SubTypesFault _ n r = ⊥
 
 abbrev pub AnnouncedFault : ModuleFault → Reader → Type 0

@@ -64,4 +64,5 @@ returns-then-is_err-clause-fault c =
     let h = c.loop-ty.invariant in
     let fewer : length h.0 < c.args.len = let so = h.2 in let test = c.loop-ty-test.true in omega (arith, so, test) in
     let occur = sub_types_to c.args.len c.args.reader.now c.loop-ty.reader h.0 h.1 fewer h.3 in
-    (c.loop-ty.reader, occur, c.in-Ok.ty, c.read.new.reader, c.in-Ok.ensures.reads)
+    let known : IsKnownType c.in-Ok.ty = search rules in
+    (c.loop-ty.reader, occur, c.in-Ok.ty, c.read.new.reader, c.in-Ok.ensures.reads, known)
