@@ -80,9 +80,9 @@ reads_nothing r bytes offset features at found =
     (λ input is. absurd (cc is)) found
 
 -- The text of the operator that was read from the bytes at the offset.
-pub text_found : (text_of : Operator → List ℕ) (Refuses : WasmRefusal → Reader → ℕ → Type 0) (r : WasmRefusal) (ahead : Reader) (bytes : List ℕ) (offset features at count_old count_new : ℕ)
-    (old new : List ℕ) → FindsBytes (some_bytes ahead) bytes offset features at → FindsText text_of Refuses r ahead at count_old count_new old new →
-    ReturnsTextAt text_of Refuses r bytes offset features at count_old count_new old new
+pub text_found : (text_of : Operator → List ℕ) (Refuses : WasmRefusal → Reader → Type 0) (r : WasmRefusal) (ahead : Reader) (bytes : List ℕ)
+    (offset features at count_old count_new : ℕ) (old new : List ℕ) → FindsBytes (some_bytes ahead) bytes offset features at →
+    FindsText text_of Refuses r ahead at count_old count_new old new → ReturnsTextAt text_of Refuses r bytes offset features at count_old count_new old new
 text_found text_of Refuses r ahead bytes offset features at count_old count_new old new found text =
     at_offset (λ number place. some_bytes ahead ≡ Err (misuse number place)) (λ number place. (r ≡ misuse number place) × Unchanged count_old count_new old new)
     (λ input. some_bytes ahead ≡ Ok input) (λ input. FindsText text_of Refuses r input at count_old count_new old new) bytes offset features at
@@ -90,8 +90,9 @@ text_found text_of Refuses r ahead bytes offset features at count_old count_new 
     (λ input is. subst (λ i. FindsText text_of Refuses r i at count_old count_new old new) (ap (reader_in ahead) is) text) found
 
 -- There are no bytes at the offset, and so no text.
-pub text_nowhere : (text_of : Operator → List ℕ) (Refuses : WasmRefusal → Reader → ℕ → Type 0) (r : WasmRefusal) (bytes : List ℕ) (offset features at count : ℕ) (old : List ℕ) →
-    FindsBytes (no_bytes r) bytes offset features at → ReturnsTextAt text_of Refuses r bytes offset features at count count old old
+pub text_nowhere : (text_of : Operator → List ℕ) (Refuses : WasmRefusal → Reader → Type 0) (r : WasmRefusal) (bytes : List ℕ)
+    (offset features at count : ℕ) (old : List ℕ) → FindsBytes (no_bytes r) bytes offset features at →
+    ReturnsTextAt text_of Refuses r bytes offset features at count count old old
 text_nowhere text_of Refuses r bytes offset features at count old found =
     at_offset (λ number place. no_bytes r ≡ Err (misuse number place)) (λ number place. (r ≡ misuse number place) × Unchanged count count old old)
     (λ input. no_bytes r ≡ Ok input) (λ input. FindsText text_of Refuses r input at count count old old) bytes offset features at
@@ -102,17 +103,17 @@ pub text_there : (kind : FrameKind) (op : Operator) (ahead : Reader) → PeeksOp
 text_there kind op ahead (after, (text, encodes, takes)) = (text, rest after, takes.parts, encodes.0)
 
 -- A read that failed in the frame for the operator.
-pub no_text_there : (kind : FrameKind) (e : Error) (r : WasmRefusal) (ahead : Reader) (at : ℕ) → kind ≡ frame_for (rest ahead) →
-    PeeksOperator (Some kind) (Err e) ahead → r ≡ refusal_of e → RefusesTextName r ahead at
-no_text_there kind e r ahead at same (after, (unmoved, refused, fault)) is = (
+pub no_text_there : (kind : FrameKind) (e : Error) (r : WasmRefusal) (ahead : Reader) → kind ≡ frame_for (rest ahead) →
+    PeeksOperator (Some kind) (Err e) ahead → r ≡ refusal_of e → RefusesTextName r ahead
+no_text_there kind e r ahead same (after, (unmoved, refused, fault)) is = (
   e,
   is,
   subst (λ k. RefusesOperator (EncodesAllowed ahead.features k) (OperatorFault ahead.features k) e ahead ahead) same (refl, refused, fault),
 )
 
 -- The text of the operator that was read.
-pub text_placed : (text_of : Operator → List ℕ) (Refuses : WasmRefusal → Reader → ℕ → Type 0) (op : Operator) (text : List ℕ) (r : WasmRefusal) (ahead : Reader) (at count_old count_new : ℕ)
-    (old new : List ℕ) → OccursThere ahead op → text ≡ text_of op → PlacesText text at r count_new old new →
+pub text_placed : (text_of : Operator → List ℕ) (Refuses : WasmRefusal → Reader → Type 0) (op : Operator) (text : List ℕ) (r : WasmRefusal) (ahead : Reader)
+    (at count_old count_new : ℕ) (old new : List ℕ) → OccursThere ahead op → text ≡ text_of op → PlacesText text at r count_new old new →
     FindsText text_of Refuses r ahead at count_old count_new old new
 text_placed text_of Refuses op text r ahead at count_old count_new old new occurs same placed =
     inl (op, occurs, subst (λ t. PlacesText t at r count_new old new) same placed)

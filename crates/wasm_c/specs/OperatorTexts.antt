@@ -34,21 +34,21 @@ PlacesText text at r count old new = (count ≡ length text) ×
     ((length old < length text) × (r ≡ misuse 102 at) × (new ≡ old)))
 
 -- Reading an operator here fails with this error.
-abbrev pub RefusesTextName : WasmRefusal → Reader → ℕ → Type 0
-RefusesTextName r input at =
+abbrev pub RefusesTextName : WasmRefusal → Reader → Type 0
+RefusesTextName r input =
     (e : Error) × (r ≡ refusal_of e) × RefusesOperator (EncodesAllowed input.features (frame_for (rest input))) (OperatorFault input.features (frame_for (rest input))) e input input
 
--- As `RefusesTextName`; or allocation for the operator's text fails.
-abbrev pub RefusesText : WasmRefusal → Reader → ℕ → Type 0
-RefusesText r input at = RefusesTextName r input at ⊎ ((op : Operator) × OccursThere input op × (r ≡ out_of_memory at))
+-- As `RefusesTextName`; or allocation for the operator's text fails, which is reported at `at`.
+abbrev pub RefusesText : ℕ → WasmRefusal → Reader → Type 0
+RefusesText at r input = RefusesTextName r input ⊎ ((op : Operator) × OccursThere input op × (r ≡ out_of_memory at))
 
 -- The text of the operator here is written. If there is none, nothing changes.
-abbrev pub FindsText : (Operator → List ℕ) → (WasmRefusal → Reader → ℕ → Type 0) → WasmRefusal → Reader → ℕ → ℕ → ℕ → List ℕ → List ℕ → Type 0
+abbrev pub FindsText : (Operator → List ℕ) → (WasmRefusal → Reader → Type 0) → WasmRefusal → Reader → ℕ → ℕ → ℕ → List ℕ → List ℕ → Type 0
 FindsText text_of Refuses r input at count_old count_new old new =
-    ((op : Operator) × OccursThere input op × PlacesText (text_of op) at r count_new old new) ⊎ (Refuses r input at × Unchanged count_old count_new old new)
+    ((op : Operator) × OccursThere input op × PlacesText (text_of op) at r count_new old new) ⊎ (Refuses r input × Unchanged count_old count_new old new)
 
 -- A call for the text of the operator at an offset.
-abbrev pub ReturnsTextAt : (Operator → List ℕ) → (WasmRefusal → Reader → ℕ → Type 0) → WasmRefusal → List ℕ → ℕ → ℕ → ℕ → ℕ → ℕ → List ℕ → List ℕ → Type 0
+abbrev pub ReturnsTextAt : (Operator → List ℕ) → (WasmRefusal → Reader → Type 0) → WasmRefusal → List ℕ → ℕ → ℕ → ℕ → ℕ → ℕ → List ℕ → List ℕ → Type 0
 ReturnsTextAt text_of Refuses r bytes offset features at count_old count_new old new =
     AtOffset (λ number place. (r ≡ misuse number place) × Unchanged count_old count_new old new)
     (λ input. FindsText text_of Refuses r input at count_old count_new old new) bytes offset features at

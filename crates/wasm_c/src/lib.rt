@@ -359,7 +359,7 @@ pub fn wasm_operator_text(
     refusal: &mut WasmRefusal,
 ) -> u32
     ensures outcome { result ≡ refusal.new.number }
-    ensures text { ReturnsTextAt text_of RefusesText refusal.new bytes.now offset features at length.old length.new text.old text.new }
+    ensures text { ReturnsTextAt text_of (RefusesText at) refusal.new bytes.now offset features at length.old length.new text.old text.new }
 {
     *refusal = write_text_at(alloc, bytes, offset, features, at, text, length);
     refusal.number

@@ -64,7 +64,7 @@ fn write_text_ahead(
     out: &mut [u8],
     length: &mut usize,
 ) -> WasmRefusal
-    ensures { FindsText text_of RefusesText result ahead.now at length.old length.new out.old out.new }
+    ensures { FindsText text_of (RefusesText at) result ahead.now at length.old length.new out.old out.new }
 {
     let stack = InFrame {
         kind: frame_for(ahead),
@@ -108,7 +108,7 @@ pub fn write_text_at(
     out: &mut [u8],
     length: &mut usize,
 ) -> WasmRefusal
-    ensures { ReturnsTextAt text_of RefusesText result bytes.now offset features at length.old length.new out.old out.new }
+    ensures { ReturnsTextAt text_of (RefusesText at) result bytes.now offset features at length.old length.new out.old out.new }
 {
     match bytes_from(bytes, offset, features, at) {
         Ok(ahead) => write_text_ahead(alloc, &ahead, at, out, length),

@@ -12,4 +12,4 @@ returns-in-Ok c =
 
 pub returns-in-Err : goal.returns-in-Err
 returns-in-Err c =
-    inr (no_text_there c.frame_for.result c.in-Err.error c.of.result c.args.ahead.now c.args.at c.frame_for.ensures c.in-Err.ensures c.of.ensures, (refl, refl))
+    inr (no_text_there c.frame_for.result c.in-Err.error c.of.result c.args.ahead.now c.frame_for.ensures c.in-Err.ensures c.of.ensures, (refl, refl))
