@@ -301,7 +301,8 @@ pub extern "C" fn wasm_operator_text(
     refusal: &mut WasmRefusal,
 ) -> u32
     ensures outcome { result ≡ refusal.new.number }
-    ensures text { ReturnsTextAt text_of (RefusesText at) refusal.new bytes.now offset features at length.old length.new text.old text.new }
+    ensures text { ReturnsTextAt text_of (RefusesText at)
+        refusal.new bytes.now offset features at length.old length.new text.old text.new }
 {
     wasm_c::wasm_operator_text(alloc, bytes, offset, features, at, text, length, refusal)
 }
