@@ -95,7 +95,7 @@ abbrev pub IsSectionFault : Fault → Type 0
 IsSectionFault (fault.Section e) = Unit {0}
 IsSectionFault f = IsHalt f
 
--- The name of a module, or no bytes.
+-- A module's name; empty if it has none or is no module.
 abbrev pub IsNameOf : Reader → List ℕ → Type 0
 IsNameOf whole name =
     ((sections : List SectionParts) → IsModule whole sections → NamesModule whole name) ×

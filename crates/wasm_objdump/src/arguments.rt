@@ -93,7 +93,7 @@ fn choice_of(word: String) -> Choice {
     }
 }
 
-/// Reads the value of an option that takes one.
+/// Reads `word` as the value of the option `next`.
 fn read_value(mut options: Options, next: Next, word: String) -> Result<Options, Mistake> {
     match next {
         Next::Features => match features_of(Some(word.as_str())) {
