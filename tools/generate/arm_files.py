@@ -370,7 +370,7 @@ def prefixed_proof(ops, group):
         body += [f"pub {goal} : goal.{goal}", f"{goal} g c = {names[-1]} c.args.code (λ h. grind (arith, h))", ""]
         body += ["pub returns-in_default : goal.returns-in_default", "returns-in_default g c k = (refl, c.unknown_subopcode.ensures k)", ""]
         return group_proof(path, body, names)
-    told = "c.has_no_immediates.ensures.exact"
+    exact = "c.has_no_immediates.ensures.exact"
     (bare,) = [part for part in parts(ops, group) if part.has_table]
     names.append(f"{bare.lemma}_arm")
     if those:
@@ -378,13 +378,13 @@ def prefixed_proof(ops, group):
         last = next(line for line in reversed(body) if line.startswith("pub arm-requires-")).split()[1]
         at = body.index(f"pub {last} : goal.{last}")
         goal = "arm-requires-in_default-clause-kinds"
-        left = f"others c.args.code (omega (arith, c.requires.half)) (sym {told} ∙ c.if-has_no_immediates.false)"
+        left = f"others c.args.code (omega (arith, c.requires.half)) (sym {exact} ∙ c.if-has_no_immediates.false)"
         body[at:at + 2] = [f"pub {goal} : goal.{goal}", f"{goal} g c = let h = {left} in {names[-2]} c.args.code (grind (arith, h)) (grind (arith, h))"]
     first = "arm-requires-clause-kinds"
     body += [f"pub {first} : goal.{first}", f"{first} g c = {names[-1]} c.args.code (c.has_no_immediates.ensures.without c.if-has_no_immediates.true)", ""]
     if not those:
         goal = "unknown_subopcode-requires-clause-unknown"
-        body += [f"pub {goal} : goal.{goal}", f"{goal} g c = no_operator c.args.code c.requires.half (sym {told} ∙ c.if-has_no_immediates.false)", ""]
+        body += [f"pub {goal} : goal.{goal}", f"{goal} g c = no_operator c.args.code c.requires.half (sym {exact} ∙ c.if-has_no_immediates.false)", ""]
         body += ["pub returns : goal.returns", "returns g c k = (refl, c.unknown_subopcode.ensures k)", ""]
     return group_proof(path, body, names)
 

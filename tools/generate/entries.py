@@ -60,7 +60,7 @@ def entry_lists(ops):
     return "\n".join([*head, "", text, ""])
 
 
-def entries_told(ops):
+def entries_agree(ops):
     body = []
     for enum in held():
         those = [op for op in ops if op.group == enum.group]
@@ -101,5 +101,5 @@ def entries_told(ops):
 def entry_files(ops):
     return {
         "crates/wasm_decode_opcodes/specs/Entries.antt": entry_lists(ops),
-        "crates/wasm_decode_opcodes/proofs/EntriesAgree.antt": entries_told(ops),
+        "crates/wasm_decode_opcodes/proofs/EntriesAgree.antt": entries_agree(ops),
     }

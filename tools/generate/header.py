@@ -33,15 +33,15 @@ PLACES = ("first", "second", "third")
 
 def meaning(op):
     names = [name for name, _ in op.fields]
-    told, used = [], 0
+    parts, used = [], 0
     for kind, immediate in zip(op.kinds, op.immediates):
         if KINDS[kind].is_index:
-            name = names[len(told)]
-            told.append(f"{PLACES[used]}: {INDICES.get(name, name.replace('_', ' '))}")
+            name = names[len(parts)]
+            parts.append(f"{PLACES[used]}: {INDICES.get(name, name.replace('_', ' '))}")
             used += 1
         else:
-            told.append(KINDS[kind].held.format(align=immediate.split()[-1], next=PLACES[used]))
-    return "; ".join(told)
+            parts.append(KINDS[kind].held.format(align=immediate.split()[-1], next=PLACES[used]))
+    return "; ".join(parts)
 
 
 def meanings(op, pair):

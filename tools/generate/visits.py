@@ -165,7 +165,7 @@ def one_byte_others(ops):
 
 def group_dispatch(ops, group):
     param = "Operator<'_>" if group.enum == "Own" else type_name(group)
-    told = "op.entry" if group.enum == "Own" else f"(Operator.{group.enum} op)"
+    operator = "op.entry" if group.enum == "Own" else f"(Operator.{group.enum} op)"
     wanted = f"Is{group.mark}" if group.condition else ""
     others = one_byte_others(ops) if group.enum == "Own" else "_"
     return [
@@ -173,7 +173,7 @@ def group_dispatch(ops, group):
         f"/// Calls the visit of {singular(group.short).replace('SIMD operator', 'SIMD operator with a subopcode')}.",
         f"pub fn {group.module}<V: {group.trait}>(v: &mut V, op: {param}) -> V::Output",
         *([f"    requires {{ {wanted} op }}"] if wanted else []),
-        f"    ensures {{ V.visits v.old {told} result v.new }}",
+        f"    ensures {{ V.visits v.old {operator} result v.new }}",
         "{",
         "    match op {",
         *[arm(op) for op in group.of(ops)],
