@@ -31,6 +31,7 @@ from plain import plain_files, unshaped
 from printed import made_source, values_source
 from printed_fields import printed_field_files
 from proposals import proposal_files
+from routes import route_files
 from rows import enum_by_opcode, enum_rows, equality_answer, operator_rows, operators_by_opcode
 from rules import faults
 from source import Shape, enum_source, operator_source
@@ -61,6 +62,7 @@ def files(ops):
     out |= decode_files(ops)
     out |= arm_files(ops)
     out |= visit_files(ops)
+    out |= route_files()
     out["crates/wasm_tests_lists/src/values.rt"] = values_source(ops)
     out["crates/wasm_tests_lists/src/made.rt"] = made_source(ops)
     out |= printed_field_files(ops)

@@ -29,12 +29,12 @@ def read_types(crate):
 def source(ops, group):
     text = group_text(ops, group)
     is_own = group.enum == "Own"
-    prelude = [f"◌{it}◌" for it in "≡≤<" if f" {it} " in text] + named(["[]"], text) + (["◌∷◌"] if " ∷ " in text else [])
-    prelude += ["None" if is_own else "Some", *named(["IfSome", "IfNone"], text)]
+    prelude = [f"◌{it}◌" for it in "≡≤<" if f" {it} " in text] + (["[]"] if " [] " in text else named(["[]"], text)) + (["◌∷◌"] if " ∷ " in text else [])
+    prelude += ["Some" if group.prefix else "None", *named(["IfSome", "IfNone"], text)]
     words = named(ROW_WORDS + KIND_WORDS, "\n".join(line for line in text.split("\n") if "{ " in line))
     words = [it for it in words if it.startswith("is_")]
-    marks = [it.mark for it in GROUPS if it.has_arms and it.module != "one_byte"]
-    here = named(["At", "ByAny", "Maker", "Makes", "Own", "arm", *marks], text)
+    marks = [it.mark for it in GROUPS if it.module != "one_byte"]
+    here = named(["At", "Maker", "Makes", "arm", *marks], text)
     opcodes = named([*read_types("wasm_decode_opcodes"), "Guard", "Only", "unknown_opcode", "unknown_subopcode"], text)
     imm = named(sorted([*read_types("wasm_imm"), "MemArgKind"]), text)
     below = named(sorted([*read_types("wasm_below"), "BinaryReader", "Result"]), text)
@@ -42,9 +42,9 @@ def source(ops, group):
     lines = [
         f"//! Decoding of {group.short.removeprefix('the ')}. {HEAD}",
         f"ghost use Rattle.std.specs.Prelude.{{{', '.join(prelude)}}};",
-        "ghost use Rattle.wasm_grammar.specs.declared.frame_kind.FrameKind.{FrameKind};",
+        *(["ghost use Rattle.wasm_grammar.specs.declared.frame_kind.FrameKind.{FrameKind};"] if "FrameKind" in text else []),
         *([f"ghost use Rattle.wasm_instr.specs.Immediate.{{{', '.join(words)}}};"] if words else []),
-        "ghost use Rattle.wasm_decode_opcodes.specs.Decoding.{DecodesAt, IsAfterCode};",
+        f"ghost use Rattle.wasm_decode_opcodes.specs.Decoding.{{{', '.join(named(['DecodesAt', 'IsAfterCode', 'VisitsRow'], text))}}};",
         *(["ghost use Rattle.wasm_decode_opcodes.specs.Entries.{align_at};"] if "align_at" in text else []),
         *([f"ghost use Rattle.wasm_decode_groups.specs.Arms.{{{', '.join(specs)}}};"] if specs else []),
         *(["ghost use Rattle.wasm_decode_groups.specs.OneByte.{IsOneByteCode};"] if is_own else []),
@@ -52,11 +52,11 @@ def source(ops, group):
         f"use crate::arm::{{{', '.join(sorted(here))}}};",
         *(["use crate::one_byte_arms::{AtList, OneByte, guarded_arm, list_arm};", "use crate::out_of_line::other_one_byte_by;", "use std::alloc::Global;", "use wasm_grammar::FrameKind;"] if is_own else []),
         *(["use crate::vectors_without_immediates::has_no_immediates;"] if "has_no_immediates(" in text else []),
-        f"use wasm_below::{{{', '.join(below)}}};",
+        *([f"use wasm_below::{{{', '.join(below)}}};"] if below else []),
         *([f"use wasm_imm::{{{', '.join(imm)}}};"] if imm else []),
         f"use wasm_instr::{{{type_name(group)}}};",
         *([f"use wasm_decode_opcodes::{{{', '.join(sorted(opcodes))}}};"] if opcodes else []),
-        f"use wasm_visit_groups::{{{group.trait}, Visitor}};",
+        f"use wasm_visit_groups::{{{', '.join([*named(['ByAny', 'Own'], text), group.trait, 'Visitor'])}}};",
         "",
     ]
     return "\n".join([*lines, text])
@@ -79,7 +79,7 @@ def ranges(codes):
 
 
 def entries_name(part):
-    return "opcode_entries" if part.is_own else f"{type_name(part.group).removesuffix('Operator').lower()}_entries"
+    return "opcode_entries" if part.place == "None" else f"{type_name(part.group).removesuffix('Operator').lower()}_entries"
 
 
 def codes_lemma(part):
@@ -170,14 +170,14 @@ def simd_lemmas(ops):
 
 
 def codes_file(ops):
-    groups = [group for group in GROUPS if group.has_arms]
     body = []
-    for key in dict.fromkeys(part.key for group in groups for part in parts(ops, group)):
+    for key in dict.fromkeys(part.key for group in GROUPS for part in parts(ops, group)):
         body += test(test_name(key), kinds(key, "align"))
-    for group in groups:
+    for group in GROUPS:
         for part in parts(ops, group):
-            body += codes_lemma(part) + arm_lemmas(part)
-        if group.enum != "Simd":
+            # a numeric operator is known by its opcode's range
+            body += (codes_lemma(part) if group.enum != "Numeric" else []) + arm_lemmas(part)
+        if group.enum not in ("Simd", "Numeric"):
             body += unknown_lemma(ops, group)
         if group.enum == "Own":
             body += list_lemmas(ops)
@@ -212,6 +212,8 @@ def made(part, op, value):
 def last_code(part, given):
     """Returns the start of the proof for the last code of a part."""
     goal = "returns" if part.is_one else "returns-in_default"
+    if part.group.enum == "Numeric":
+        return [f"pub {goal} : goal.{goal}", f"{goal} {given} =", f"    let same : {part.ops[-1].hex()} ≡ c.args.code = omega (arith, c.requires.group.0, c.requires.group.1) in"]
     # a maker or a visit of one operator does not use the code
     code = "c.args._code" if part.is_one else "c.args.code"
     bound, also = [], ""
@@ -248,7 +250,7 @@ def proof(part, path, lines):
         *(["use Rattle.wasm_decode_opcodes.specs.Decoding.{VisitsRow}"] if "VisitsRow" in text else []),
         *(["use Rattle.wasm_decode_opcodes.specs.Entries.{align_at}"] if "align_at" in text else []),
         *(["use Rattle.wasm_decode_groups.specs.Arms.{IsRow}"] if "IsRow" in text else []),
-        f"use Rattle.wasm_decode_groups.proofs.Codes.{{{part.lemma}_codes}}",
+        *([f"use Rattle.wasm_decode_groups.proofs.Codes.{{{part.lemma}_codes}}"] if "_codes " in text else []),
         f"use Rattle.wasm_decode_groups.proofs.{path}.Goals as goal",
         "",
         text,
@@ -405,6 +407,14 @@ def one_byte_proofs(ops, group):
     }
 
 
+def numeric_proof(part):
+    """Returns the proof that numeric opcodes have no immediates."""
+    path, goal = "numeric_operators.numeric_by", "at-requires-clause-kinds"
+    lemma = f"{part.lemma}_{part.ops[0].hex()[2:]}"
+    body = [f"pub {goal} : goal.{goal}", f"{goal} g c = ap entry_kinds ({lemma} c.args.code c.requires.from c.requires.to).0", ""]
+    return {path: group_proof(path, body, [lemma])}
+
+
 def folder_of(key):
     if not key:
         return "Unit"
@@ -416,7 +426,10 @@ def folder_of(key):
 
 def proofs(ops, group):
     module, mark = f"{group.module}_operators", group.mark
-    out = one_byte_proofs(ops, group) if group.enum == "Own" else {f"{module}.{group.module}_by": prefixed_proof(ops, group)}
+    if group.enum == "Numeric":
+        out = numeric_proof(parts(ops, group)[0])
+    else:
+        out = one_byte_proofs(ops, group) if group.enum == "Own" else {f"{module}.{group.module}_by": prefixed_proof(ops, group)}
     for part in parts(ops, group):
         at = f"{module}.OwnAt{mark}{folder_of(part.key)}.at"
         make = f"{module}.MakerMakes{mark}{folder_of(part.key)}.make"
@@ -431,7 +444,6 @@ def proofs(ops, group):
 def arm_files(ops):
     out = {f"{CRATE}/proofs/Codes.antt": codes_file(ops)}
     for group in GROUPS:
-        if group.has_arms:
-            out[f"{CRATE}/src/{group.module}_operators.rt"] = source(ops, group)
-            out |= {f"{CRATE}/proofs/{path.replace('.', '/')}/Answers.antt": text for path, text in proofs(ops, group).items()}
+        out[f"{CRATE}/src/{group.module}_operators.rt"] = source(ops, group)
+        out |= {f"{CRATE}/proofs/{path.replace('.', '/')}/Answers.antt": text for path, text in proofs(ops, group).items()}
     return out

@@ -2,7 +2,7 @@
 
 from immediates import FORMS, kinds_term
 from parts import run_pattern, runs, title
-from table import doc, singular
+from table import NUMERIC, doc, singular
 from visits import type_name
 
 # The common operators with a one-byte opcode are inlined.
@@ -58,7 +58,7 @@ class Part:
 
     @property
     def is_bounded(self):
-        """Returns whether operators of other groups have the same kinds of immediates."""
+        """Returns whether operators of other groups with the same prefix have the same kinds of immediates."""
         return not self.key and self.group.condition != ""
 
     @property
@@ -330,9 +330,34 @@ def one_byte(ops, those, group):
     ]
 
 
+def numeric_head(name, params, text):
+    return [
+        *doc(text),
+        "#[inline(always)]",
+        f"pub fn {name}<{params}>(v: &mut V, code: u8) -> V::Output",
+        f"    requires from {{ 0x{NUMERIC[0]:02x} ≤ code }}",
+        f"    requires to {{ code ≤ 0x{NUMERIC[-1]:02x} }}",
+        "    ensures { VisitsRow V.visits None code [] v.old result v.new }",
+        "{",
+    ]
+
+
+def numeric(group):
+    """Returns the functions of the numeric operators, which have no immediates."""
+    return [
+        *numeric_head("numeric", f"V: {group.trait}", "Visits the numeric operator with this opcode."),
+        "    numeric_by::<V, Own>(v, code)", "}", "",
+        *numeric_head("numeric_by", f"V: Visitor, R: At<V, {group.mark}, ()>", "Passes the numeric operator with this opcode to `R`."),
+        "    R::at(v, code as u32, ())", "}", "",
+    ]
+
+
 def group_text(ops, group):
     those = parts(ops, group)
-    out = one_byte(ops, those, group) if group.enum == "Own" else prefixed(those, group)
+    if group.enum == "Numeric":
+        out = numeric(group)
+    else:
+        out = one_byte(ops, those, group) if group.enum == "Own" else prefixed(those, group)
     for part in those:
         out += alignment(part) if part.has_align else []
         out += [*makes(part), *visits(part)]

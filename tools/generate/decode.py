@@ -1,7 +1,7 @@
-"""Writes the decoders that have no arms: of the numeric operators, and of the SIMD operators without immediates."""
+"""Writes the decoder of the SIMD operators without immediates."""
 
-from arms import closed, parts
-from table import HEAD, NUMERIC, SIMD_HALF
+from arms import parts
+from table import HEAD, SIMD_HALF
 from visits import GROUPS
 
 
@@ -74,56 +74,6 @@ def vectors_without_immediates(ops):
     )
 
 
-def numeric_decode(ops, group):
-    those = group.of(ops)
-    return "\n".join([
-        f"//! Decoding of {group.short.removeprefix('the ')}. {HEAD}",
-        "ghost use Rattle.std.specs.Prelude.{◌≡◌, ◌≤◌, [], None};",
-        "ghost use Rattle.wasm_decode_opcodes.specs.Decoding.{VisitsRow};",
-        "",
-        f"use wasm_visit_groups::{group.trait};",
-        "",
-        "/// Visits the numeric operator with this opcode.",
-        "#[inline(always)]",
-        f"pub fn numeric<V: {group.trait}>(v: &mut V, code: u8) -> V::Output",
-        f"    requires from {{ 0x{NUMERIC[0]:02x} ≤ code }}",
-        f"    requires to {{ code ≤ 0x{NUMERIC[-1]:02x} }}",
-        "    ensures { VisitsRow V.visits None code [] v.old result v.new }",
-        "{",
-        *closed([(op.hex(), f"v.{op.visit}()") for op in sorted(those, key=lambda op: op.code)]),
-        "}",
-        "",
-    ])
-
-
-def last_numeric_file(last):
-    """Returns the proof that the last arm visits the last numeric operator."""
-    visit = f"c.{last.visit}"
-    return "\n".join(
-        [
-            f"-- {HEAD}",
-            "use Rattle.std.proofs.Common.{◌≡◌, [], None, refl, subst, arith}",
-            "use Rattle.wasm_visit_groups.specs.instr.declared.operator.Operator.TheVariants as operator",
-            "use Rattle.wasm_visit_groups.specs.instr.ops.numeric.NumericOperator.TheVariants as numeric",
-            "use Rattle.wasm_decode_opcodes.specs.Decoding.{VisitsRow}",
-            "use Rattle.wasm_decode_groups.proofs.numeric_operators.numeric.Goals as goal",
-            "",
-            "pub returns-in_default : goal.returns-in_default",
-            "returns-in_default g c =",
-            f"    let same : {last.hex()} ≡ c.args.code = omega (arith, c.requires.from, c.requires.to) in",
-            f"    subst (λ k. VisitsRow g.V.Visitor.visits None k [] c.args.v.now {visit}.result {visit}.new.self) same (operator.Numeric (numeric.{last.name}), refl, refl, refl, {visit}.ensures)",
-            "",
-        ]
-    )
-
-
 def decode_files(ops):
-    """Returns the generated files of the decoders that have no arms, by path."""
-    (group,) = [group for group in GROUPS if group.module == "numeric"]
-    last = max(group.of(ops), key=lambda op: op.code)
-    crate = "crates/wasm_decode_groups"
-    return {
-        f"{crate}/src/numeric_operators.rt": numeric_decode(ops, group),
-        f"{crate}/proofs/numeric_operators/numeric/Answers.antt": last_numeric_file(last),
-        f"{crate}/src/vectors_without_immediates.rt": vectors_without_immediates(ops),
-    }
+    """Returns the generated file of the decoder that has no arms, by path."""
+    return {"crates/wasm_decode_groups/src/vectors_without_immediates.rt": vectors_without_immediates(ops)}

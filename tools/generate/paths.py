@@ -18,7 +18,6 @@ SHORT = {
     "wasm_instr": "instr",
     "wasm_decode_opcodes": "opcodes",
     "wasm_visit_groups": "groups",
-    "wasm_visit_factory": "layer_factory",
     "wasm_decode_groups": "decode",
     "wasm_visit": "visitors",
     "wasm_decode": "decoder",

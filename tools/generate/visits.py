@@ -1,4 +1,4 @@
-"""Writes the groups of visits, the dispatch of each group, and the visits of the factory."""
+"""Writes the groups of visits, and the dispatch of each group."""
 
 from source import uses
 from table import HEAD, NUMERIC, SIMD_HALF, WIDTH, doc, held, prefix_of, singular
@@ -7,28 +7,22 @@ from table import HEAD, NUMERIC, SIMD_HALF, WIDTH, doc, held, prefix_of, singula
 class Group:
     """A group of visits. `condition` is on the code, if the same list of entries has operators of other groups without immediates."""
 
-    def __init__(self, module, trait, enum, short, title, section, *, given="self, reader, start, code", condition=""):
+    def __init__(self, module, trait, enum, short, title, section, *, condition=""):
         self.module = module
         self.trait = trait
         self.enum = enum
         self.short = short
         self.title = title
         self.section = section
-        # the arguments of the call that decodes
-        self.given = given
         self.condition = condition
         # its type in the decoder, and its prefix byte
         self.mark = trait.removeprefix("Visit")
         self.prefix = prefix_of(enum)
 
     @property
-    def bound(self):
-        return "VisitSimdOperator" if self.enum == "Simd" else "VisitGroups"
-
-    @property
-    def has_arms(self):
-        """Returns whether its codes have arms in the decoder: the numeric operators have no immediates."""
-        return self.enum != "Numeric"
+    def predicate(self):
+        """Returns the name of the predicate that holds for its operators, if other operators have the same type."""
+        return f"Is{self.mark}" if self.enum in ("Own", "Simd") else ""
 
     def has(self, op):
         if op.group != self.enum or op.borrows:
@@ -47,11 +41,12 @@ GROUPS = [
     Group(
         "one_byte", "VisitOneByte", "Own", "the operators with a one-byte opcode",
         "the operators with a one-byte opcode, except the numeric ones and the branch table", "Instructions.",
-        given="alloc, self, reader, start, frame, code", condition=f"{FROM} ≤ code → code ≤ {TO} → ⊥",
+        condition=f"{FROM} ≤ code → code ≤ {TO} → ⊥",
     ),
     Group(
         "numeric", "VisitNumeric", "Numeric", "the numeric operators",
-        f"the numeric operators with a one-byte opcode, {FROM} to {TO}", "Numeric Instructions.", given="self, code",
+        f"the numeric operators with a one-byte opcode, {FROM} to {TO}", "Numeric Instructions.",
+        condition=f"({FROM} ≤ code) × (code ≤ {TO})",
     ),
     Group(
         "gc", "VisitGc", "Gc", "the operators with prefix 0xfb", "the operators with the prefix byte 0xfb",
@@ -113,26 +108,20 @@ def braced(names):
     return names[0] if len(names) == 1 else f"{{{', '.join(sorted(names))}}}"
 
 
-def naming(group):
-    low = group.module
-    methods = [(f"dispatch_{low}", f"dispatch::{low}(self, op)"), (f"decode_{low}", f"decode::{low}({group.given})")]
-    return methods + ([("decode_below_0x20", methods[1][1])] if low == "one_byte" else [])
-
-
 def group_trait(ops, group):
     those = group.of(ops)
     out = [
         f"//! {HEAD}",
         *ghost_uses(group),
         "",
+        "use crate::route::ToOwn;",
+        "use crate::routes::Routes;",
         "use crate::visitor::Visitor;",
         *uses(those),
         f"use wasm_instr::{braced(sorted({'Operator', type_name(group)}))};",
         "",
-        *doc(f"Visits of {group.title}. {'' if group.section.startswith('Proposal') else 'Specification: '}{group.section} By default they call `visit_any`. Overridden visits run only if the visitor's `{group.bound}` has these methods:"),
-        "///",
-        *[f"/// - `{method}`, by `{call}`" for method, call in naming(group)],
-        f"pub trait {group.trait}: Visitor {{",
+        *doc(f"Visits of {group.title}. {'' if group.section.startswith('Proposal') else 'Specification: '}{group.section} By default they call `visit_any`. A visitor that overrides visits names `Own{group.mark}` in its `Visits`."),
+        f"pub trait {group.trait}: Visitor<Visits: Routes<{group.mark}: ToOwn>> {{",
     ]
     for number, op in enumerate(those):
         out += [] if number == 0 else [""]
@@ -165,15 +154,15 @@ def one_byte_others(ops):
 
 def group_dispatch(ops, group):
     param = "Operator<'_>" if group.enum == "Own" else type_name(group)
-    operator = "op.entry" if group.enum == "Own" else f"(Operator.{group.enum} op)"
-    wanted = f"Is{group.mark}" if group.condition else ""
+    told = "op.entry" if group.enum == "Own" else f"(Operator.{group.enum} op)"
+    wanted = group.predicate
     others = one_byte_others(ops) if group.enum == "Own" else "_"
     return [
         "",
         f"/// Calls the visit of {singular(group.short).replace('SIMD operator', 'SIMD operator with a subopcode')}.",
         f"pub fn {group.module}<V: {group.trait}>(v: &mut V, op: {param}) -> V::Output",
         *([f"    requires {{ {wanted} op }}"] if wanted else []),
-        f"    ensures {{ V.visits v.old {operator} result v.new }}",
+        f"    ensures {{ V.visits v.old {told} result v.new }}",
         "{",
         "    match op {",
         *[arm(op) for op in group.of(ops)],
@@ -184,7 +173,7 @@ def group_dispatch(ops, group):
 
 
 def dispatch(ops, groups):
-    wanted = sorted(f"Is{group.mark}" for group in groups if group.condition)
+    wanted = sorted(group.predicate for group in groups if group.predicate)
     types = sorted({"Operator"} | {type_name(group) for group in groups}) if groups is FIXED else ["SimdOperator"]
     out = [
         f"//! {HEAD}",
@@ -199,28 +188,10 @@ def dispatch(ops, groups):
     return "\n".join(out + [""])
 
 
-def group_factory(ops, group):
-    those = group.of(ops)
-    out = [
-        f"//! {HEAD}",
-        "use crate::factory::Factory;",
-        *uses(those),
-        f"use wasm_instr::{braced(sorted({'Operator', type_name(group)}))};",
-        f"use wasm_visit_groups::{group.trait};",
-        "",
-        f"impl {group.trait} for Factory {{",
-    ]
-    for number, op in enumerate(those):
-        out += [] if number == 0 else [""]
-        out += ["    #[inline(always)]", signature(op, "Operator<'static>") + " {", f"        {made(op)}", "    }"]
-    return "\n".join(out + ["}", ""])
-
-
 def visit_files(ops):
     out = {}
     for group in GROUPS:
         out[f"crates/wasm_visit_groups/src/{group.module}.rt"] = group_trait(ops, group)
-        out[f"crates/wasm_visit_factory/src/{group.module}.rt"] = group_factory(ops, group)
     out["crates/wasm_visit/src/dispatch/groups.rt"] = dispatch(ops, FIXED)
     out["crates/wasm_visit/src/dispatch/vectors.rt"] = dispatch(ops, VECTORS)
     return out

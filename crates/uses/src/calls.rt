@@ -8,8 +8,8 @@ ghost use Rattle.uses.specs.Input.{input};
 use std::alloc::Global;
 use std::marker::Model;
 use wasm_operators::{
-    BinaryReader, BrTable, Error, FunctionBody, Message, Operator, Result, VisitGroups,
-    VisitOperator, VisitSimdOperator, Visitor, WasmFeatures, body_laws,
+    BinaryReader, BrTable, ByAny, Error, FunctionBody, Message, Operator, Result, VisitOperator,
+    Visitor, WasmFeatures, body_laws,
 };
 
 #[derive(Drop)]
@@ -29,6 +29,8 @@ impl Model for Calls {
 impl Visitor for Calls {
     type Output = ();
 
+    type Visits = ByAny;
+
     ghost visits = { λ before op outcome after. CallsVisit before op after };
 
     fn visit_any(&mut self, op: Operator<'static>) {
@@ -43,13 +45,9 @@ impl Visitor for Calls {
     }
 }
 
-impl VisitGroups for Calls {}
-
 impl<'a> VisitOperator<'a> for Calls {
     fn visit_br_table(&mut self, _targets: BrTable<'a>) {}
 }
-
-impl VisitSimdOperator for Calls {}
 
 /// Returns the indices of the functions that a body calls directly, in order.
 ///

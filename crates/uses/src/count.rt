@@ -4,8 +4,8 @@ ghost use Rattle.uses.specs.Input.{input};
 
 use std::alloc::Global;
 use wasm_operators::{
-    BinaryReader, BrTable, Message, Operator, OperatorsReader, Result, VisitGroups, VisitOperator,
-    VisitSimdOperator, Visitor, WasmFeatures, expression_laws,
+    BinaryReader, BrTable, ByAny, Message, Operator, OperatorsReader, Result, VisitOperator,
+    Visitor, WasmFeatures, expression_laws,
 };
 
 #[derive(Debug, Drop)]
@@ -16,6 +16,8 @@ pub struct Count {
 impl Visitor for Count {
     type Output = ();
 
+    type Visits = ByAny;
+
     ghost visits = { λ before op outcome after. before.operators < 2 ^ 64 - 1 → after.operators ≡ before.operators + 1 };
 
     fn visit_any(&mut self, _op: Operator<'static>) {
@@ -23,15 +25,11 @@ impl Visitor for Count {
     }
 }
 
-impl VisitGroups for Count {}
-
 impl<'a> VisitOperator<'a> for Count {
     fn visit_br_table(&mut self, _targets: BrTable<'a>) {
         self.operators = self.operators.saturating_add(1);
     }
 }
-
-impl VisitSimdOperator for Count {}
 
 /// Returns the number of operators in an expression.
 ///

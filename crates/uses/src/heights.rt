@@ -8,8 +8,8 @@ ghost use Rattle.uses.specs.Input.{input};
 use crate::module::{BlockArity, Context, Frame};
 use std::alloc::Global;
 use wasm_operators::{
-    BinaryReader, BrTable, FrameKind, FunctionBody, Operator, Result, VisitGroups, VisitOperator,
-    VisitSimdOperator, Visitor, WasmFeatures, body_laws,
+    BinaryReader, BrTable, ByAny, FrameKind, FunctionBody, Operator, Result, VisitOperator,
+    Visitor, WasmFeatures, body_laws,
 };
 
 #[derive(Clone, Copy, Debug, PartialEq, Eq)]
@@ -170,6 +170,8 @@ impl<'m> Heights<'m> {
 impl<'m> Visitor for Heights<'m> {
     type Output = ();
 
+    type Visits = ByAny;
+
     ghost visits = { λ before op outcome after. StepsHeight before op after };
 
     fn visit_any(&mut self, op: Operator<'static>) {
@@ -177,15 +179,11 @@ impl<'m> Visitor for Heights<'m> {
     }
 }
 
-impl<'m> VisitGroups for Heights<'m> {}
-
 impl<'a, 'm> VisitOperator<'a> for Heights<'m> {
     fn visit_br_table(&mut self, targets: BrTable<'a>) {
         self.step(&Operator::BrTable { targets });
     }
 }
-
-impl<'m> VisitSimdOperator for Heights<'m> {}
 
 /// Computes the stack heights along a body of the type `ty`.
 ///

@@ -4,8 +4,8 @@ ghost use Rattle.uses.specs.Input.{input};
 
 use std::alloc::Global;
 use wasm_operators::{
-    BinaryReader, BrTable, MiscOperator, Operator, OperatorsReader, Result, VisitGroups, VisitMisc,
-    VisitOperator, VisitSimdOperator, Visitor, WasmFeatures, decode, dispatch, expression_laws,
+    BinaryReader, BrTable, ByAny, Operator, OperatorsReader, OwnMisc, Result, VisitMisc,
+    VisitOperator, Visitor, WasmFeatures, expression_laws,
 };
 
 /// The number of operators that copy or fill memory, and the number of all others.
@@ -17,6 +17,8 @@ pub struct Moves {
 
 impl Visitor for Moves {
     type Output = ();
+
+    type Visits = OwnMisc<ByAny>;
 
     ghost visits = { λ before op outcome after. before.moves + before.others < 2 ^ 64 - 1
         → after.moves + after.others ≡ before.moves + before.others + 1 };
@@ -36,28 +38,11 @@ impl VisitMisc for Moves {
     }
 }
 
-impl VisitGroups for Moves {
-    fn dispatch_misc(&mut self, op: MiscOperator) {
-        dispatch::misc(self, op)
-    }
-
-    fn decode_misc(
-        &mut self,
-        reader: &mut BinaryReader<'_>,
-        start: usize,
-        code: u32,
-    ) -> Result<()> {
-        decode::misc(self, reader, start, code)
-    }
-}
-
 impl<'a> VisitOperator<'a> for Moves {
     fn visit_br_table(&mut self, _targets: BrTable<'a>) {
         self.others = self.others.saturating_add(1);
     }
 }
-
-impl VisitSimdOperator for Moves {}
 
 /// Counts the operators of an expression that copy or fill memory, and separately all others.
 ///

@@ -4,9 +4,8 @@ ghost use Rattle.uses_steps.specs.Tallies.{CountsOne, TakesOne};
 
 use std::alloc::Global;
 use wasm_operators::{
-    BinaryReader, BrTable, FrameKind, FrameStack, Operator, ReadSimdVisits, ReadVisits, Result,
-    VisitGroups, VisitOperator, VisitSimdOperator, Visitor, visit_operator_with_simd, visit_owned,
-    visit_owned_simd,
+    BinaryReader, BrTable, ByAny, FrameKind, FrameStack, Operator, Result, VisitOperator, Visitor,
+    visit_operator_with_simd, visit_owned, visit_owned_simd,
 };
 
 #[derive(Debug, Drop)]
@@ -17,6 +16,8 @@ pub struct Tally {
 impl Visitor for Tally {
     type Output = ();
 
+    type Visits = ByAny;
+
     ghost visits = { λ before op outcome after. CountsOne before.operators after.operators };
 
     fn visit_any(&mut self, _op: Operator<'static>) {
@@ -24,15 +25,11 @@ impl Visitor for Tally {
     }
 }
 
-impl VisitGroups for Tally {}
-
 impl<'a> VisitOperator<'a> for Tally {
     fn visit_br_table(&mut self, _targets: BrTable<'a>) {
         self.operators = self.operators.saturating_add(1);
     }
 }
-
-impl VisitSimdOperator for Tally {}
 
 /// Single operators are visited as if inside a block.
 impl FrameStack for Tally {

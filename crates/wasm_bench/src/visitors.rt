@@ -5,9 +5,7 @@ use std::alloc::Global;
 use wasm_operators_readers::below::{BinaryReader, Result};
 use wasm_operators_readers::imm::{BrTable, MemArg};
 use wasm_operators_readers::instr::{FrameKind, Operator};
-use wasm_operators_readers::visitors::{
-    VisitGroups, VisitOneByte, VisitOperator, VisitSimdOperator, Visitor, decode, dispatch,
-};
+use wasm_operators_readers::visitors::{ByAny, OwnOneByte, VisitOneByte, VisitOperator, Visitor};
 
 #[derive(Drop)]
 pub struct CountAny {
@@ -17,6 +15,8 @@ pub struct CountAny {
 impl Visitor for CountAny {
     type Output = ();
 
+    type Visits = ByAny;
+
     ghost visits = { λ before op outcome after. before.operators < 2 ^ 64 - 1 → after.operators ≡ before.operators + 1 };
 
     #[inline(always)]
@@ -25,16 +25,12 @@ impl Visitor for CountAny {
     }
 }
 
-impl VisitGroups for CountAny {}
-
 impl<'a> VisitOperator<'a> for CountAny {
     #[inline(always)]
     fn visit_br_table(&mut self, _targets: BrTable<'a>) {
         self.operators = self.operators.wrapping_add(1);
     }
 }
-
-impl VisitSimdOperator for CountAny {}
 
 /// Counts operators, and overrides four visits to add up their immediates.
 #[derive(Drop)]
@@ -45,6 +41,8 @@ pub struct CountSome {
 
 impl Visitor for CountSome {
     type Output = ();
+
+    type Visits = OwnOneByte<ByAny>;
 
     ghost visits = { λ before op outcome after. before.operators < 2 ^ 64 - 1 → after.operators ≡ before.operators + 1 };
 
@@ -86,41 +84,9 @@ impl VisitOneByte for CountSome {
     }
 }
 
-impl VisitGroups for CountSome {
-    fn dispatch_one_byte(&mut self, op: Operator<'_>) {
-        dispatch::one_byte(self, op)
-    }
-
-    #[inline(always)]
-    fn decode_one_byte(
-        &mut self,
-        alloc: Global,
-        reader: &mut BinaryReader<'_>,
-        start: usize,
-        frame: FrameKind,
-        code: u8,
-    ) -> Result<()> {
-        decode::one_byte(alloc, self, reader, start, frame, code)
-    }
-
-    #[inline(always)]
-    fn decode_below_0x20(
-        &mut self,
-        alloc: Global,
-        reader: &mut BinaryReader<'_>,
-        start: usize,
-        frame: FrameKind,
-        code: u8,
-    ) -> Result<()> {
-        decode::one_byte(alloc, self, reader, start, frame, code)
-    }
-}
-
 impl<'a> VisitOperator<'a> for CountSome {
     #[inline(always)]
     fn visit_br_table(&mut self, _targets: BrTable<'a>) {
         self.operators = self.operators.wrapping_add(1);
     }
 }
-
-impl VisitSimdOperator for CountSome {}

@@ -1,7 +1,7 @@
 //! The visitor that counts operators.
 ghost use Rattle.std.specs.Prelude.{◌≡◌, ◌+◌, ◌-◌, ◌^◌, ◌<◌};
 
-use wasm_operators::{BrTable, Operator, VisitGroups, VisitOperator, VisitSimdOperator, Visitor};
+use wasm_operators::{BrTable, ByAny, Operator, VisitOperator, Visitor};
 
 #[derive(Debug, Drop)]
 pub struct Counter {
@@ -10,6 +10,8 @@ pub struct Counter {
 
 impl Visitor for Counter {
     type Output = ();
+
+    type Visits = ByAny;
 
     // A visit adds one.
     ghost visits = { λ before op outcome after. before.count < 2 ^ 64 - 1 → after.count ≡ before.count + 1 };
@@ -20,13 +22,9 @@ impl Visitor for Counter {
     }
 }
 
-impl VisitGroups for Counter {}
-
 impl<'a> VisitOperator<'a> for Counter {
     #[inline(always)]
     fn visit_br_table(&mut self, _targets: BrTable<'a>) {
         self.count = self.count.saturating_add(1);
     }
 }
-
-impl VisitSimdOperator for Counter {}

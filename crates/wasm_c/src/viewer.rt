@@ -6,10 +6,7 @@ ghost use Rattle.wasm_view.specs.View.{view_of};
 ghost use Rattle.wasm_c.specs.Frames.{change_of};
 
 use crate::frames::{FrameChange, change_of};
-use wasm_operators::{
-    BrTable, FrameKind, FrameStack, Operator, VisitGroups, VisitOperator, VisitSimdOperator,
-    Visitor,
-};
+use wasm_operators::{BrTable, ByAny, FrameKind, FrameStack, Operator, VisitOperator, Visitor};
 use wasm_view::{WasmOperator, view_of};
 
 /// The innermost frame, the offset of the next operator, and what was found of the visited
@@ -50,6 +47,8 @@ impl FrameStack for Viewer {
 impl Visitor for Viewer {
     type Output = ();
 
+    type Visits = ByAny;
+
     // The C struct is that of the operator at this offset.
     ghost visits = { λ before op outcome after. (after.view ≡ view_of (op, before.offset))
         × (after.change ≡ change_of (role_of op)) };
@@ -61,8 +60,6 @@ impl Visitor for Viewer {
     }
 }
 
-impl VisitGroups for Viewer {}
-
 impl<'a> VisitOperator<'a> for Viewer {
     #[inline(always)]
     fn visit_br_table(&mut self, targets: BrTable<'a>) {
@@ -71,5 +68,3 @@ impl<'a> VisitOperator<'a> for Viewer {
         self.change = FrameChange::Stays;
     }
 }
-
-impl VisitSimdOperator for Viewer {}

@@ -14,7 +14,10 @@ use std::alloc::Global;
 use wasm_visit::below::{BinaryReader, Result};
 use wasm_visit::grammar::FrameKind;
 use wasm_visit::instr::SimdOperator;
-use wasm_visit::{VisitGroups, VisitSimdOperator, decode};
+use wasm_visit::{
+    GroupAtomic, GroupGc, GroupMisc, GroupNumeric, GroupOneByte, GroupSimdHigh, GroupSimdLow,
+    decode,
+};
 
 /// Reads the subopcode after a prefix byte at the position `start`: a u32 that may be overlong. On
 /// an error, goes back to `start`.
@@ -36,7 +39,7 @@ pub fn subopcode(reader: &mut BinaryReader<'_>, start: usize, prefix: u8) -> Res
 }
 
 #[inline(always)]
-pub fn group_after_opcode<V: VisitGroups>(
+pub fn group_after_opcode<V>(
     alloc: Global,
     v: &mut V,
     reader: &mut BinaryReader<'_>,
@@ -44,6 +47,8 @@ pub fn group_after_opcode<V: VisitGroups>(
     frame: FrameKind,
     code: u8,
 ) -> Result<V::Output>
+where
+    V: GroupOneByte + GroupNumeric + GroupGc + GroupMisc + GroupAtomic,
     requires after { IsAfterCode start None code reader.old }
     requires table { code ≢ 0x0e }
     requires vector { code ≢ 0xfd }
@@ -59,7 +64,7 @@ pub fn group_after_opcode<V: VisitGroups>(
 }
 
 #[inline(always)]
-pub fn simd_after_prefix<V: VisitSimdOperator>(
+pub fn simd_after_prefix<V: GroupSimdLow + GroupSimdHigh>(
     v: &mut V,
     reader: &mut BinaryReader<'_>,
     start: usize,
@@ -74,7 +79,7 @@ pub fn simd_after_prefix<V: VisitSimdOperator>(
 }
 
 #[inline(always)]
-pub fn simd_of<V: VisitSimdOperator>(
+pub fn simd_of<V: GroupSimdLow + GroupSimdHigh>(
     v: &mut V,
     reader: &mut BinaryReader<'_>,
     start: usize,
@@ -101,7 +106,7 @@ pub fn vector_without_immediates(code: u32) -> SimdOperator
 }
 
 #[inline(always)]
-fn visit_without_immediates<V: VisitSimdOperator>(v: &mut V, code: u32) -> V::Output
+fn visit_without_immediates<V: GroupSimdLow + GroupSimdHigh>(v: &mut V, code: u32) -> V::Output
     requires { entry_at (Some 0xfd) code ≡ free [] }
     ensures { VisitsRow V.visits (Some 0xfd) code [] v.old result v.new }
 {

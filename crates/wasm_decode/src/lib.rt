@@ -6,8 +6,8 @@
 #![tactic(auto)]
 
 mod after;
-mod gc_factory;
 pub mod laws;
+mod made_gc;
 mod out_of_line;
 mod prefixes;
 mod read;
@@ -25,9 +25,12 @@ pub use wasm_visit::{below, grammar, imm, instr};
 /// Traits of visitors, and the functions that call their visits.
 pub mod visitors {
     pub use wasm_visit::{
-        HoldOperator, HoldTable, IsEndOperatorVisitor, OperatorFactory, OperatorMaker, VisitAtomic,
-        VisitGc, VisitGroups, VisitMisc, VisitNumeric, VisitOneByte, VisitOperator, VisitSimdHigh,
-        VisitSimdLow, VisitSimdOperator, Visitor, decode, dispatch, visit_operator,
-        visit_operator_with_simd, visit_owned, visit_owned_simd,
+        ByAny, CallAtomic, CallGc, CallMisc, CallNumeric, CallOneByte, CallSimdHigh, CallSimdLow,
+        GroupAtomic, GroupGc, GroupMisc, GroupNumeric, GroupOneByte, GroupSimdHigh, GroupSimdLow,
+        HoldOperator, HoldTable, IsEndOperatorVisitor, OnceAtomic, OnceGc, OnceMisc, OnceNumeric,
+        OnceOneByte, OnceSimdHigh, OnceSimdLow, OperatorFactory, OperatorMaker, OwnAtomic, OwnGc,
+        OwnMisc, OwnNumeric, OwnOneByte, OwnSimdHigh, OwnSimdLow, Routes, VisitAtomic, VisitGc,
+        VisitMisc, VisitNumeric, VisitOneByte, VisitOperator, VisitSimdHigh, VisitSimdLow, Visitor,
+        decode, dispatch, visit_operator, visit_operator_with_simd, visit_owned, visit_owned_simd,
     };
 }

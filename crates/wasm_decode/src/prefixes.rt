@@ -4,12 +4,12 @@ ghost use Rattle.std.specs.Prelude.{Some, None};
 use crate::after::subopcode;
 use crate::out_of_line::AfterPrefix;
 use wasm_visit::below::{BinaryReader, Result};
-use wasm_visit::{VisitGroups, VisitSimdOperator};
+use wasm_visit::{GroupAtomic, GroupGc, GroupMisc, GroupSimdHigh, GroupSimdLow};
 
 #[derive(Drop)]
 pub struct Gc;
 
-impl<V: VisitGroups> AfterPrefix<V> for Gc {
+impl<V: GroupGc> AfterPrefix<V> for Gc {
     ghost prefix = { λ it. None };
 
     ghost code = { λ it. 0xfb };
@@ -26,7 +26,7 @@ impl<V: VisitGroups> AfterPrefix<V> for Gc {
 #[derive(Drop)]
 pub struct Misc;
 
-impl<V: VisitGroups> AfterPrefix<V> for Misc {
+impl<V: GroupMisc> AfterPrefix<V> for Misc {
     ghost prefix = { λ it. None };
 
     ghost code = { λ it. 0xfc };
@@ -43,7 +43,7 @@ impl<V: VisitGroups> AfterPrefix<V> for Misc {
 #[derive(Drop)]
 pub struct Atomic;
 
-impl<V: VisitGroups> AfterPrefix<V> for Atomic {
+impl<V: GroupAtomic> AfterPrefix<V> for Atomic {
     ghost prefix = { λ it. None };
 
     ghost code = { λ it. 0xfe };
@@ -63,7 +63,7 @@ pub struct Simd {
     pub code: u32,
 }
 
-impl<V: VisitSimdOperator> AfterPrefix<V> for Simd {
+impl<V: GroupSimdLow + GroupSimdHigh> AfterPrefix<V> for Simd {
     ghost prefix = { λ it. Some 0xfd };
 
     ghost code = { λ it. it.code };

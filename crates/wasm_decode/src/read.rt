@@ -1,20 +1,20 @@
-//! Reads an operator by the visitor `Factory` or, with the prefix byte 0xfb, by `GcFactory`.
+//! Reads an operator by the visitor `Made` or, with the prefix byte 0xfb, by `MadeGc`.
 ghost use Rattle.std.specs.Prelude.{◌≢◌, None, Some, Ok, Err, IfSome, IfNone};
 ghost use Rattle.wasm_decode.specs.Reading.{DecodesOperatorIn, DecodesOperatorAt, DecodesGcAt};
 ghost use Rattle.wasm_visit.specs.grammar.declared.frame_kind.FrameKind.{FrameKind};
 ghost use Rattle.wasm_visit.specs.opcodes.Decoding.{IsAfterCode};
 
 use crate::after::{group_after_opcode, simd_of, subopcode, vector_without_immediates};
-use crate::gc_factory::GcFactory;
+use crate::made_gc::MadeGc;
 use crate::out_of_line::place;
 use crate::refusals::no_frame;
 use std::alloc::Global;
 use wasm_visit::below::{BinaryReader, Error, Result};
-use wasm_visit::decode;
 use wasm_visit::grammar::FrameKind;
 use wasm_visit::instr::{GcOperator, Operator};
-use wasm_visit::layer_factory::Factory;
 use wasm_visit::opcodes::immediates;
+use wasm_visit::reading::{Made, gc_by};
+use wasm_visit::{ByAny, decode};
 
 /// Reads the operator at the start of the rest. `frame` is the innermost frame. Fails like
 /// `visit_operator_simd`.
@@ -121,7 +121,7 @@ fn gc_of(reader: &mut BinaryReader<'_>, start: usize) -> Result<GcOperator>
     ensures { (frame : FrameKind) → DecodesGcAt frame start result reader.old reader.new }
 {
     match subopcode(reader, start, 0xfb) {
-        Ok(code) => decode::gc(&mut GcFactory, reader, start, code),
+        Ok(code) => gc_by::<MadeGc, ByAny>(&mut MadeGc, reader, start, code),
         Err(e) => Err(e),
     }
 }
@@ -137,8 +137,8 @@ fn read_simd(reader: &mut BinaryReader<'_>, start: usize) -> Result<Operator<'st
     }
 }
 
-/// Reads a SIMD operator's immediates. Without any, avoids the factory, which returns through
-/// memory.
+/// Reads a SIMD operator's immediates. Without any, makes the operator without a
+/// visitor, which returns through memory.
 #[inline(always)]
 fn read_simd_of(reader: &mut BinaryReader<'_>, start: usize, code: u32) -> Result<Operator<'static>>
     requires { IsAfterCode start (Some 0xfd) code reader.old }
@@ -147,7 +147,7 @@ fn read_simd_of(reader: &mut BinaryReader<'_>, start: usize, code: u32) -> Resul
     if decode::has_no_immediates(code) {
         return Ok(Operator::Simd(vector_without_immediates(code)));
     }
-    simd_of(&mut Factory, reader, start, code)
+    simd_of(&mut Made, reader, start, code)
 }
 
 #[inline(always)]
@@ -163,5 +163,5 @@ fn read_group(
     requires vector { code ≢ 0xfd }
     ensures { DecodesOperatorAt frame start result reader.old reader.new }
 {
-    group_after_opcode(alloc, &mut Factory, reader, start, frame, code)
+    group_after_opcode(alloc, &mut Made, reader, start, frame, code)
 }

@@ -6,11 +6,11 @@ ghost use Rattle.wasm_visit.specs.opcodes.Decoding.{DecodesIn, DecodesScalarIn, 
 use crate::after::{group_after_opcode, simd_after_prefix};
 use crate::refusals::{no_frame, unexpected_simd};
 use std::alloc::Global;
+use wasm_visit::VisitOperator;
 use wasm_visit::below::{BinaryReader, Result};
 use wasm_visit::grammar::FrameKind;
 use wasm_visit::imm::BrTable;
 use wasm_visit::opcodes::immediates;
-use wasm_visit::{VisitOperator, VisitSimdOperator};
 
 /// Reads and visits the operator at the start of the rest. `frame` is the innermost frame.
 ///
@@ -19,14 +19,12 @@ use wasm_visit::{VisitOperator, VisitSimdOperator};
 /// immediate (`docs/ERRORS-AND-FEATURES.md`). `OutOfMemory` has the offset of the operator's start,
 /// and occurs only for an operator that owns a list.
 #[inline(always)]
-pub fn visit_operator_simd<'a, V>(
+pub fn visit_operator_simd<'a, V: VisitOperator<'a>>(
     alloc: Global,
     v: &mut V,
     reader: &mut BinaryReader<'a>,
     frame: Option<FrameKind>,
 ) -> Result<V::Output>
-where
-    V: VisitOperator<'a> + VisitSimdOperator,
     ensures { DecodesIn V.visits frame result reader.old reader.new v.old v.new }
 {
     let Some(frame) = frame else {
@@ -44,7 +42,7 @@ where
 ///
 /// Fails like `visit_operator_simd`, but never for a missing frame or opcode.
 #[inline(always)]
-pub fn visit_after_opcode_simd<'a, V>(
+pub fn visit_after_opcode_simd<'a, V: VisitOperator<'a>>(
     alloc: Global,
     v: &mut V,
     reader: &mut BinaryReader<'a>,
@@ -52,8 +50,6 @@ pub fn visit_after_opcode_simd<'a, V>(
     frame: FrameKind,
     code: u8,
 ) -> Result<V::Output>
-where
-    V: VisitOperator<'a> + VisitSimdOperator,
     requires { IsAfterCode start None code reader.old }
     ensures { DecodesAt V.visits frame start result reader.old reader.new v.old v.new }
 {
@@ -124,7 +120,7 @@ pub fn visit_below_0x20<'a, V: VisitOperator<'a>>(
 {
     match code {
         0x0e => table_after_opcode(v, reader, start),
-        _ => v.decode_below_0x20(alloc, reader, start, frame, code),
+        _ => v.decode_one_byte(alloc, reader, start, frame, code),
     }
 }
 

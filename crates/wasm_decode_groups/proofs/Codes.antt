@@ -214,6 +214,12 @@ are_resume_throw _ = false
 pub resume_throw_codes : (code : ℕ) → entry_kinds (entry_at None code) ≡ Some (is_unsigned_32 ∷ is_unsigned_32 ∷ is_resume_clauses ∷ []) → InRanges code ((0xe4, 0xe4) ∷ [])
 resume_throw_codes code h = codes_in (λ e. are_resume_throw (entry_kinds e)) ((0xe4, 0xe4) ∷ []) opcode_entries code refl refl (ap are_resume_throw h)
 
+abbrev numeric_without_immediates_at : ℕ → Type 0
+numeric_without_immediates_at code = HasArm None code ([]) 0
+
+pub numeric_without_immediates_45 : (code : ℕ) → 0x45 ≤ code → code ≤ 0xc4 → HasArm None code ([]) 0
+numeric_without_immediates_45 code from to = in_run numeric_without_immediates_at 128 0x45 code ((refl, refl), ((refl, refl), ((refl, refl), ((refl, refl), ((refl, refl), ((refl, refl), ((refl, refl), ((refl, refl), ((refl, refl), ((refl, refl), ((refl, refl), ((refl, refl), ((refl, refl), ((refl, refl), ((refl, refl), ((refl, refl), ((refl, refl), ((refl, refl), ((refl, refl), ((refl, refl), ((refl, refl), ((refl, refl), ((refl, refl), ((refl, refl), ((refl, refl), ((refl, refl), ((refl, refl), ((refl, refl), ((refl, refl), ((refl, refl), ((refl, refl), ((refl, refl), ((refl, refl), ((refl, refl), ((refl, refl), ((refl, refl), ((refl, refl), ((refl, refl), ((refl, refl), ((refl, refl), ((refl, refl), ((refl, refl), ((refl, refl), ((refl, refl), ((refl, refl), ((refl, refl), ((refl, refl), ((refl, refl), ((refl, refl), ((refl, refl), ((refl, refl), ((refl, refl), ((refl, refl), ((refl, refl), ((refl, refl), ((refl, refl), ((refl, refl), ((refl, refl), ((refl, refl), ((refl, refl), ((refl, refl), ((refl, refl), ((refl, refl), ((refl, refl), ((refl, refl), ((refl, refl), ((refl, refl), ((refl, refl), ((refl, refl), ((refl, refl), ((refl, refl), ((refl, refl), ((refl, refl), ((refl, refl), ((refl, refl), ((refl, refl), ((refl, refl), ((refl, refl), ((refl, refl), ((refl, refl), ((refl, refl), ((refl, refl), ((refl, refl), ((refl, refl), ((refl, refl), ((refl, refl), ((refl, refl), ((refl, refl), ((refl, refl), ((refl, refl), ((refl, refl), ((refl, refl), ((refl, refl), ((refl, refl), ((refl, refl), ((refl, refl), ((refl, refl), ((refl, refl), ((refl, refl), ((refl, refl), ((refl, refl), ((refl, refl), ((refl, refl), ((refl, refl), ((refl, refl), ((refl, refl), ((refl, refl), ((refl, refl), ((refl, refl), ((refl, refl), ((refl, refl), ((refl, refl), ((refl, refl), ((refl, refl), ((refl, refl), ((refl, refl), ((refl, refl), ((refl, refl), ((refl, refl), ((refl, refl), ((refl, refl), ((refl, refl), ((refl, refl), ((refl, refl), ((refl, refl), ((refl, refl), ((refl, refl), ((refl, refl), tt)))))))))))))))))))))))))))))))))))))))))))))))))))))))))))))))))))))))))))))))))))))))))))))))))))))))))))))))))))))))))))))))) from (omega arith)
+
 pub gc_unsigned_codes : (code : ℕ) → HasKindsAt (Some 0xfb) code (λ bound. is_unsigned_32 ∷ []) → InRanges code ((0x00, 0x01) ∷ (0x06, 0x07) ∷ (0x0b, 0x0e) ∷ (0x10, 0x10) ∷ (0x20, 0x22) ∷ [])
 gc_unsigned_codes code h = codes_in (λ e. are_unsigned (entry_kinds e)) ((0x00, 0x01) ∷ (0x06, 0x07) ∷ (0x0b, 0x0e) ∷ (0x10, 0x10) ∷ (0x20, 0x22) ∷ []) gc_entries code refl refl (ap are_unsigned h)
 

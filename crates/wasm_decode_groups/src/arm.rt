@@ -1,5 +1,5 @@
 //! What is done at a code: `arm` reads the immediates and passes them to a route.
-ghost use Rattle.std.specs.Prelude.{◌≡◌, ◌≤◌, ◌<◌, ℕ, Option, Some};
+ghost use Rattle.std.specs.Prelude.{◌≡◌, ◌≤◌, ◌<◌, ℕ, Option, Some, None};
 ghost use Rattle.wasm_visit_groups.specs.grammar.declared.frame_kind.FrameKind.{FrameKind};
 ghost use Rattle.wasm_visit_groups.specs.instr.declared.operator.Operator.{Operator};
 ghost use Rattle.wasm_decode_opcodes.specs.Decoding.{DecodesAt, IsAfterCode, VisitsRow};
@@ -7,9 +7,11 @@ ghost use Rattle.wasm_decode_opcodes.specs.Entries.{align_at};
 ghost use Rattle.wasm_decode_groups.specs.Arms.{HasArm, HasKindsAt, IsCodeAfter, IsRow};
 
 use wasm_decode_opcodes::{Immediates, Only};
-use wasm_visit_groups::Visitor;
 use wasm_visit_groups::below::{BinaryReader, Result};
-use wasm_visit_groups::instr::{AtomicOperator, GcOperator, MiscOperator, Operator, SimdOperator};
+use wasm_visit_groups::instr::{
+    AtomicOperator, GcOperator, MiscOperator, NumericOperator, Operator, SimdOperator,
+};
+use wasm_visit_groups::{ByAny, Visitor};
 
 /// The operators of a group of visits.
 pub trait Group {
@@ -25,6 +27,23 @@ pub trait Group {
     /// Converts the operator into an `Operator`.
     fn embed(op: Self::Operator) -> Operator<'static>
         ensures { result ≡ operator op };
+}
+
+pub struct Numeric;
+
+impl Group for Numeric {
+    type Operator = NumericOperator;
+
+    ghost prefix = { None };
+
+    ghost codes = { λ code. (0x45 ≤ code) × (code ≤ 0xc4) };
+
+    ghost operator = { λ op. Operator.Numeric op };
+
+    #[inline(always)]
+    fn embed(op: NumericOperator) -> Operator<'static> {
+        Operator::Numeric(op)
+    }
 }
 
 pub struct Gc;
@@ -125,12 +144,6 @@ pub trait At<V: Visitor, G: Group, I: Immediates> {
 }
 
 pub struct Maker;
-
-/// The route by the visitor's `visit_any`.
-pub struct ByAny;
-
-/// The route by the visitor's visits of the group.
-pub struct Own;
 
 impl<V: Visitor, G: Group, I: Immediates> At<V, G, I> for ByAny
 where

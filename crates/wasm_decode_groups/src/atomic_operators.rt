@@ -6,12 +6,12 @@ ghost use Rattle.wasm_decode_opcodes.specs.Decoding.{DecodesAt, IsAfterCode};
 ghost use Rattle.wasm_decode_opcodes.specs.Entries.{align_at};
 ghost use Rattle.wasm_decode_groups.specs.Arms.{HasKindsAt};
 
-use crate::arm::{At, Atomic, ByAny, Maker, Makes, Own, arm};
+use crate::arm::{At, Atomic, Maker, Makes, arm};
 use wasm_decode_opcodes::{FenceOrdering, OpMemArg, PlainMemArg, RmwMemArg, unknown_subopcode};
 use wasm_visit_groups::below::{BinaryReader, Result};
 use wasm_visit_groups::imm::{MemArgKind, Ordering};
 use wasm_visit_groups::instr::AtomicOperator;
-use wasm_visit_groups::{VisitAtomic, Visitor};
+use wasm_visit_groups::{ByAny, Own, VisitAtomic, Visitor};
 
 /// Reads the immediates of an operator with prefix 0xfe and visits it.
 #[inline(always)]

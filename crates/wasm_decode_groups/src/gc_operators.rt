@@ -3,12 +3,12 @@ ghost use Rattle.std.specs.Prelude.{Some};
 ghost use Rattle.wasm_visit_groups.specs.grammar.declared.frame_kind.FrameKind.{FrameKind};
 ghost use Rattle.wasm_decode_opcodes.specs.Decoding.{DecodesAt, IsAfterCode};
 
-use crate::arm::{At, ByAny, Gc, Maker, Makes, Own, arm};
+use crate::arm::{At, Gc, Maker, Makes, arm};
 use wasm_decode_opcodes::unknown_subopcode;
 use wasm_visit_groups::below::{BinaryReader, HeapType, Result};
 use wasm_visit_groups::imm::Cast;
 use wasm_visit_groups::instr::GcOperator;
-use wasm_visit_groups::{VisitGc, Visitor};
+use wasm_visit_groups::{ByAny, Own, VisitGc, Visitor};
 
 /// Reads the immediates of an operator with prefix 0xfb and visits it.
 #[inline(always)]

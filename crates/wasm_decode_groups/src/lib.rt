@@ -14,11 +14,10 @@ mod simd_high_operators;
 mod simd_low_operators;
 mod vectors_without_immediates;
 
-pub use arm::{ByAny, Own};
 pub use atomic_operators::{AtAtomic, atomic, atomic_by};
 pub use gc_operators::{AtGc, gc, gc_by};
 pub use misc_operators::{AtMisc, misc, misc_by};
-pub use numeric_operators::numeric;
+pub use numeric_operators::{numeric, numeric_by};
 pub use one_byte_operators::{
     AtOneByte, common_one_byte, common_one_byte_by, one_byte, one_byte_by,
 };
@@ -30,11 +29,13 @@ pub use vectors_without_immediates::{
 };
 pub use wasm_visit_groups::{below, grammar, imm, instr};
 
-/// The visits of operators, in groups.
+/// The visits of operators, in groups, and the routes to them.
 pub mod groups {
     pub use wasm_visit_groups::{
-        VisitAtomic, VisitGc, VisitMisc, VisitNumeric, VisitOneByte, VisitSimdHigh, VisitSimdLow,
-        Visitor,
+        ByAny, Once, OnceAtomic, OnceGc, OnceMisc, OnceNumeric, OnceOneByte, OnceSimdHigh,
+        OnceSimdLow, Own, OwnAtomic, OwnGc, OwnMisc, OwnNumeric, OwnOneByte, OwnSimdHigh,
+        OwnSimdLow, Routes, Through, VisitAtomic, VisitGc, VisitMisc, VisitNumeric, VisitOneByte,
+        VisitSimdHigh, VisitSimdLow, Visitor,
     };
 }
 

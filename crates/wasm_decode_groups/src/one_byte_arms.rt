@@ -8,14 +8,14 @@ ghost use Rattle.wasm_decode_opcodes.specs.Entry.{entry_kinds, free, guarded};
 ghost use Rattle.wasm_decode_opcodes.specs.Refused.{LeadsList};
 ghost use Rattle.wasm_decode_groups.specs.Arms.{IsRow};
 
-use crate::arm::{At, ByAny, Group, Maker, Own};
+use crate::arm::{At, Group, Maker};
 use std::alloc::Global;
 use wasm_decode_opcodes::{Guard, Immediates, Lists};
 use wasm_visit_groups::below::{BinaryReader, Result};
 use wasm_visit_groups::grammar::FrameKind;
 use wasm_visit_groups::imm::{ResumeTable, Select, TryTable};
 use wasm_visit_groups::instr::Operator;
-use wasm_visit_groups::{VisitOneByte, Visitor};
+use wasm_visit_groups::{ByAny, Own, VisitOneByte, Visitor};
 
 pub struct OneByte;
 

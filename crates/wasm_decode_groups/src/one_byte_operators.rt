@@ -7,7 +7,7 @@ ghost use Rattle.wasm_decode_opcodes.specs.Entries.{align_at};
 ghost use Rattle.wasm_decode_groups.specs.Arms.{HasKindsAt};
 ghost use Rattle.wasm_decode_groups.specs.OneByte.{IsOneByteCode};
 
-use crate::arm::{At, ByAny, Maker, Makes, Own, arm};
+use crate::arm::{At, Maker, Makes, arm};
 use crate::one_byte_arms::{AtList, OneByte, guarded_arm, list_arm};
 use crate::out_of_line::other_one_byte_by;
 use std::alloc::Global;
@@ -18,7 +18,7 @@ use wasm_visit_groups::imm::{
     BlockType, Ieee32, Ieee64, MemArgKind, ResumeTable, Select, TryTable,
 };
 use wasm_visit_groups::instr::Operator;
-use wasm_visit_groups::{VisitOneByte, Visitor};
+use wasm_visit_groups::{ByAny, Own, VisitOneByte, Visitor};
 
 /// Reads the immediates of an operator with a one-byte opcode and visits it. Common operators are
 /// inlined.

@@ -6,12 +6,11 @@ ghost use Rattle.std.specs.Prelude.{◌≡◌, None, Ok, Err, IfSome, IfNone};
 ghost use Rattle.wasm_decode_groups.specs.OneByte.{IsOneByteCode};
 ghost use Rattle.wasm_decode_opcodes.specs.Decoding.{DecodesAt, IsAfterCode};
 
-use crate::arm::Own;
 use crate::one_byte_operators::{AtOneByte, any_one_byte_by};
 use std::alloc::Global;
 use wasm_visit_groups::below::{BinaryReader, Error, Message, Result};
 use wasm_visit_groups::grammar::FrameKind;
-use wasm_visit_groups::{VisitOneByte, Visitor};
+use wasm_visit_groups::{Own, VisitOneByte, Visitor};
 
 /// Reads the immediates of an operator with a one-byte opcode and visits it.
 #[inline(always)]

@@ -3,12 +3,12 @@ ghost use Rattle.std.specs.Prelude.{◌≤◌, Some};
 ghost use Rattle.wasm_visit_groups.specs.grammar.declared.frame_kind.FrameKind.{FrameKind};
 ghost use Rattle.wasm_decode_opcodes.specs.Decoding.{DecodesAt, IsAfterCode};
 
-use crate::arm::{At, ByAny, Maker, Makes, Own, SimdHigh, arm};
+use crate::arm::{At, Maker, Makes, SimdHigh, arm};
 use crate::vectors_without_immediates::has_no_immediates;
 use wasm_decode_opcodes::unknown_subopcode;
 use wasm_visit_groups::below::{BinaryReader, Result};
 use wasm_visit_groups::instr::SimdOperator;
-use wasm_visit_groups::{VisitSimdHigh, Visitor};
+use wasm_visit_groups::{ByAny, Own, VisitSimdHigh, Visitor};
 
 /// Reads the immediates of a SIMD operator from 0x80 on and visits it.
 #[inline(always)]

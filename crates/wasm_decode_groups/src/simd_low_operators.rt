@@ -6,13 +6,13 @@ ghost use Rattle.wasm_decode_opcodes.specs.Decoding.{DecodesAt, IsAfterCode};
 ghost use Rattle.wasm_decode_opcodes.specs.Entries.{align_at};
 ghost use Rattle.wasm_decode_groups.specs.Arms.{HasKindsAt};
 
-use crate::arm::{At, ByAny, Maker, Makes, Own, SimdLow, arm};
+use crate::arm::{At, Maker, Makes, SimdLow, arm};
 use crate::vectors_without_immediates::has_no_immediates;
 use wasm_decode_opcodes::PlainMemArg;
 use wasm_visit_groups::below::{BinaryReader, Result};
 use wasm_visit_groups::imm::{MemArgKind, V128};
 use wasm_visit_groups::instr::SimdOperator;
-use wasm_visit_groups::{VisitSimdLow, Visitor};
+use wasm_visit_groups::{ByAny, Own, VisitSimdLow, Visitor};
 
 /// Reads the immediates of a SIMD operator below 0x80 and visits it.
 #[inline(always)]

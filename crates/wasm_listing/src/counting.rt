@@ -2,7 +2,7 @@ ghost use Rattle.std.specs.Prelude.{◌≡◌, [], replicate, slice_index_or};
 ghost use Rattle.wasm_listing.specs.Census.{proposals, one_more_of, CountsVisit};
 
 use std::marker::Model;
-use wasm_operators::{BrTable, Operator, VisitGroups, VisitOperator, VisitSimdOperator, Visitor};
+use wasm_operators::{BrTable, ByAny, Operator, VisitOperator, Visitor};
 
 static PROPOSALS: [&str; 19] = [
     "mvp",
@@ -75,6 +75,8 @@ impl Census {
 impl Visitor for Census {
     type Output = ();
 
+    type Visits = ByAny;
+
     ghost visits = { λ before op outcome after. CountsVisit before op after };
 
     fn visit_any(&mut self, op: Operator<'static>) {
@@ -82,12 +84,8 @@ impl Visitor for Census {
     }
 }
 
-impl VisitGroups for Census {}
-
 impl<'a> VisitOperator<'a> for Census {
     fn visit_br_table(&mut self, targets: BrTable<'a>) {
         self.count(Operator::BrTable { targets }.info().proposal.name());
     }
 }
-
-impl VisitSimdOperator for Census {}

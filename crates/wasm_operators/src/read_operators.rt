@@ -6,7 +6,7 @@ use std::alloc::Global;
 use wasm_operators_readers::below::{BinaryReader, Error, Message, Result};
 use wasm_operators_readers::decoder;
 use wasm_operators_readers::instr::{FrameStack, Operator};
-use wasm_operators_readers::visitors::{VisitOperator, VisitSimdOperator};
+use wasm_operators_readers::visitors::VisitOperator;
 
 /// Reading of single operators, with frames that the caller keeps: each call asks once for the
 /// innermost, before anything else.
@@ -67,17 +67,14 @@ impl<'a, V: VisitOperator<'a> + FrameStack> ReadVisits<'a, V> for BinaryReader<'
 }
 
 /// Visiting of single operators by a visitor of all operators.
-pub trait ReadSimdVisits<'a, V: VisitOperator<'a> + VisitSimdOperator + FrameStack>: ReadOperators<
-    'a,
-> {
+pub trait ReadSimdVisits<'a, V: VisitOperator<'a> + FrameStack>: ReadOperators<'a> {
     /// Visits the next operator, SIMD or not. Fails as `visit_operator` does, but never with
     /// `UnexpectedSimd`.
     fn visit_operator_simd(&mut self, alloc: Global, v: &mut V) -> Result<V::Output>
         ensures { DecodesIn V.visits (V.frame v.old) result (Self.reader self.old) (Self.reader self.new) v.old v.new };
 }
 
-impl<'a, V: VisitOperator<'a> + VisitSimdOperator + FrameStack> ReadSimdVisits<'a, V>
-    for BinaryReader<'a> {
+impl<'a, V: VisitOperator<'a> + FrameStack> ReadSimdVisits<'a, V> for BinaryReader<'a> {
     #[inline(always)]
     fn visit_operator_simd(&mut self, alloc: Global, v: &mut V) -> Result<V::Output> {
         let frame = v.current_frame();

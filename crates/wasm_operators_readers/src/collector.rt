@@ -4,9 +4,7 @@ ghost use Rattle.wasm_decode.specs.instr.declared.operator.Operator.{Operator};
 ghost use Rattle.wasm_operators_readers.specs.Collecting.{CollectsOne};
 
 use wasm_decode::instr::{BrTable, Operator};
-use wasm_decode::visitors::{
-    HoldOperator, HoldTable, VisitGroups, VisitOperator, VisitSimdOperator, Visitor,
-};
+use wasm_decode::visitors::{ByAny, HoldOperator, HoldTable, VisitOperator, Visitor};
 
 /// Appends an item made of the operator, with the offset that was set before the visit. The item is
 /// made in place.
@@ -19,6 +17,8 @@ pub struct Collector<T> {
 impl<T: HoldOperator + Drop> Visitor for Collector<T> {
     type Output = ();
 
+    type Visits = ByAny;
+
     // If the list has capacity, a visit appends one item.
     ghost visits = { λ before op outcome after. vec_len before.items < vec_capacity before.items
         → CollectsOne T.holds before.offset before.items.items op after.items.items
@@ -30,13 +30,9 @@ impl<T: HoldOperator + Drop> Visitor for Collector<T> {
     }
 }
 
-impl<T: HoldOperator + Drop> VisitGroups for Collector<T> {}
-
 impl<'a, T: HoldTable<'a> + Drop> VisitOperator<'a> for Collector<T> {
     #[inline(always)]
     fn visit_br_table(&mut self, targets: BrTable<'a>) {
         let _ = self.items.push((T::hold_table(targets), self.offset));
     }
 }
-
-impl<T: HoldOperator + Drop> VisitSimdOperator for Collector<T> {}

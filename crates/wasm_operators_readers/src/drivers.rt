@@ -15,7 +15,7 @@ use crate::operators::OperatorsReader;
 use std::mem::replace;
 use wasm_decode::below::{Error, Message, Result};
 use wasm_decode::instr::Operator;
-use wasm_decode::visitors::{HoldTable, VisitOperator, VisitSimdOperator};
+use wasm_decode::visitors::{HoldTable, VisitOperator};
 
 impl<'a> OperatorsReader<'a> {
     fn read_to_end<T>(&mut self, out: &mut Vec<(T, u64)>) -> Result<()>
@@ -87,7 +87,7 @@ impl<'a> OperatorsReader<'a> {
     /// ```
     pub fn visit_all_simd<V>(&mut self, v: &mut V) -> Result<()>
     where
-        V: VisitOperator<'a> + VisitSimdOperator,
+        V: VisitOperator<'a>,
         V::Output: Copy,
         ensures rest { (before : List Operator) → ReadSoFar before self.old
             → ReadsRest (Visited V.visits v.old v.new) IsAny EncodesAllowed OperatorFault

@@ -16,7 +16,7 @@ use crate::collector::Collector;
 use crate::step::keeps_frames;
 use std::alloc::Global;
 use wasm_decode::below::{BinaryReader, Error, Message, Result};
-use wasm_decode::visitors::{HoldTable, VisitOperator, VisitSimdOperator};
+use wasm_decode::visitors::{HoldTable, VisitOperator};
 use wasm_decode::{visit_after_opcode, visit_after_opcode_simd, visit_below_0x20};
 
 #[inline(always)]
@@ -27,7 +27,7 @@ pub fn visit_next_simd<'a, V>(
     control: &mut ControlStack,
 ) -> Result<V::Output>
 where
-    V: VisitOperator<'a> + VisitSimdOperator,
+    V: VisitOperator<'a>,
     ensures { VisitsNext V.visits result (state_of reader.old control.old) (state_of reader.new control.new)
         v.old v.new }
 {
@@ -96,7 +96,7 @@ pub fn visit_rest_simd<'a, V>(
     control: &mut ControlStack,
 ) -> Result<()>
 where
-    V: VisitOperator<'a> + VisitSimdOperator,
+    V: VisitOperator<'a>,
     V::Output: Copy,
     ensures { RunsToEnd (Visited V.visits v.old v.new) EncodesAllowed OperatorFault (NextMayAllocate EncodesAllowed)
         result (state_of reader.old control.old) (state_of reader.new control.new) }

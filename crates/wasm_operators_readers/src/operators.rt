@@ -17,7 +17,7 @@ use wasm_decode::below::{BinaryReader, Result};
 use wasm_decode::grammar::FrameKind;
 use wasm_decode::instr::Operator;
 use wasm_decode::read_after_opcode;
-use wasm_decode::visitors::{VisitOperator, VisitSimdOperator};
+use wasm_decode::visitors::VisitOperator;
 
 /// A reader of the operators of an expression, with its open frames.
 ///
@@ -138,7 +138,7 @@ impl<'a> OperatorsReader<'a> {
     #[inline(always)]
     pub fn visit_operator_simd<V>(&mut self, v: &mut V) -> Result<V::Output>
     where
-        V: VisitOperator<'a> + VisitSimdOperator,
+        V: VisitOperator<'a>,
         ensures { VisitsNext V.visits result self.old self.new v.old v.new }
     {
         visit_next_simd(self.alloc, v, &mut self.reader, &mut self.control)

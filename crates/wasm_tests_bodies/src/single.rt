@@ -2,9 +2,8 @@ use crate::row::Given;
 use crate::words::{is_lacking, write_error, write_position};
 use std::alloc::Global;
 use wasm_listing::operators::{
-    BinaryReader, BrTable, FrameKind, FrameStack, Operator, OperatorsReader, ReadOperators,
-    ReadSimdVisits, ReadVisits, Result, VisitGroups, VisitOperator, VisitSimdOperator, Visitor,
-    visit_operator_with_simd,
+    BinaryReader, BrTable, ByAny, FrameKind, FrameStack, Operator, OperatorsReader, Result,
+    VisitOperator, Visitor, visit_operator_with_simd,
 };
 use wasm_tests_texts::{Written, write_operator};
 
@@ -26,6 +25,8 @@ impl FrameStack for Under {
 impl Visitor for Under {
     type Output = Visited;
 
+    type Visits = ByAny;
+
     ghost visits = { λ before op outcome after. Unit {0} };
 
     fn visit_any(&mut self, op: Operator<'static>) -> Visited {
@@ -33,15 +34,11 @@ impl Visitor for Under {
     }
 }
 
-impl VisitGroups for Under {}
-
 impl<'a> VisitOperator<'a> for Under {
     fn visit_br_table(&mut self, _targets: BrTable<'a>) -> Visited {
         None
     }
 }
-
-impl VisitSimdOperator for Under {}
 
 #[derive(Clone, Copy, Debug)]
 pub enum Visits {

@@ -1,8 +1,7 @@
 use crate::reported::Listed;
 use std::fmt::{self, Write};
 use wasm_operators::{
-    BinaryReader, BrTable, MiscOperator, Operator, Result, VisitGroups, VisitOperator,
-    VisitSimdOperator, Visitor, decode, dispatch,
+    BrTable, ByAny, MiscOperator, Operator, OwnMisc, Result, VisitOperator, Visitor,
 };
 
 /// The number of operators, and the 64-bit FNV-1a hash of their texts.
@@ -46,6 +45,8 @@ impl Write for Prints {
 impl Visitor for Prints {
     type Output = ();
 
+    type Visits = ByAny;
+
     ghost visits = { λ before op outcome after. Unit {0} };
 
     fn visit_any(&mut self, op: Operator<'static>) {
@@ -53,15 +54,11 @@ impl Visitor for Prints {
     }
 }
 
-impl VisitGroups for Prints {}
-
 impl<'a> VisitOperator<'a> for Prints {
     fn visit_br_table(&mut self, targets: BrTable<'a>) {
         self.add(&Operator::BrTable { targets });
     }
 }
-
-impl VisitSimdOperator for Prints {}
 
 /// A visitor with results of 4096 bytes: the hash, repeated.
 #[derive(Clone, Copy, Debug, PartialEq, Eq)]
@@ -72,6 +69,8 @@ pub struct LargePrints {
 impl Visitor for LargePrints {
     type Output = [u64; 512];
 
+    type Visits = ByAny;
+
     ghost visits = { λ before op outcome after. Unit {0} };
 
     fn visit_any(&mut self, op: Operator<'static>) -> [u64; 512] {
@@ -80,16 +79,12 @@ impl Visitor for LargePrints {
     }
 }
 
-impl VisitGroups for LargePrints {}
-
 impl<'a> VisitOperator<'a> for LargePrints {
     fn visit_br_table(&mut self, targets: BrTable<'a>) -> [u64; 512] {
         self.prints.add(&Operator::BrTable { targets });
         [self.prints.print; 512]
     }
 }
-
-impl VisitSimdOperator for LargePrints {}
 
 /// Overrides and counts the visits of operators with the prefix byte 0xfc.
 #[derive(Clone, Copy, Debug, PartialEq, Eq)]
@@ -108,25 +103,12 @@ impl OwnPrints {
 impl Visitor for OwnPrints {
     type Output = ();
 
+    type Visits = OwnMisc<ByAny>;
+
     ghost visits = { λ before op outcome after. Unit {0} };
 
     fn visit_any(&mut self, op: Operator<'static>) {
         self.prints.add(&op);
-    }
-}
-
-impl VisitGroups for OwnPrints {
-    fn dispatch_misc(&mut self, op: MiscOperator) {
-        dispatch::misc(self, op)
-    }
-
-    fn decode_misc(
-        &mut self,
-        reader: &mut BinaryReader<'_>,
-        start: usize,
-        code: u32,
-    ) -> Result<()> {
-        decode::misc(self, reader, start, code)
     }
 }
 
@@ -135,5 +117,3 @@ impl<'a> VisitOperator<'a> for OwnPrints {
         self.prints.add(&Operator::BrTable { targets });
     }
 }
-
-impl VisitSimdOperator for OwnPrints {}

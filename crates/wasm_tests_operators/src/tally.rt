@@ -1,8 +1,8 @@
 use std::alloc::Global;
 use std::io::{self, Print};
 use wasm_operators::{
-    BinaryReader, BrTable, FrameKind, MiscOperator, Operator, OperatorsReader, Result, VisitGroups,
-    VisitMisc, VisitOneByte, VisitOperator, VisitSimdOperator, Visitor, decode, dispatch,
+    BinaryReader, BrTable, ByAny, Operator, OperatorsReader, OwnMisc, OwnOneByte, Result,
+    VisitMisc, VisitOneByte, VisitOperator, Visitor,
 };
 
 /// `data.drop` twice, then `drop` and `end`.
@@ -24,6 +24,8 @@ pub struct Tally {
 
 impl Visitor for Tally {
     type Output = ();
+
+    type Visits = OwnOneByte<OwnMisc<ByAny>>;
 
     ghost visits = { λ before op outcome after. Unit {0} };
 
@@ -48,54 +50,11 @@ impl VisitMisc for Tally {
     }
 }
 
-impl VisitGroups for Tally {
-    fn dispatch_one_byte(&mut self, op: Operator<'_>) {
-        dispatch::one_byte(self, op)
-    }
-
-    fn dispatch_misc(&mut self, op: MiscOperator) {
-        dispatch::misc(self, op)
-    }
-
-    fn decode_one_byte(
-        &mut self,
-        alloc: Global,
-        reader: &mut BinaryReader<'_>,
-        start: usize,
-        frame: FrameKind,
-        code: u8,
-    ) -> Result<()> {
-        decode::one_byte(alloc, self, reader, start, frame, code)
-    }
-
-    fn decode_below_0x20(
-        &mut self,
-        alloc: Global,
-        reader: &mut BinaryReader<'_>,
-        start: usize,
-        frame: FrameKind,
-        code: u8,
-    ) -> Result<()> {
-        decode::one_byte(alloc, self, reader, start, frame, code)
-    }
-
-    fn decode_misc(
-        &mut self,
-        reader: &mut BinaryReader<'_>,
-        start: usize,
-        code: u32,
-    ) -> Result<()> {
-        decode::misc(self, reader, start, code)
-    }
-}
-
 impl<'a> VisitOperator<'a> for Tally {
     fn visit_br_table(&mut self, _targets: BrTable<'a>) {
         self.any = self.any.saturating_add(1);
     }
 }
-
-impl VisitSimdOperator for Tally {}
 
 /// Prints counts of overridden and other visits: directly by both drivers; by reference, in a
 /// `Box`, and by reference to it.

@@ -1,8 +1,8 @@
 use crate::outcomes::write_visits;
 use std::alloc::Global;
 use wasm_listing::operators::{
-    BinaryReader, BrTable, FunctionBody, Operator, OperatorsReader, Result, VisitGroups,
-    VisitOperator, VisitSimdOperator, Visitor, WasmFeatures,
+    BinaryReader, BrTable, ByAny, FunctionBody, Operator, OperatorsReader, Result, VisitOperator,
+    Visitor, WasmFeatures,
 };
 use wasm_tests_texts::Written;
 
@@ -14,14 +14,14 @@ struct Plain {
 impl Visitor for Plain {
     type Output = ();
 
+    type Visits = ByAny;
+
     ghost visits = { λ before op outcome after. Unit {0} };
 
     fn visit_any(&mut self, _op: Operator<'static>) {
         self.visits = self.visits.saturating_add(1);
     }
 }
-
-impl VisitGroups for Plain {}
 
 impl<'a> VisitOperator<'a> for Plain {
     fn visit_br_table(&mut self, _targets: BrTable<'a>) {
@@ -37,6 +37,8 @@ struct All {
 impl Visitor for All {
     type Output = ();
 
+    type Visits = ByAny;
+
     ghost visits = { λ before op outcome after. Unit {0} };
 
     fn visit_any(&mut self, _op: Operator<'static>) {
@@ -44,15 +46,11 @@ impl Visitor for All {
     }
 }
 
-impl VisitGroups for All {}
-
 impl<'a> VisitOperator<'a> for All {
     fn visit_br_table(&mut self, _targets: BrTable<'a>) {
         self.visits = self.visits.saturating_add(1);
     }
 }
-
-impl VisitSimdOperator for All {}
 
 fn after_locals<'a>(
     alloc: Global,

@@ -4,7 +4,6 @@ ghost use Rattle.wasm_decode_groups.specs.instr.Kinds.{IsVector, HoldsList};
 
 use crate::operator::VisitOperator;
 use crate::owned::{visit_owned, visit_owned_simd};
-use crate::vectors::VisitSimdOperator;
 use std::alloc::Global;
 use wasm_decode_groups::below::Result;
 use wasm_decode_groups::instr::Operator;
@@ -33,13 +32,11 @@ pub fn visit_operator<'a, V: VisitOperator<'a>>(
 ///
 /// Fails only with `OutOfMemory` at offset 0, and only if the operator owns a list. No visit is
 /// made then.
-pub fn visit_operator_with_simd<'a, V>(
+pub fn visit_operator_with_simd<'a, V: VisitOperator<'a>>(
     alloc: Global,
     v: &mut V,
     op: &Operator<'a>,
 ) -> Result<V::Output>
-where
-    V: VisitOperator<'a> + VisitSimdOperator,
     ensures visited { IfOk result (λ outcome. V.visits v.old op.now outcome v.new) }
     ensures refused { IfErr result (λ e. IsOutOfMemoryAt 0 e × (v.new ≡ v.old)) }
     ensures lean { ¬ HoldsList op.now → IsOk result }

@@ -2,9 +2,7 @@ ghost use Rattle.std.specs.Prelude.{◌≡◌, ◌↔◌, IsTrue};
 ghost use Rattle.wasm_decode_groups.specs.instr.declared.operator.Operator.{Operator};
 
 use crate::operator::VisitOperator;
-use crate::vectors::VisitSimdOperator;
-use crate::visit_groups::VisitGroups;
-use wasm_decode_groups::groups::Visitor;
+use wasm_decode_groups::groups::{ByAny, Visitor};
 use wasm_decode_groups::instr::{BrTable, Operator};
 
 /// A visitor that returns whether the operator is `End`.
@@ -14,6 +12,8 @@ pub struct IsEndOperatorVisitor;
 impl Visitor for IsEndOperatorVisitor {
     type Output = bool;
 
+    type Visits = ByAny;
+
     ghost visits = { λ before op outcome after. IsTrue outcome ↔ (op ≡ Operator.End) };
 
     #[inline(always)]
@@ -22,13 +22,9 @@ impl Visitor for IsEndOperatorVisitor {
     }
 }
 
-impl VisitGroups for IsEndOperatorVisitor {}
-
 impl<'a> VisitOperator<'a> for IsEndOperatorVisitor {
     #[inline(always)]
     fn visit_br_table(&mut self, _targets: BrTable<'a>) -> bool {
         false
     }
 }
-
-impl VisitSimdOperator for IsEndOperatorVisitor {}

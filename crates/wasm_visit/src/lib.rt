@@ -2,27 +2,30 @@
 #![tactic(auto)]
 
 mod borrowed;
-mod by_box;
-mod by_reference;
 pub mod dispatch;
-mod factory;
 mod is_end;
+mod made;
 mod maker;
 mod operator;
 mod owned;
-mod vectors;
-mod visit_groups;
+mod owned_one_byte;
+mod routes;
 
 pub use borrowed::{visit_operator, visit_operator_with_simd};
 pub use is_end::IsEndOperatorVisitor;
 pub use maker::{HoldOperator, HoldTable, OperatorFactory, OperatorMaker};
 pub use operator::VisitOperator;
 pub use owned::{visit_owned, visit_owned_simd};
-pub use vectors::VisitSimdOperator;
-pub use visit_groups::VisitGroups;
+pub use routes::{
+    CallAtomic, CallGc, CallMisc, CallNumeric, CallOneByte, CallSimdHigh, CallSimdLow, GroupAtomic,
+    GroupGc, GroupMisc, GroupNumeric, GroupOneByte, GroupSimdHigh, GroupSimdLow, RouteAtomic,
+    RouteGc, RouteMisc, RouteNumeric, RouteOneByte, RouteSimdHigh, RouteSimdLow,
+};
 pub use wasm_decode_groups::groups::{
-    VisitAtomic, VisitGc, VisitMisc, VisitNumeric, VisitOneByte, VisitSimdHigh, VisitSimdLow,
-    Visitor,
+    ByAny, Once, OnceAtomic, OnceGc, OnceMisc, OnceNumeric, OnceOneByte, OnceSimdHigh, OnceSimdLow,
+    Own, OwnAtomic, OwnGc, OwnMisc, OwnNumeric, OwnOneByte, OwnSimdHigh, OwnSimdLow, Routes,
+    Through, VisitAtomic, VisitGc, VisitMisc, VisitNumeric, VisitOneByte, VisitSimdHigh,
+    VisitSimdLow, Visitor,
 };
 pub use wasm_decode_groups::{below, grammar, imm, instr, opcodes};
 
@@ -34,7 +37,8 @@ pub mod decode {
     };
 }
 
-/// The visitor that makes the operators that borrow nothing, in place.
-pub mod layer_factory {
-    pub use wasm_visit_factory::Factory;
+/// Reading an operator: the visitor that returns it, and a decoder by any route.
+pub mod reading {
+    pub use crate::made::Made;
+    pub use wasm_decode_groups::gc_by;
 }

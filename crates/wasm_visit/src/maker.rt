@@ -2,9 +2,7 @@ ghost use Rattle.std.specs.Prelude.{◌≡◌};
 ghost use Rattle.wasm_decode_groups.specs.instr.declared.operator.Operator.{Operator};
 
 use crate::operator::VisitOperator;
-use crate::vectors::VisitSimdOperator;
-use crate::visit_groups::VisitGroups;
-use wasm_decode_groups::groups::Visitor;
+use wasm_decode_groups::groups::{ByAny, Visitor};
 use wasm_decode_groups::instr::{BrTable, Operator};
 
 /// A type whose values can be made from an operator that borrows nothing.
@@ -60,6 +58,8 @@ impl<T> OperatorMaker<T> {
 impl<T: HoldOperator> Visitor for OperatorMaker<T> {
     type Output = T;
 
+    type Visits = ByAny;
+
     ghost visits = { λ before op outcome after. T.holds op outcome };
 
     #[inline(always)]
@@ -68,13 +68,9 @@ impl<T: HoldOperator> Visitor for OperatorMaker<T> {
     }
 }
 
-impl<T: HoldOperator> VisitGroups for OperatorMaker<T> {}
-
 impl<'a, T: HoldTable<'a>> VisitOperator<'a> for OperatorMaker<T> {
     #[inline(always)]
     fn visit_br_table(&mut self, targets: BrTable<'a>) -> T {
         T::hold_table(targets)
     }
 }
-
-impl<T: HoldOperator> VisitSimdOperator for OperatorMaker<T> {}

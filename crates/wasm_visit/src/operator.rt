@@ -1,14 +1,34 @@
 ghost use Rattle.wasm_decode_groups.specs.instr.declared.operator.Operator.{Operator};
 
-use crate::visit_groups::VisitGroups;
+use crate::routes::{
+    GroupAtomic, GroupGc, GroupMisc, GroupNumeric, GroupOneByte, GroupSimdHigh, GroupSimdLow,
+};
 use wasm_decode_groups::instr::BrTable;
 
-/// A visitor of the operators that are not SIMD operators.
+/// A visitor of all operators.
 ///
-/// A trait with a lifetime cannot have default bodies. So all methods except `visit_br_table` are
-/// in `VisitGroups`.
-pub trait VisitOperator<'a>: VisitGroups {
+/// The groups are implemented for every `Visitor` whose `Visits` name a route for each. Here an
+/// error occurs if `Visits` name a group and the visitor has no visits of it.
+pub trait VisitOperator<'a>: GroupOneByte
+    + GroupNumeric
+    + GroupGc
+    + GroupMisc
+    + GroupAtomic
+    + GroupSimdLow
+    + GroupSimdHigh {
     /// Visits `BrTable`, the only operator that borrows.
     fn visit_br_table(&mut self, targets: BrTable<'a>) -> Self::Output
         ensures { Self.visits self.old (Operator.BrTable targets.entry) result self.new };
+}
+
+impl<'a, V: VisitOperator<'a>> VisitOperator<'a> for &mut V {
+    fn visit_br_table(&mut self, targets: BrTable<'a>) -> Self::Output {
+        (**self).visit_br_table(targets)
+    }
+}
+
+impl<'a, V: VisitOperator<'a>> VisitOperator<'a> for Box<V> {
+    fn visit_br_table(&mut self, targets: BrTable<'a>) -> Self::Output {
+        (**self).visit_br_table(targets)
+    }
 }

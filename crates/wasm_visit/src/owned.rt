@@ -2,7 +2,7 @@ ghost use Rattle.wasm_decode_groups.specs.instr.declared.operator.Operator.{Oper
 ghost use Rattle.wasm_decode_groups.specs.instr.Kinds.{IsVector};
 
 use crate::operator::VisitOperator;
-use crate::vectors::VisitSimdOperator;
+use crate::routes::{GroupSimdHigh, GroupSimdLow};
 use wasm_decode_groups::instr::{Operator, SimdOperator};
 
 /// Visits an operator that is not a SIMD operator. The call itself does not allocate.
@@ -22,9 +22,7 @@ pub fn visit_owned<'a, V: VisitOperator<'a>>(v: &mut V, op: Operator<'a>) -> V::
 }
 
 /// Visits an operator, including SIMD operators. The call itself does not allocate.
-pub fn visit_owned_simd<'a, V>(v: &mut V, op: Operator<'a>) -> V::Output
-where
-    V: VisitOperator<'a> + VisitSimdOperator,
+pub fn visit_owned_simd<'a, V: VisitOperator<'a>>(v: &mut V, op: Operator<'a>) -> V::Output
     ensures { V.visits v.old op.entry result v.new }
 {
     match op {
@@ -34,7 +32,7 @@ where
 }
 
 /// Visits a SIMD operator. The call itself does not allocate.
-fn visit_vector<V: VisitSimdOperator>(v: &mut V, op: SimdOperator) -> V::Output
+fn visit_vector<V: GroupSimdLow + GroupSimdHigh>(v: &mut V, op: SimdOperator) -> V::Output
     ensures { V.visits v.old (Operator.Simd op) result v.new }
 {
     if op.info().code < 0x80 {

@@ -2,16 +2,15 @@
 ghost use Rattle.wasm_instr.specs.declared.operator.Operator.{Operator};
 ghost use Rattle.wasm_instr.specs.ops.atomic.AtomicOperator.{AtomicOperator};
 
+use crate::route::ToOwn;
+use crate::routes::Routes;
 use crate::visitor::Visitor;
 use wasm_instr::imm::{MemArg, Ordering};
 use wasm_instr::{AtomicOperator, Operator};
 
 /// Visits of the operators with the prefix byte 0xfe. Proposal threads. By default they call
-/// `visit_any`. Overridden visits run only if the visitor's `VisitGroups` has these methods:
-///
-/// - `dispatch_atomic`, by `dispatch::atomic(self, op)`
-/// - `decode_atomic`, by `decode::atomic(self, reader, start, code)`
-pub trait VisitAtomic: Visitor {
+/// `visit_any`. A visitor that overrides visits names `OwnAtomic` in its `Visits`.
+pub trait VisitAtomic: Visitor<Visits: Routes<Atomic: ToOwn>> {
     #[inline(always)]
     fn visit_memory_atomic_notify(&mut self, memarg: MemArg) -> Self::Output
         ensures { Self.visits self.old (Operator.Atomic (AtomicOperator.MemoryAtomicNotify memarg)) result self.new }

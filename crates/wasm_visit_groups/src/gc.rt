@@ -2,17 +2,15 @@
 ghost use Rattle.wasm_instr.specs.declared.operator.Operator.{Operator};
 ghost use Rattle.wasm_instr.specs.ops.gc.GcOperator.{GcOperator};
 
+use crate::route::ToOwn;
+use crate::routes::Routes;
 use crate::visitor::Visitor;
 use wasm_instr::below::{HeapType, RefType};
 use wasm_instr::{GcOperator, Operator};
 
 /// Visits of the operators with the prefix byte 0xfb. Specification: Aggregate Instructions. By
-/// default they call `visit_any`. Overridden visits run only if the visitor's `VisitGroups` has
-/// these methods:
-///
-/// - `dispatch_gc`, by `dispatch::gc(self, op)`
-/// - `decode_gc`, by `decode::gc(self, reader, start, code)`
-pub trait VisitGc: Visitor {
+/// default they call `visit_any`. A visitor that overrides visits names `OwnGc` in its `Visits`.
+pub trait VisitGc: Visitor<Visits: Routes<Gc: ToOwn>> {
     #[inline(always)]
     fn visit_struct_new(&mut self, struct_type_index: u32) -> Self::Output
         ensures { Self.visits self.old (Operator.Gc (GcOperator.StructNew struct_type_index)) result self.new }

@@ -1,4 +1,4 @@
-//! The trait of all visitors, and the visits of operators in seven groups.
+//! The trait of all visitors, the visits of operators in seven groups, and the routes to them.
 #![tactic(auto)]
 
 mod atomic;
@@ -6,6 +6,8 @@ mod gc;
 mod misc;
 mod numeric;
 mod one_byte;
+mod route;
+mod routes;
 mod simd_high;
 mod simd_low;
 mod visitor;
@@ -15,6 +17,11 @@ pub use gc::VisitGc;
 pub use misc::VisitMisc;
 pub use numeric::VisitNumeric;
 pub use one_byte::VisitOneByte;
+pub use route::{ByAny, Once, Own, Through, ToOwn};
+pub use routes::{
+    OnceAtomic, OnceGc, OnceMisc, OnceNumeric, OnceOneByte, OnceSimdHigh, OnceSimdLow, OwnAtomic,
+    OwnGc, OwnMisc, OwnNumeric, OwnOneByte, OwnSimdHigh, OwnSimdLow, Routes,
+};
 pub use simd_high::VisitSimdHigh;
 pub use simd_low::VisitSimdLow;
 pub use visitor::Visitor;

@@ -2,16 +2,15 @@
 ghost use Rattle.wasm_instr.specs.declared.operator.Operator.{Operator};
 ghost use Rattle.wasm_instr.specs.ops.misc.MiscOperator.{MiscOperator};
 
+use crate::route::ToOwn;
+use crate::routes::Routes;
 use crate::visitor::Visitor;
 use wasm_instr::{MiscOperator, Operator};
 
 /// Visits of the operators with the prefix byte 0xfc. Specification: Numeric, Memory and Table
-/// Instructions. By default they call `visit_any`. Overridden visits run only if the visitor's
-/// `VisitGroups` has these methods:
-///
-/// - `dispatch_misc`, by `dispatch::misc(self, op)`
-/// - `decode_misc`, by `decode::misc(self, reader, start, code)`
-pub trait VisitMisc: Visitor {
+/// Instructions. By default they call `visit_any`. A visitor that overrides visits names `OwnMisc`
+/// in its `Visits`.
+pub trait VisitMisc: Visitor<Visits: Routes<Misc: ToOwn>> {
     #[inline(always)]
     fn visit_i32_trunc_sat_f32_s(&mut self) -> Self::Output
         ensures { Self.visits self.old (Operator.Misc MiscOperator.I32TruncSatF32S) result self.new }

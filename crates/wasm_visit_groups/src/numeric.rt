@@ -2,16 +2,15 @@
 ghost use Rattle.wasm_instr.specs.declared.operator.Operator.{Operator};
 ghost use Rattle.wasm_instr.specs.ops.numeric.NumericOperator.{NumericOperator};
 
+use crate::route::ToOwn;
+use crate::routes::Routes;
 use crate::visitor::Visitor;
 use wasm_instr::{NumericOperator, Operator};
 
 /// Visits of the numeric operators with a one-byte opcode, 0x45 to 0xc4. Specification: Numeric
-/// Instructions. By default they call `visit_any`. Overridden visits run only if the visitor's
-/// `VisitGroups` has these methods:
-///
-/// - `dispatch_numeric`, by `dispatch::numeric(self, op)`
-/// - `decode_numeric`, by `decode::numeric(self, code)`
-pub trait VisitNumeric: Visitor {
+/// Instructions. By default they call `visit_any`. A visitor that overrides visits names
+/// `OwnNumeric` in its `Visits`.
+pub trait VisitNumeric: Visitor<Visits: Routes<Numeric: ToOwn>> {
     #[inline(always)]
     fn visit_i32_eqz(&mut self) -> Self::Output
         ensures { Self.visits self.old (Operator.Numeric NumericOperator.I32Eqz) result self.new }

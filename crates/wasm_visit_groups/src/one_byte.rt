@@ -1,19 +1,17 @@
 //! Written by tools/lists.py from tools/operators.tsv.
 ghost use Rattle.wasm_instr.specs.declared.operator.Operator.{Operator};
 
+use crate::route::ToOwn;
+use crate::routes::Routes;
 use crate::visitor::Visitor;
 use wasm_instr::Operator;
 use wasm_instr::below::{HeapType, ValType};
 use wasm_instr::imm::{BlockType, Ieee32, Ieee64, MemArg, ResumeTable, SelectTypes, TryTable};
 
 /// Visits of the operators with a one-byte opcode, except the numeric ones and the branch table.
-/// Specification: Instructions. By default they call `visit_any`. Overridden visits run only if the
-/// visitor's `VisitGroups` has these methods:
-///
-/// - `dispatch_one_byte`, by `dispatch::one_byte(self, op)`
-/// - `decode_one_byte`, by `decode::one_byte(alloc, self, reader, start, frame, code)`
-/// - `decode_below_0x20`, by `decode::one_byte(alloc, self, reader, start, frame, code)`
-pub trait VisitOneByte: Visitor {
+/// Specification: Instructions. By default they call `visit_any`. A visitor that overrides visits
+/// names `OwnOneByte` in its `Visits`.
+pub trait VisitOneByte: Visitor<Visits: Routes<OneByte: ToOwn>> {
     #[inline(always)]
     fn visit_unreachable(&mut self) -> Self::Output
         ensures { Self.visits self.old Operator.Unreachable result self.new }

@@ -2,16 +2,15 @@
 ghost use Rattle.wasm_instr.specs.declared.operator.Operator.{Operator};
 ghost use Rattle.wasm_instr.specs.simd.simd.SimdOperator.{SimdOperator};
 
+use crate::route::ToOwn;
+use crate::routes::Routes;
 use crate::visitor::Visitor;
 use wasm_instr::{Operator, SimdOperator};
 
 /// Visits of the SIMD operators with a subopcode of at least 0x80. Specification: Vector
-/// Instructions. By default they call `visit_any`. Overridden visits run only if the visitor's
-/// `VisitSimdOperator` has these methods:
-///
-/// - `dispatch_simd_high`, by `dispatch::simd_high(self, op)`
-/// - `decode_simd_high`, by `decode::simd_high(self, reader, start, code)`
-pub trait VisitSimdHigh: Visitor {
+/// Instructions. By default they call `visit_any`. A visitor that overrides visits names
+/// `OwnSimdHigh` in its `Visits`.
+pub trait VisitSimdHigh: Visitor<Visits: Routes<SimdHigh: ToOwn>> {
     #[inline(always)]
     fn visit_i64x2_eq(&mut self) -> Self::Output
         ensures { Self.visits self.old (Operator.Simd SimdOperator.I64x2Eq) result self.new }

@@ -2,17 +2,16 @@
 ghost use Rattle.wasm_instr.specs.declared.operator.Operator.{Operator};
 ghost use Rattle.wasm_instr.specs.simd.simd.SimdOperator.{SimdOperator};
 
+use crate::route::ToOwn;
+use crate::routes::Routes;
 use crate::visitor::Visitor;
 use wasm_instr::imm::{MemArg, V128};
 use wasm_instr::{Operator, SimdOperator};
 
 /// Visits of the SIMD operators with a subopcode below 0x80. Specification: Vector Instructions. By
-/// default they call `visit_any`. Overridden visits run only if the visitor's `VisitSimdOperator`
-/// has these methods:
-///
-/// - `dispatch_simd_low`, by `dispatch::simd_low(self, op)`
-/// - `decode_simd_low`, by `decode::simd_low(self, reader, start, code)`
-pub trait VisitSimdLow: Visitor {
+/// default they call `visit_any`. A visitor that overrides visits names `OwnSimdLow` in its
+/// `Visits`.
+pub trait VisitSimdLow: Visitor<Visits: Routes<SimdLow: ToOwn>> {
     #[inline(always)]
     fn visit_v128_load(&mut self, memarg: MemArg) -> Self::Output
         ensures { Self.visits self.old (Operator.Simd (SimdOperator.V128Load memarg)) result self.new }

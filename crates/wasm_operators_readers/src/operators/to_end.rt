@@ -13,7 +13,7 @@ use crate::collector::Collector;
 use crate::next::{collect_rest, visit_rest, visit_rest_simd};
 use std::mem::replace;
 use wasm_decode::below::{Message, Result};
-use wasm_decode::visitors::{HoldTable, VisitOperator, VisitSimdOperator};
+use wasm_decode::visitors::{HoldTable, VisitOperator};
 
 impl<'a> OperatorsReader<'a> {
     pub(crate) fn collect_to_end<T>(&mut self, list: &mut Collector<T>) -> Result<()>
@@ -34,7 +34,7 @@ impl<'a> OperatorsReader<'a> {
 
     pub(crate) fn visit_to_end_simd<V>(&mut self, v: &mut V) -> Result<()>
     where
-        V: VisitOperator<'a> + VisitSimdOperator,
+        V: VisitOperator<'a>,
         V::Output: Copy,
         ensures { RunsToEnd (Visited V.visits v.old v.new) EncodesAllowed OperatorFault (NextMayAllocate EncodesAllowed)
             result self.old self.new }

@@ -1,6 +1,6 @@
 use std::alloc::Global;
 use wasm_visit::instr::{BrTable, MiscOperator, Operator};
-use wasm_visit::{VisitGroups, VisitMisc, VisitOperator, VisitSimdOperator, Visitor, dispatch};
+use wasm_visit::{ByAny, OwnMisc, VisitMisc, VisitOperator, Visitor};
 
 /// Counts its visits, and overrides the visit of `DataDrop` to keep the index.
 #[derive(Debug, Drop)]
@@ -29,6 +29,8 @@ impl Visitor for Counter {
 
     type Output = ();
 
+    type Visits = OwnMisc<ByAny>;
+
     ghost visits = { λ before op outcome after. (before.own ≤ after.own) × (before.any ≤ after.any)
         × (before.tables ≤ after.tables) };
 
@@ -44,16 +46,8 @@ impl VisitMisc for Counter {
     }
 }
 
-impl VisitGroups for Counter {
-    fn dispatch_misc(&mut self, op: MiscOperator) {
-        dispatch::misc(self, op)
-    }
-}
-
 impl<'a> VisitOperator<'a> for Counter {
     fn visit_br_table(&mut self, _targets: BrTable<'a>) {
         self.tables = self.tables.saturating_add(1);
     }
 }
-
-impl VisitSimdOperator for Counter {}

@@ -2,7 +2,7 @@ use wasm_visit::below::BinaryReader;
 use wasm_visit::instr::{
     BrTable, GcOperator, MiscOperator, NumericOperator, Operator, SimdOperator,
 };
-use wasm_visit::{VisitOperator, VisitSimdOperator, visit_owned_simd};
+use wasm_visit::{VisitOperator, visit_owned_simd};
 
 /// The target 1 and the default target 0.
 static TABLE: [u8; 3] = [1, 1, 0];
@@ -15,7 +15,7 @@ pub fn table() -> Option<BrTable<'static>> {
 /// table, or `unreachable` if there is none.
 pub fn hand_over<'a, V>(v: &mut V, table: Option<BrTable<'a>>) -> [V::Output; 8]
 where
-    V: VisitOperator<'a> + VisitSimdOperator,
+    V: VisitOperator<'a>,
 {
     let branch = match table {
         Some(targets) => Operator::BrTable { targets },

@@ -2,7 +2,7 @@
 ghost use Rattle.std.specs.Prelude.{◌≤◌};
 
 use wasm_visit::instr::{BrTable, GcOperator, Operator};
-use wasm_visit::{VisitGc, VisitGroups, VisitOperator, VisitSimdOperator, Visitor, dispatch};
+use wasm_visit::{ByAny, OwnGc, VisitGc, VisitOperator, Visitor};
 
 #[derive(Drop)]
 pub struct Interp<'m, M> {
@@ -20,6 +20,8 @@ pub struct Module {
 impl<'m, M> Visitor for Interp<'m, M> {
     type Output = bool;
 
+    type Visits = OwnGc<ByAny>;
+
     ghost visits = { λ before op outcome after. before.unknown ≤ after.unknown };
 
     fn visit_any(&mut self, _op: Operator<'static>) -> bool {
@@ -34,16 +36,8 @@ impl<'m, M> VisitGc for Interp<'m, M> {
     }
 }
 
-impl<'m, M> VisitGroups for Interp<'m, M> {
-    fn dispatch_gc(&mut self, op: GcOperator) -> bool {
-        dispatch::gc(self, op)
-    }
-}
-
 impl<'a, 'm, M> VisitOperator<'a> for Interp<'m, M> {
     fn visit_br_table(&mut self, targets: BrTable<'a>) -> bool {
         self.known.push(targets.len()).is_ok()
     }
 }
-
-impl<'m, M> VisitSimdOperator for Interp<'m, M> {}

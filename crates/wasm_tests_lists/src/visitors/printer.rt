@@ -2,7 +2,7 @@ ghost use Rattle.std.specs.Prelude.{◌≤◌};
 
 use std::alloc::AllocError;
 use wasm_visit::instr::{BrTable, MiscOperator, Operator};
-use wasm_visit::{VisitGroups, VisitMisc, VisitOperator, VisitSimdOperator, Visitor, dispatch};
+use wasm_visit::{ByAny, OwnMisc, VisitMisc, VisitOperator, Visitor};
 
 /// Writes the names of two operators, and counts the visits of all others.
 #[derive(Drop)]
@@ -13,6 +13,8 @@ pub struct Printer<'w> {
 
 impl<'w> Visitor for Printer<'w> {
     type Output = Result<(), AllocError>;
+
+    type Visits = OwnMisc<ByAny>;
 
     ghost visits = { λ before op outcome after. before.others ≤ after.others };
 
@@ -28,16 +30,8 @@ impl<'w> VisitMisc for Printer<'w> {
     }
 }
 
-impl<'w> VisitGroups for Printer<'w> {
-    fn dispatch_misc(&mut self, op: MiscOperator) -> Result<(), AllocError> {
-        dispatch::misc(self, op)
-    }
-}
-
 impl<'a, 'w> VisitOperator<'a> for Printer<'w> {
     fn visit_br_table(&mut self, _targets: BrTable<'a>) -> Result<(), AllocError> {
         self.out.push_str("br_table\n")
     }
 }
-
-impl<'w> VisitSimdOperator for Printer<'w> {}

@@ -1,5 +1,5 @@
 use wasm_visit::instr::{BrTable, MiscOperator, Operator};
-use wasm_visit::{VisitGroups, VisitMisc, VisitOperator, VisitSimdOperator, Visitor, dispatch};
+use wasm_visit::{ByAny, OwnMisc, VisitMisc, VisitOperator, Visitor};
 
 #[derive(Clone, Copy, Debug)]
 pub enum Call {
@@ -15,6 +15,8 @@ pub struct Reports;
 impl Visitor for Reports {
     type Output = Call;
 
+    type Visits = OwnMisc<ByAny>;
+
     ghost visits = { λ before op outcome after. Unit {0} };
 
     fn visit_any(&mut self, _op: Operator<'static>) -> Call {
@@ -28,16 +30,8 @@ impl VisitMisc for Reports {
     }
 }
 
-impl VisitGroups for Reports {
-    fn dispatch_misc(&mut self, op: MiscOperator) -> Call {
-        dispatch::misc(self, op)
-    }
-}
-
 impl<'a> VisitOperator<'a> for Reports {
     fn visit_br_table(&mut self, _targets: BrTable<'a>) -> Call {
         Call::Table
     }
 }
-
-impl VisitSimdOperator for Reports {}

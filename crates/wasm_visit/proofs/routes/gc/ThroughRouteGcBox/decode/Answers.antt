@@ -1,0 +1,14 @@
+-- Written by tools/lists.py from tools/operators.tsv.
+use Rattle.std.proofs.Common.{subst}
+use Rattle.wasm_decode_groups.specs.below.Source.{at_position}
+use Rattle.wasm_decode_groups.specs.opcodes.Allowed.{EncodesAllowed}
+use Rattle.wasm_decode_groups.specs.opcodes.Decoding.{Decodes}
+use Rattle.wasm_decode_groups.specs.opcodes.OperatorFaults.{OperatorFault}
+use Rattle.wasm_visit.proofs.Passing.{through_box}
+use Rattle.wasm_visit.proofs.routes.gc.ThroughRouteGcBox.decode.Goals as goal
+
+pub returns : goal.returns
+returns g c k =
+    let r = c.args.reader.now in
+    through_box g.V.Visitor.visits (EncodesAllowed r.features k) (OperatorFault r.features k) c.decode_gc.result (at_position r c.args.start) c.decode_gc.new.reader c.args.v.now c.decode_gc.new.self
+    (subst (λ v. Decodes g.V.Visitor.visits (EncodesAllowed r.features k) (OperatorFault r.features k) c.decode_gc.result (at_position r c.args.start) c.decode_gc.new.reader v c.decode_gc.new.self) c.deref_mut.ensures.value (c.decode_gc.ensures k))

@@ -1,0 +1,12 @@
+-- Written by tools/lists.py from tools/operators.tsv.
+use Rattle.wasm_decode_groups.specs.below.Source.{at_position}
+use Rattle.wasm_decode_groups.specs.opcodes.Allowed.{EncodesAllowed}
+use Rattle.wasm_decode_groups.specs.opcodes.OperatorFaults.{OperatorFault}
+use Rattle.wasm_visit.proofs.Passing.{through_reference}
+use Rattle.wasm_visit.proofs.routes.misc.ThroughRouteMiscRefMut.decode.Goals as goal
+
+pub returns : goal.returns
+returns g c k =
+    let r = c.args.reader.now in
+    through_reference g.V.Visitor.visits (EncodesAllowed r.features k) (OperatorFault r.features k) c.decode_misc.result (at_position r c.args.start) c.decode_misc.new.reader c.args.v.now c.decode_misc.new.self
+    (c.decode_misc.ensures k)

@@ -1,0 +1,14 @@
+-- Written by tools/lists.py from tools/operators.tsv.
+use Rattle.std.proofs.Common.{subst}
+use Rattle.wasm_decode_groups.specs.below.Source.{at_position}
+use Rattle.wasm_decode_groups.specs.opcodes.Allowed.{EncodesAllowed}
+use Rattle.wasm_decode_groups.specs.opcodes.Decoding.{Decodes}
+use Rattle.wasm_decode_groups.specs.opcodes.OperatorFaults.{OperatorFault}
+use Rattle.wasm_visit.proofs.Passing.{through_box}
+use Rattle.wasm_visit.proofs.routes.one_byte.ThroughRouteOneByteBox.decode.Goals as goal
+
+pub returns : goal.returns
+returns g c =
+    let r = c.args.reader.now in
+    through_box g.V.Visitor.visits (EncodesAllowed r.features c.args.frame) (OperatorFault r.features c.args.frame) c.decode_one_byte.result (at_position r c.args.start) c.decode_one_byte.new.reader c.args.v.now c.decode_one_byte.new.self
+    (subst (λ v. Decodes g.V.Visitor.visits (EncodesAllowed r.features c.args.frame) (OperatorFault r.features c.args.frame) c.decode_one_byte.result (at_position r c.args.start) c.decode_one_byte.new.reader v c.decode_one_byte.new.self) c.deref_mut.ensures.value c.decode_one_byte.ensures)

@@ -1,0 +1,25 @@
+ghost use Rattle.std.specs.Prelude.{◌≡◌};
+ghost use Rattle.wasm_decode_groups.specs.instr.declared.operator.Operator.{Operator};
+
+use wasm_decode_groups::groups::{ByAny, Visitor};
+use wasm_decode_groups::instr::Operator;
+
+/// A visitor that returns the operator, which borrows nothing. Higher crates read operators by it.
+///
+/// It has no visit of a branch table, whose operator borrows. A caller that reads a branch table
+/// makes the operator without a visitor.
+#[derive(Drop)]
+pub struct Made;
+
+impl Visitor for Made {
+    type Output = Operator<'static>;
+
+    type Visits = ByAny;
+
+    ghost visits = { λ before op outcome after. outcome ≡ op };
+
+    #[inline(always)]
+    fn visit_any(&mut self, op: Operator<'static>) -> Operator<'static> {
+        op
+    }
+}

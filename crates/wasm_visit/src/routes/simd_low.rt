@@ -1,0 +1,181 @@
+//! The routes of the SIMD operators below 0x80. Written by tools/lists.py from tools/operators.tsv.
+ghost use Rattle.std.specs.Prelude.{◌<◌, Some};
+ghost use Rattle.wasm_decode_groups.specs.grammar.declared.frame_kind.FrameKind.{FrameKind};
+ghost use Rattle.wasm_decode_groups.specs.instr.declared.operator.Operator.{Operator};
+ghost use Rattle.wasm_decode_groups.specs.groups.Groups.{IsSimdLow};
+ghost use Rattle.wasm_decode_groups.specs.opcodes.Decoding.{DecodesAt, IsAfterCode};
+
+use crate::dispatch;
+use wasm_decode_groups as decode;
+use wasm_decode_groups::below::{BinaryReader, Result};
+use wasm_decode_groups::groups::{ByAny, Once, Own, Routes, Through, VisitSimdLow, Visitor};
+use wasm_decode_groups::instr::{Operator, SimdOperator};
+
+/// A route for the SIMD operators below 0x80.
+pub trait RouteSimdLow<V: Visitor> {
+    /// Visits an operator.
+    fn visit(v: &mut V, op: SimdOperator) -> V::Output
+        requires { IsSimdLow op }
+        ensures { V.visits v.old (Operator.Simd op) result v.new };
+
+    /// Reads the immediates of the operator with the subopcode `code` and visits it.
+    ///
+    /// `start` is the position of the prefix byte, to which the reader goes back on an error.
+    fn decode(
+        v: &mut V,
+        reader: &mut BinaryReader<'_>,
+        start: usize,
+        code: u32,
+    ) -> Result<V::Output>
+        requires after { IsAfterCode start (Some 0xfd) code reader.old }
+        requires half { code < 0x80 }
+        ensures { (frame : FrameKind) → DecodesAt V.visits frame start result reader.old reader.new v.old v.new };
+}
+
+impl<V: Visitor> RouteSimdLow<V> for ByAny {
+    fn visit(v: &mut V, op: SimdOperator) -> V::Output {
+        v.visit_any(Operator::Simd(op))
+    }
+
+    #[inline(always)]
+    fn decode(
+        v: &mut V,
+        reader: &mut BinaryReader<'_>,
+        start: usize,
+        code: u32,
+    ) -> Result<V::Output> {
+        decode::simd_low_by::<V, ByAny>(v, reader, start, code)
+    }
+}
+
+impl<V: VisitSimdLow> RouteSimdLow<V> for Own {
+    fn visit(v: &mut V, op: SimdOperator) -> V::Output {
+        dispatch::simd_low(v, op)
+    }
+
+    #[inline(always)]
+    fn decode(
+        v: &mut V,
+        reader: &mut BinaryReader<'_>,
+        start: usize,
+        code: u32,
+    ) -> Result<V::Output> {
+        decode::simd_low(v, reader, start, code)
+    }
+}
+
+/// The calls of a visitor that names `OnceSimdLow`.
+///
+/// Their bodies are `dispatch::simd_low(self, op)` and `decode::simd_low(self, reader, start,
+/// code)`. What they call is proved once for the visitor, and not for each function that passes the
+/// visitor on.
+pub trait CallSimdLow: Visitor {
+    /// Visits an operator.
+    fn dispatch_simd_low(&mut self, op: SimdOperator) -> Self::Output
+        requires { IsSimdLow op }
+        ensures { Self.visits self.old (Operator.Simd op) result self.new };
+
+    /// Reads the immediates of the operator with the subopcode `code` and visits it.
+    ///
+    /// `start` is the position of the prefix byte, to which the reader goes back on an error.
+    fn decode_simd_low(
+        &mut self,
+        reader: &mut BinaryReader<'_>,
+        start: usize,
+        code: u32,
+    ) -> Result<Self::Output>
+        requires after { IsAfterCode start (Some 0xfd) code reader.old }
+        requires half { code < 0x80 }
+        ensures { (frame : FrameKind)
+            → DecodesAt Self.visits frame start result reader.old reader.new self.old self.new };
+}
+
+impl<V: CallSimdLow> RouteSimdLow<V> for Once {
+    fn visit(v: &mut V, op: SimdOperator) -> V::Output {
+        v.dispatch_simd_low(op)
+    }
+
+    #[inline(always)]
+    fn decode(
+        v: &mut V,
+        reader: &mut BinaryReader<'_>,
+        start: usize,
+        code: u32,
+    ) -> Result<V::Output> {
+        v.decode_simd_low(reader, start, code)
+    }
+}
+
+impl<V: GroupSimdLow, R> RouteSimdLow<&mut V> for Through<R> {
+    fn visit(v: &mut &mut V, op: SimdOperator) -> V::Output {
+        (**v).dispatch_simd_low(op)
+    }
+
+    #[inline(always)]
+    fn decode(
+        v: &mut &mut V,
+        reader: &mut BinaryReader<'_>,
+        start: usize,
+        code: u32,
+    ) -> Result<V::Output> {
+        (**v).decode_simd_low(reader, start, code)
+    }
+}
+
+impl<V: GroupSimdLow, R> RouteSimdLow<Box<V>> for Through<R> {
+    fn visit(v: &mut Box<V>, op: SimdOperator) -> V::Output {
+        (**v).dispatch_simd_low(op)
+    }
+
+    #[inline(always)]
+    fn decode(
+        v: &mut Box<V>,
+        reader: &mut BinaryReader<'_>,
+        start: usize,
+        code: u32,
+    ) -> Result<V::Output> {
+        (**v).decode_simd_low(reader, start, code)
+    }
+}
+
+/// Visits the SIMD operators below 0x80 by the route that the visitor names. Every visitor with
+/// such a route implements it.
+pub trait GroupSimdLow: Visitor {
+    /// Visits an operator.
+    fn dispatch_simd_low(&mut self, op: SimdOperator) -> Self::Output
+        requires { IsSimdLow op }
+        ensures { Self.visits self.old (Operator.Simd op) result self.new };
+
+    /// Reads the immediates of the operator with the subopcode `code` and visits it.
+    ///
+    /// `start` is the position of the prefix byte, to which the reader goes back on an error.
+    fn decode_simd_low(
+        &mut self,
+        reader: &mut BinaryReader<'_>,
+        start: usize,
+        code: u32,
+    ) -> Result<Self::Output>
+        requires after { IsAfterCode start (Some 0xfd) code reader.old }
+        requires half { code < 0x80 }
+        ensures { (frame : FrameKind)
+            → DecodesAt Self.visits frame start result reader.old reader.new self.old self.new };
+}
+
+impl<V: Visitor> GroupSimdLow for V
+where
+    <V::Visits as Routes>::SimdLow: RouteSimdLow<V>,
+{
+    fn dispatch_simd_low(&mut self, op: SimdOperator) -> Self::Output {
+        <V::Visits as Routes>::SimdLow::visit(self, op)
+    }
+
+    #[inline(always)]
+    fn decode_simd_low(
+        &mut self,
+        reader: &mut BinaryReader<'_>,
+        start: usize,
+        code: u32,
+    ) -> Result<Self::Output> {
+        <V::Visits as Routes>::SimdLow::decode(self, reader, start, code)
+    }
+}
