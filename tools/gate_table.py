@@ -33,7 +33,7 @@ RUN = """
 """
 
 # The crates that hold lists over all operators.
-LISTS = """wasm_instr_ops wasm_instr_simd wasm_instr wasm_visit_groups wasm_visit_factory wasm_visit
+LISTS = """wasm_instr_ops wasm_instr_simd wasm_instr wasm_visit_groups wasm_visit
 wasm_decode_groups""".split()
 
 MADE_OF = """

@@ -3,7 +3,7 @@
 import re
 
 from arms import (
-    COMMON_CALL, EVERY_CALL, by_alignment, group_text, has_list_arm, kinds, listed, parts, places,
+    EVERY_CALL, ONE_CALL, by_alignment, group_text, has_list_arm, kinds, listed, parts, places,
 )
 from immediates import FORMS, KIND_WORDS, ROW_WORDS, kinds_term
 from parts import runs
@@ -30,7 +30,7 @@ def source(ops, group):
     text = group_text(ops, group)
     is_own = group.enum == "Own"
     prelude = [f"◌{it}◌" for it in "≡≤<" if f" {it} " in text] + (["[]"] if " [] " in text else named(["[]"], text)) + (["◌∷◌"] if " ∷ " in text else [])
-    prelude += ["Some" if group.prefix else "None", *named(["IfSome", "IfNone"], text)]
+    prelude += ["Some" if group.prefix else "None"]
     words = named(ROW_WORDS + KIND_WORDS, "\n".join(line for line in text.split("\n") if "{ " in line))
     words = [it for it in words if it.startswith("is_")]
     marks = [it.mark for it in GROUPS if it.module != "one_byte"]
@@ -402,7 +402,7 @@ def one_byte_proofs(ops, group):
     body += ["pub returns-in_default : goal.returns-in_default", "returns-in_default g c = (refl, c.unknown_opcode.ensures c.args.frame)", ""]
     module = "one_byte_operators"
     return {
-        f"{module}.{COMMON_CALL}_by": group_proof(f"{module}.{COMMON_CALL}_by", few, few_names),
+        f"{module}.{ONE_CALL}_by": group_proof(f"{module}.{ONE_CALL}_by", few, few_names),
         f"{module}.{EVERY_CALL}_by": group_proof(f"{module}.{EVERY_CALL}_by", body, [*names, "one_byte_unknown"]),
     }
 

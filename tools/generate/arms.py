@@ -5,8 +5,8 @@ from parts import run_pattern, runs, title
 from table import NUMERIC, doc, singular
 from visits import type_name
 
-# The common operators with a one-byte opcode are inlined.
-COMMON_CALL = "common_one_byte"
+# The common operators with a one-byte opcode are inlined; the others are decoded by one call.
+ONE_CALL = "one_byte"
 OTHERS_CALL = "other_one_byte"
 EVERY_CALL = "any_one_byte"
 
@@ -282,23 +282,8 @@ def own_head(name, params, text):
     ]
 
 
-def common_head(name, params, text):
-    return [
-        *doc(text),
-        "///",
-        "/// Returns `None` for other opcodes. Then nothing changes.",
-        "#[inline(always)]",
-        f"pub fn {name}<{params}>(v: &mut V, reader: &mut BinaryReader<'_>, start: usize, code: u8) -> Option<Result<V::Output>>",
-        "    requires { IsAfterCode start None code reader.old }",
-        "    ensures common { IfSome result (λ outcome. (frame : FrameKind) → DecodesAt V.visits frame start outcome reader.old reader.new v.old v.new) }",
-        "    ensures reader { IfNone result (reader.new ≡ reader.old) }",
-        "    ensures visitor { IfNone result (v.new ≡ v.old) }",
-        "{",
-    ]
-
-
 def one_byte(ops, those, group):
-    """Returns the functions of the operators with a one-byte opcode: for the common ones, and for all."""
+    """Returns the functions of the operators with a one-byte opcode: with the common ones inlined, and with an arm for each."""
     singles = alone(ops, group)
     common = [part for part in those if any(op.is_common for op in part.free)]
     with_lists = {op.code: type_of(op.forms) for op in group.of(ops) if has_list_arm(op)}
@@ -306,20 +291,13 @@ def one_byte(ops, those, group):
     guarded = [op for op in group.of(ops) if op.has_guard]
     read = f"Reads the immediates of {singular(group.short)} and"
     return [
-        *own_head("one_byte", f"V: {group.trait}", f"{read} visits it. Common operators are inlined."),
-        "    one_byte_by::<V, Own>(alloc, v, reader, start, frame, code)", "}", "",
-        *own_head("one_byte_by", "V: Visitor, R: AtOneByte<V>", f"{read} passes them to `R`. Common operators are inlined."),
-        f"    match {COMMON_CALL}_by::<V, R>(v, reader, start, code) {{",
-        "        Some(outcome) => outcome,",
-        f"        None => {OTHERS_CALL}_by::<V, R>(alloc, v, reader, start, frame, code),",
-        "    }", "}", "",
-        *common_head(COMMON_CALL, f"V: {group.trait}", f"{read} visits it, if its opcode is a common one."),
-        f"    {COMMON_CALL}_by::<V, Own>(v, reader, start, code)", "}", "",
-        *common_head(f"{COMMON_CALL}_by", "V: Visitor, R: AtOneByte<V>", f"{read} passes them to `R`, if its opcode is a common one."),
+        *own_head(ONE_CALL, f"V: {group.trait}", f"{read} visits it. Common operators are inlined."),
+        f"    {ONE_CALL}_by::<V, Own>(alloc, v, reader, start, frame, code)", "}", "",
+        *own_head(f"{ONE_CALL}_by", "V: Visitor, R: AtOneByte<V>", f"{read} passes them to `R`. Common operators are inlined."),
         "    match code {",
-        *[f"        {pattern} => Some({it.rstrip(',')})," for pattern, _, it in (arm.partition(" => ") for arm in arms(common, "code as u32", lambda op: op.is_common))],
-        *[f"        {part.ops[0].hex()} => Some({call(part, part.ops[0].hex(), only(part))})," for part in singles],
-        "        _ => None,", "    }", "}", "",
+        *arms(common, "code as u32", lambda op: op.is_common),
+        *[f"        {part.ops[0].hex()} => {call(part, part.ops[0].hex(), only(part))}," for part in singles],
+        f"        _ => {OTHERS_CALL}_by::<V, R>(alloc, v, reader, start, frame, code),", "    }", "}", "",
         *own_head(f"{EVERY_CALL}_by", "V: Visitor, R: AtOneByte<V>", f"{read} passes them to `R`. Every operator has an arm here."),
         "    match code {",
         *arms(those, "code as u32"),

@@ -13,7 +13,6 @@ LIMIT = 7200
 LEFT_OUT = (".git", "out", "__pycache__", "target", "native")
 LINE = re.compile(r"(ok|FAILED) \d+ s ([\w/-]+)")
 TEST_HEAD = re.compile(r"#\[test\]\n\s*fn \w+\((\w+): [^{]*\{\n")
-WRONG_VISITS = "\nimpl VisitMisc for Broken {\n    fn visit_data_drop(&mut self) {}\n}\n"
 WRONG_ROW = "\n| `NoSuchDefinition` | a word that nothing defines | | `Nothing.antt` |\n"
 WRONG_BLOCK = "README.md\ta block that no page has\tshell\t\n"
 WRONG_EDIT = "file: src/lib.rt\nold: a text that does not occur\nnew: another\n"
@@ -64,7 +63,7 @@ def breaks_of_checks(top):
         Break("definitions", top / "docs" / "DEFINITIONS.md", more(WRONG_ROW)),
         Break("contracts", top / "crates" / "wasm_operators" / "CALLING.md", replaced(r"^  ensures: Reads", "  ensures: Read")),
         Break("edges", top / "crates.txt", replaced(r"^(uses:.*)$", r"\1 bitflags")),
-        Break("forwarding", top / "crates" / "uses" / "src" / "lib.rt", more(WRONG_VISITS)),
+        Break("refused", top / "crates" / "wasm_visit_groups" / "src" / "route.rt", more("\nimpl ToOwn for ByAny {}\n")),
         Break("bindings", top / "examples" / "c" / "list.c", more('int broken = "text";\n'), [REPLAY, BLOCKS]),
         Break("edits", edit, more(WRONG_EDIT)),
         Break(BLOCKS, top / "tools" / "blocks.tsv", more(WRONG_BLOCK)),

@@ -1,10 +1,8 @@
 //! `CountAny` has no overridden visits.
 ghost use Rattle.std.specs.Prelude.{◌≡◌, ◌+◌, ◌-◌, ◌^◌, ◌<◌};
 
-use std::alloc::Global;
-use wasm_operators_readers::below::{BinaryReader, Result};
 use wasm_operators_readers::imm::{BrTable, MemArg};
-use wasm_operators_readers::instr::{FrameKind, Operator};
+use wasm_operators_readers::instr::Operator;
 use wasm_operators_readers::visitors::{ByAny, OwnOneByte, VisitOneByte, VisitOperator, Visitor};
 
 #[derive(Drop)]

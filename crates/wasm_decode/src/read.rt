@@ -4,16 +4,17 @@ ghost use Rattle.wasm_decode.specs.Reading.{DecodesOperatorIn, DecodesOperatorAt
 ghost use Rattle.wasm_visit.specs.grammar.declared.frame_kind.FrameKind.{FrameKind};
 ghost use Rattle.wasm_visit.specs.opcodes.Decoding.{IsAfterCode};
 
-use crate::after::{group_after_opcode, simd_of, subopcode, vector_without_immediates};
+use crate::after::{simd_of, subopcode, vector_without_immediates};
 use crate::made_gc::MadeGc;
-use crate::out_of_line::place;
+use crate::out_of_line::{place, visit_after_prefix};
+use crate::prefixes::{Atomic, Misc};
 use crate::refusals::no_frame;
 use std::alloc::Global;
 use wasm_visit::below::{BinaryReader, Error, Result};
 use wasm_visit::grammar::FrameKind;
 use wasm_visit::instr::{GcOperator, Operator};
 use wasm_visit::opcodes::immediates;
-use wasm_visit::reading::{Made, gc_by};
+use wasm_visit::reading::{Made, gc_by, numeric_by, one_byte_by};
 use wasm_visit::{ByAny, decode};
 
 /// Reads the operator at the start of the rest. `frame` is the innermost frame. Fails like
@@ -160,8 +161,14 @@ fn read_group(
 ) -> Result<Operator<'static>>
     requires after { IsAfterCode start None code reader.old }
     requires table { code ≢ 0x0e }
+    requires gc { code ≢ 0xfb }
     requires vector { code ≢ 0xfd }
     ensures { DecodesOperatorAt frame start result reader.old reader.new }
 {
-    group_after_opcode(alloc, &mut Made, reader, start, frame, code)
+    match code {
+        0xfc => visit_after_prefix(&mut Made, reader, start, Misc),
+        0xfe => visit_after_prefix(&mut Made, reader, start, Atomic),
+        0x45..=0xc4 => Ok(numeric_by::<Made, ByAny>(&mut Made, code)),
+        _ => one_byte_by::<Made, ByAny>(alloc, &mut Made, reader, start, frame, code),
+    }
 }

@@ -18,9 +18,7 @@ pub use atomic_operators::{AtAtomic, atomic, atomic_by};
 pub use gc_operators::{AtGc, gc, gc_by};
 pub use misc_operators::{AtMisc, misc, misc_by};
 pub use numeric_operators::{numeric, numeric_by};
-pub use one_byte_operators::{
-    AtOneByte, common_one_byte, common_one_byte_by, one_byte, one_byte_by,
-};
+pub use one_byte_operators::{AtOneByte, one_byte, one_byte_by};
 pub use out_of_line::{other_one_byte, other_one_byte_by};
 pub use simd_high_operators::{AtSimdHigh, simd_high, simd_high_by};
 pub use simd_low_operators::{AtSimdLow, simd_low, simd_low_by};

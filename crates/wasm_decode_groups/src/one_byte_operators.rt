@@ -1,5 +1,5 @@
 //! Decoding of operators with a one-byte opcode. Written by tools/lists.py from tools/operators.tsv.
-ghost use Rattle.std.specs.Prelude.{◌≡◌, [], ◌∷◌, None, IfSome, IfNone};
+ghost use Rattle.std.specs.Prelude.{◌≡◌, [], ◌∷◌, None};
 ghost use Rattle.wasm_visit_groups.specs.grammar.declared.frame_kind.FrameKind.{FrameKind};
 ghost use Rattle.wasm_visit_groups.specs.instr.Immediate.{is_memory_argument};
 ghost use Rattle.wasm_decode_opcodes.specs.Decoding.{DecodesAt, IsAfterCode};
@@ -53,71 +53,28 @@ pub fn one_byte_by<V: Visitor, R: AtOneByte<V>>(
     requires apart { IsOneByteCode code }
     ensures { DecodesAt V.visits frame start result reader.old reader.new v.old v.new }
 {
-    match common_one_byte_by::<V, R>(v, reader, start, code) {
-        Some(outcome) => outcome,
-        None => other_one_byte_by::<V, R>(alloc, v, reader, start, frame, code),
-    }
-}
-
-/// Reads the immediates of an operator with a one-byte opcode and visits it, if its opcode is a
-/// common one.
-///
-/// Returns `None` for other opcodes. Then nothing changes.
-#[inline(always)]
-pub fn common_one_byte<V: VisitOneByte>(
-    v: &mut V,
-    reader: &mut BinaryReader<'_>,
-    start: usize,
-    code: u8,
-) -> Option<Result<V::Output>>
-    requires { IsAfterCode start None code reader.old }
-    ensures common { IfSome result
-        (λ outcome. (frame : FrameKind) → DecodesAt V.visits frame start outcome reader.old reader.new v.old v.new) }
-    ensures reader { IfNone result (reader.new ≡ reader.old) }
-    ensures visitor { IfNone result (v.new ≡ v.old) }
-{
-    common_one_byte_by::<V, Own>(v, reader, start, code)
-}
-
-/// Reads the immediates of an operator with a one-byte opcode and passes them to `R`, if its opcode
-/// is a common one.
-///
-/// Returns `None` for other opcodes. Then nothing changes.
-#[inline(always)]
-pub fn common_one_byte_by<V: Visitor, R: AtOneByte<V>>(
-    v: &mut V,
-    reader: &mut BinaryReader<'_>,
-    start: usize,
-    code: u8,
-) -> Option<Result<V::Output>>
-    requires { IsAfterCode start None code reader.old }
-    ensures common { IfSome result
-        (λ outcome. (frame : FrameKind) → DecodesAt V.visits frame start outcome reader.old reader.new v.old v.new) }
-    ensures reader { IfNone result (reader.new ≡ reader.old) }
-    ensures visitor { IfNone result (v.new ≡ v.old) }
-{
     match code {
-        0x02..=0x04 => Some(arm::<V, OneByte, BlockType, R>(v, reader, start, code as u32, 0)),
-        0x20..=0x26 => Some(arm::<V, OneByte, u32, R>(v, reader, start, code as u32, 0)),
-        0x28..=0x3e => Some(arm::<V, OneByte, PlainMemArg, R>(
+        0x02..=0x04 => arm::<V, OneByte, BlockType, R>(v, reader, start, code as u32, 0),
+        0x20..=0x26 => arm::<V, OneByte, u32, R>(v, reader, start, code as u32, 0),
+        0x28..=0x3e => arm::<V, OneByte, PlainMemArg, R>(
             v,
             reader,
             start,
             code as u32,
             align_of_memory(code as u32),
-        )),
-        0x41 => Some(arm::<V, OneByte, i32, R>(v, reader, start, 0x41, 0)),
-        0x42 => Some(arm::<V, OneByte, i64, R>(v, reader, start, 0x42, 0)),
-        0x00 => Some(arm::<V, OneByte, Only<0x00, ()>, R>(v, reader, start, 0x00, 0)),
-        0x01 => Some(arm::<V, OneByte, Only<0x01, ()>, R>(v, reader, start, 0x01, 0)),
-        0x0b => Some(arm::<V, OneByte, Only<0x0b, ()>, R>(v, reader, start, 0x0b, 0)),
-        0x0c => Some(arm::<V, OneByte, Only<0x0c, u32>, R>(v, reader, start, 0x0c, 0)),
-        0x0d => Some(arm::<V, OneByte, Only<0x0d, u32>, R>(v, reader, start, 0x0d, 0)),
-        0x0f => Some(arm::<V, OneByte, Only<0x0f, ()>, R>(v, reader, start, 0x0f, 0)),
-        0x10 => Some(arm::<V, OneByte, Only<0x10, u32>, R>(v, reader, start, 0x10, 0)),
-        0x1a => Some(arm::<V, OneByte, Only<0x1a, ()>, R>(v, reader, start, 0x1a, 0)),
-        0x1b => Some(arm::<V, OneByte, Only<0x1b, ()>, R>(v, reader, start, 0x1b, 0)),
-        _ => None,
+        ),
+        0x41 => arm::<V, OneByte, i32, R>(v, reader, start, 0x41, 0),
+        0x42 => arm::<V, OneByte, i64, R>(v, reader, start, 0x42, 0),
+        0x00 => arm::<V, OneByte, Only<0x00, ()>, R>(v, reader, start, 0x00, 0),
+        0x01 => arm::<V, OneByte, Only<0x01, ()>, R>(v, reader, start, 0x01, 0),
+        0x0b => arm::<V, OneByte, Only<0x0b, ()>, R>(v, reader, start, 0x0b, 0),
+        0x0c => arm::<V, OneByte, Only<0x0c, u32>, R>(v, reader, start, 0x0c, 0),
+        0x0d => arm::<V, OneByte, Only<0x0d, u32>, R>(v, reader, start, 0x0d, 0),
+        0x0f => arm::<V, OneByte, Only<0x0f, ()>, R>(v, reader, start, 0x0f, 0),
+        0x10 => arm::<V, OneByte, Only<0x10, u32>, R>(v, reader, start, 0x10, 0),
+        0x1a => arm::<V, OneByte, Only<0x1a, ()>, R>(v, reader, start, 0x1a, 0),
+        0x1b => arm::<V, OneByte, Only<0x1b, ()>, R>(v, reader, start, 0x1b, 0),
+        _ => other_one_byte_by::<V, R>(alloc, v, reader, start, frame, code),
     }
 }
 

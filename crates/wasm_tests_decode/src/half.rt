@@ -7,11 +7,11 @@ use crate::runs::{Reported, reader_at};
 use crate::task::Task;
 use crate::teller::Teller;
 use wasm_decode::below::{BinaryReader, Result};
-use wasm_decode::visitors::{VisitSimdOperator, Visitor};
+use wasm_decode::visitors::{GroupSimdHigh, GroupSimdLow, Visitor};
 
 /// Returns the decoding call's result and the position; `None` without the byte 0xfd and a
 /// subopcode.
-fn run_half<V: VisitSimdOperator>(
+fn run_half<V: GroupSimdLow + GroupSimdHigh>(
     v: &mut V,
     task: Task,
     bytes: &[u8],

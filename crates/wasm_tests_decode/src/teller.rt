@@ -1,10 +1,7 @@
 use crate::own::Call;
 use std::alloc::{AllocError, Global};
-use wasm_decode::below::{BinaryReader, Result};
-use wasm_decode::grammar::FrameKind;
-use wasm_decode::instr::{
-    AtomicOperator, BrTable, GcOperator, MiscOperator, NumericOperator, Operator, SimdOperator,
-};
+use wasm_decode::below::Result;
+use wasm_decode::instr::{BrTable, Operator};
 use wasm_decode::visitors::{
     ByAny, OwnAtomic, OwnGc, OwnMisc, OwnNumeric, OwnOneByte, OwnSimdHigh, OwnSimdLow,
     VisitOperator, Visitor,

@@ -37,8 +37,8 @@ pub mod decode {
     };
 }
 
-/// Reading an operator: the visitor that returns it, and a decoder by any route.
+/// Reading an operator: the visitor that returns it, and decoders by any route.
 pub mod reading {
     pub use crate::made::Made;
-    pub use wasm_decode_groups::gc_by;
+    pub use wasm_decode_groups::{gc_by, numeric_by, one_byte_by};
 }

@@ -1,5 +1,5 @@
 use std::alloc::Global;
-use wasm_visit::instr::{BrTable, MiscOperator, Operator};
+use wasm_visit::instr::{BrTable, Operator};
 use wasm_visit::{ByAny, OwnMisc, VisitMisc, VisitOperator, Visitor};
 
 /// Counts its visits, and overrides the visit of `DataDrop` to keep the index.

@@ -1,7 +1,7 @@
 //! A visitor with a lifetime and a type parameter, which overrides visits.
 ghost use Rattle.std.specs.Prelude.{◌≤◌};
 
-use wasm_visit::instr::{BrTable, GcOperator, Operator};
+use wasm_visit::instr::{BrTable, Operator};
 use wasm_visit::{ByAny, OwnGc, VisitGc, VisitOperator, Visitor};
 
 #[derive(Drop)]

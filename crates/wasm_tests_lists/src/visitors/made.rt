@@ -1,28 +1,24 @@
-use wasm_visit::dispatch;
 use wasm_visit::instr::{
     AtomicOperator, GcOperator, MiscOperator, NumericOperator, Operator, Ordering, SimdOperator,
 };
-use wasm_visit::layer_factory::Factory;
+use wasm_visit::reading::Made;
+use wasm_visit::{
+    GroupAtomic, GroupGc, GroupMisc, GroupNumeric, GroupOneByte, GroupSimdHigh, GroupSimdLow,
+};
 
 pub fn made() -> [Operator<'static>; 7] {
-    let factory = &mut Factory;
+    let made = &mut Made;
     [
-        dispatch::one_byte(factory, Operator::LocalGet { local_index: 3 }),
-        dispatch::numeric(factory, NumericOperator::I32Add),
-        dispatch::gc(
-            factory,
-            GcOperator::StructNew {
-                struct_type_index: 5,
-            },
-        ),
-        dispatch::misc(factory, MiscOperator::DataDrop { data_index: 7 }),
-        dispatch::atomic(
-            factory,
-            AtomicOperator::AtomicFence {
-                ordering: Ordering::SeqCst,
-            },
-        ),
-        dispatch::simd_low(factory, SimdOperator::I8x16Splat),
-        dispatch::simd_high(factory, SimdOperator::I32x4Add),
+        made.dispatch_one_byte(Operator::LocalGet { local_index: 3 }),
+        made.dispatch_numeric(NumericOperator::I32Add),
+        made.dispatch_gc(GcOperator::StructNew {
+            struct_type_index: 5,
+        }),
+        made.dispatch_misc(MiscOperator::DataDrop { data_index: 7 }),
+        made.dispatch_atomic(AtomicOperator::AtomicFence {
+            ordering: Ordering::SeqCst,
+        }),
+        made.dispatch_simd_low(SimdOperator::I8x16Splat),
+        made.dispatch_simd_high(SimdOperator::I32x4Add),
     ]
 }

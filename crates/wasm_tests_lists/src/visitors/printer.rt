@@ -1,8 +1,9 @@
 ghost use Rattle.std.specs.Prelude.{◌≤◌};
 
 use std::alloc::AllocError;
+use wasm_visit::below::{self, BinaryReader};
 use wasm_visit::instr::{BrTable, MiscOperator, Operator};
-use wasm_visit::{ByAny, OwnMisc, VisitMisc, VisitOperator, Visitor};
+use wasm_visit::{ByAny, CallMisc, OnceMisc, VisitMisc, VisitOperator, Visitor, decode, dispatch};
 
 /// Writes the names of two operators, and counts the visits of all others.
 #[derive(Drop)]
@@ -14,7 +15,7 @@ pub struct Printer<'w> {
 impl<'w> Visitor for Printer<'w> {
     type Output = Result<(), AllocError>;
 
-    type Visits = OwnMisc<ByAny>;
+    type Visits = OnceMisc<ByAny>;
 
     ghost visits = { λ before op outcome after. before.others ≤ after.others };
 
@@ -27,6 +28,21 @@ impl<'w> Visitor for Printer<'w> {
 impl<'w> VisitMisc for Printer<'w> {
     fn visit_data_drop(&mut self, data_index: u32) -> Result<(), AllocError> {
         writeln!(self.out, "data.drop {data_index}")
+    }
+}
+
+impl<'w> CallMisc for Printer<'w> {
+    fn dispatch_misc(&mut self, op: MiscOperator) -> Self::Output {
+        dispatch::misc(self, op)
+    }
+
+    fn decode_misc(
+        &mut self,
+        reader: &mut BinaryReader<'_>,
+        start: usize,
+        code: u32,
+    ) -> below::Result<Self::Output> {
+        decode::misc(self, reader, start, code)
     }
 }
 

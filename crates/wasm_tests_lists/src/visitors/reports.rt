@@ -1,4 +1,4 @@
-use wasm_visit::instr::{BrTable, MiscOperator, Operator};
+use wasm_visit::instr::{BrTable, Operator};
 use wasm_visit::{ByAny, OwnMisc, VisitMisc, VisitOperator, Visitor};
 
 #[derive(Clone, Copy, Debug)]
