@@ -66,7 +66,7 @@ def calls(body, name):
     kind, _, alone = name.rpartition("::")
     inside = body.split("{\n", 1)[1] if "{\n" in body else body
     # a capital letter is a type parameter
-    before = rf"(?:\.|\b(?:{kind}|Self|[A-Z])::)" if kind else r"(?:\.|::|\b)"
+    before = rf"(?:\.|\b(?:{kind}|Self|[A-Z])::|<{kind} as [^;]*>::)" if kind else r"(?:\.|::|\b)"
     return re.search(rf"{before}{alone}(?:::<[^>]*>)?\(", inside) is not None
 
 

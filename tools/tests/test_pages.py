@@ -36,7 +36,7 @@ def rows(lines):
 
 def is_defined(function, text):
     type_name, _, name = function.rpartition("::")
-    has_type = not type_name or re.search(rf"^impl.*\b{type_name}\b.* {{$", text, re.MULTILINE)
+    has_type = not type_name or re.search(rf"^impl.*\b{type_name}\b", text, re.MULTILINE)
     return bool(has_type and re.search(rf"\bfn {name}\b", text))
 
 
