@@ -156,7 +156,7 @@ def group_routes(group):
         *calls.method(f"dispatch_{low}", f"decode_{low}", of_self=True),
         "}",
         "",
-        *impl(f"impl<V: Call{mark}> Route{mark}<V> for Once", calls, "visit", "decode", passed("v")),
+        *impl(f"impl<V: Call{mark}> Route{mark}<V> for Once", calls, "visit", "decode", [f"<V as Call{mark}>::dispatch_{low}(v, op)", f"<V as Call{mark}>::decode_{low}({', '.join(['v', *filter(None, [given.rstrip(', '), arguments])])})"]),
         *impl(f"impl<V: Group{mark}, R> Route{mark}<&mut V> for Through<R>", calls, "visit", "decode", passed("(**v)"), visitor="&mut V"),
         *impl(f"impl<V: Group{mark}, R> Route{mark}<Box<V>> for Through<R>", calls, "visit", "decode", passed("(**v)"), visitor="Box<V>"),
         *doc(f"Visits {group.short} by the route that the visitor names. Every visitor with such a route implements it."),
@@ -168,7 +168,7 @@ def group_routes(group):
         "where",
         f"    {route}: Route{mark}<V>,",
         "{",
-        *calls.method(f"dispatch_{low}", f"decode_{low}", of_self=True, bodies=[f"{route}::visit(self, op)", f"{route}::decode({given}self, {arguments})"]),
+        *[line.replace("Self::Output", "V::Output") for line in calls.method(f"dispatch_{low}", f"decode_{low}", of_self=True, bodies=[f"{route}::visit(self, op)", f"{route}::decode({given}self, {arguments})"])],
         "}",
         "",
     ]

@@ -10,11 +10,13 @@ use wasm_decode::visitors::{
     Visitor,
 };
 
+/// The visit that an operator received, or that its text could not be stored.
 #[derive(Clone, Copy, Debug, PartialEq, Eq)]
 pub enum Call {
     Own,
     Any,
     Table,
+    OutOfMemory,
 }
 
 impl VisitOneByte for Teller {

@@ -8,7 +8,8 @@ use wasm_decode::visitors::{
 };
 use wasm_tests_texts::write_operator;
 
-/// Writes the operators that it visits, and returns which call it received.
+/// Writes the operators that it visits, and returns which call it received. It overrides all
+/// visits; ten functions pass it on, so its calls compare the visits once.
 #[derive(Drop)]
 pub struct Teller {
     pub text: String,
@@ -30,13 +31,117 @@ impl Teller {
 impl Visitor for Teller {
     type Output = std::result::Result<Call, AllocError>;
 
-    type Visits = OwnOneByte<OwnNumeric<OwnGc<OwnMisc<OwnAtomic<OwnSimdLow<OwnSimdHigh<ByAny>>>>>>>;
+    type Visits = OnceOneByte<
+        OnceNumeric<OnceGc<OnceMisc<OnceAtomic<OnceSimdLow<OnceSimdHigh<ByAny>>>>>>,
+    >;
 
     ghost visits = { λ before op outcome after. Unit {0} };
 
     fn visit_any(&mut self, op: Operator<'static>) -> Self::Output {
         write_operator(&mut self.text, &op)?;
         Ok(Call::Any)
+    }
+}
+
+impl CallOneByte for Teller {
+    fn dispatch_one_byte(&mut self, op: Operator<'_>) -> Self::Output {
+        dispatch::one_byte(self, op)
+    }
+
+    fn decode_one_byte(
+        &mut self,
+        alloc: Global,
+        reader: &mut BinaryReader<'_>,
+        start: usize,
+        frame: FrameKind,
+        code: u8,
+    ) -> Result<Self::Output> {
+        decode::one_byte(alloc, self, reader, start, frame, code)
+    }
+}
+
+impl CallNumeric for Teller {
+    fn dispatch_numeric(&mut self, op: NumericOperator) -> Self::Output {
+        dispatch::numeric(self, op)
+    }
+
+    fn decode_numeric(&mut self, code: u8) -> Self::Output {
+        decode::numeric(self, code)
+    }
+}
+
+impl CallGc for Teller {
+    fn dispatch_gc(&mut self, op: GcOperator) -> Self::Output {
+        dispatch::gc(self, op)
+    }
+
+    fn decode_gc(
+        &mut self,
+        reader: &mut BinaryReader<'_>,
+        start: usize,
+        code: u32,
+    ) -> Result<Self::Output> {
+        decode::gc(self, reader, start, code)
+    }
+}
+
+impl CallMisc for Teller {
+    fn dispatch_misc(&mut self, op: MiscOperator) -> Self::Output {
+        dispatch::misc(self, op)
+    }
+
+    fn decode_misc(
+        &mut self,
+        reader: &mut BinaryReader<'_>,
+        start: usize,
+        code: u32,
+    ) -> Result<Self::Output> {
+        decode::misc(self, reader, start, code)
+    }
+}
+
+impl CallAtomic for Teller {
+    fn dispatch_atomic(&mut self, op: AtomicOperator) -> Self::Output {
+        dispatch::atomic(self, op)
+    }
+
+    fn decode_atomic(
+        &mut self,
+        reader: &mut BinaryReader<'_>,
+        start: usize,
+        code: u32,
+    ) -> Result<Self::Output> {
+        decode::atomic(self, reader, start, code)
+    }
+}
+
+impl CallSimdLow for Teller {
+    fn dispatch_simd_low(&mut self, op: SimdOperator) -> Self::Output {
+        dispatch::simd_low(self, op)
+    }
+
+    fn decode_simd_low(
+        &mut self,
+        reader: &mut BinaryReader<'_>,
+        start: usize,
+        code: u32,
+    ) -> Result<Self::Output> {
+        decode::simd_low(self, reader, start, code)
+    }
+}
+
+impl CallSimdHigh for Teller {
+    fn dispatch_simd_high(&mut self, op: SimdOperator) -> Self::Output {
+        dispatch::simd_high(self, op)
+    }
+
+    fn decode_simd_high(
+        &mut self,
+        reader: &mut BinaryReader<'_>,
+        start: usize,
+        code: u32,
+    ) -> Result<Self::Output> {
+        decode::simd_high(self, reader, start, code)
     }
 }
 

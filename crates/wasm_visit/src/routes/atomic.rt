@@ -87,7 +87,7 @@ pub trait CallAtomic: Visitor {
 
 impl<V: CallAtomic> RouteAtomic<V> for Once {
     fn visit(v: &mut V, op: AtomicOperator) -> V::Output {
-        v.dispatch_atomic(op)
+        <V as CallAtomic>::dispatch_atomic(v, op)
     }
 
     #[inline(always)]
@@ -97,7 +97,7 @@ impl<V: CallAtomic> RouteAtomic<V> for Once {
         start: usize,
         code: u32,
     ) -> Result<V::Output> {
-        v.decode_atomic(reader, start, code)
+        <V as CallAtomic>::decode_atomic(v, reader, start, code)
     }
 }
 
@@ -158,7 +158,7 @@ impl<V: Visitor> GroupAtomic for V
 where
     <V::Visits as Routes>::Atomic: RouteAtomic<V>,
 {
-    fn dispatch_atomic(&mut self, op: AtomicOperator) -> Self::Output {
+    fn dispatch_atomic(&mut self, op: AtomicOperator) -> V::Output {
         <V::Visits as Routes>::Atomic::visit(self, op)
     }
 
@@ -168,7 +168,7 @@ where
         reader: &mut BinaryReader<'_>,
         start: usize,
         code: u32,
-    ) -> Result<Self::Output> {
+    ) -> Result<V::Output> {
         <V::Visits as Routes>::Atomic::decode(self, reader, start, code)
     }
 }

@@ -86,7 +86,7 @@ pub trait CallGc: Visitor {
 
 impl<V: CallGc> RouteGc<V> for Once {
     fn visit(v: &mut V, op: GcOperator) -> V::Output {
-        v.dispatch_gc(op)
+        <V as CallGc>::dispatch_gc(v, op)
     }
 
     #[inline(always)]
@@ -96,7 +96,7 @@ impl<V: CallGc> RouteGc<V> for Once {
         start: usize,
         code: u32,
     ) -> Result<V::Output> {
-        v.decode_gc(reader, start, code)
+        <V as CallGc>::decode_gc(v, reader, start, code)
     }
 }
 
@@ -157,7 +157,7 @@ impl<V: Visitor> GroupGc for V
 where
     <V::Visits as Routes>::Gc: RouteGc<V>,
 {
-    fn dispatch_gc(&mut self, op: GcOperator) -> Self::Output {
+    fn dispatch_gc(&mut self, op: GcOperator) -> V::Output {
         <V::Visits as Routes>::Gc::visit(self, op)
     }
 
@@ -167,7 +167,7 @@ where
         reader: &mut BinaryReader<'_>,
         start: usize,
         code: u32,
-    ) -> Result<Self::Output> {
+    ) -> Result<V::Output> {
         <V::Visits as Routes>::Gc::decode(self, reader, start, code)
     }
 }

@@ -86,7 +86,7 @@ pub trait CallMisc: Visitor {
 
 impl<V: CallMisc> RouteMisc<V> for Once {
     fn visit(v: &mut V, op: MiscOperator) -> V::Output {
-        v.dispatch_misc(op)
+        <V as CallMisc>::dispatch_misc(v, op)
     }
 
     #[inline(always)]
@@ -96,7 +96,7 @@ impl<V: CallMisc> RouteMisc<V> for Once {
         start: usize,
         code: u32,
     ) -> Result<V::Output> {
-        v.decode_misc(reader, start, code)
+        <V as CallMisc>::decode_misc(v, reader, start, code)
     }
 }
 
@@ -157,7 +157,7 @@ impl<V: Visitor> GroupMisc for V
 where
     <V::Visits as Routes>::Misc: RouteMisc<V>,
 {
-    fn dispatch_misc(&mut self, op: MiscOperator) -> Self::Output {
+    fn dispatch_misc(&mut self, op: MiscOperator) -> V::Output {
         <V::Visits as Routes>::Misc::visit(self, op)
     }
 
@@ -167,7 +167,7 @@ where
         reader: &mut BinaryReader<'_>,
         start: usize,
         code: u32,
-    ) -> Result<Self::Output> {
+    ) -> Result<V::Output> {
         <V::Visits as Routes>::Misc::decode(self, reader, start, code)
     }
 }

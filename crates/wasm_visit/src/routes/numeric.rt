@@ -61,12 +61,12 @@ pub trait CallNumeric: Visitor {
 
 impl<V: CallNumeric> RouteNumeric<V> for Once {
     fn visit(v: &mut V, op: NumericOperator) -> V::Output {
-        v.dispatch_numeric(op)
+        <V as CallNumeric>::dispatch_numeric(v, op)
     }
 
     #[inline(always)]
     fn decode(v: &mut V, code: u8) -> V::Output {
-        v.decode_numeric(code)
+        <V as CallNumeric>::decode_numeric(v, code)
     }
 }
 
@@ -110,12 +110,12 @@ impl<V: Visitor> GroupNumeric for V
 where
     <V::Visits as Routes>::Numeric: RouteNumeric<V>,
 {
-    fn dispatch_numeric(&mut self, op: NumericOperator) -> Self::Output {
+    fn dispatch_numeric(&mut self, op: NumericOperator) -> V::Output {
         <V::Visits as Routes>::Numeric::visit(self, op)
     }
 
     #[inline(always)]
-    fn decode_numeric(&mut self, code: u8) -> Self::Output {
+    fn decode_numeric(&mut self, code: u8) -> V::Output {
         <V::Visits as Routes>::Numeric::decode(self, code)
     }
 }

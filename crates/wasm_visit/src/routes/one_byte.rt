@@ -104,7 +104,7 @@ pub trait CallOneByte: Visitor {
 
 impl<V: CallOneByte> RouteOneByte<V> for Once {
     fn visit(v: &mut V, op: Operator<'_>) -> V::Output {
-        v.dispatch_one_byte(op)
+        <V as CallOneByte>::dispatch_one_byte(v, op)
     }
 
     #[inline(always)]
@@ -116,7 +116,7 @@ impl<V: CallOneByte> RouteOneByte<V> for Once {
         frame: FrameKind,
         code: u8,
     ) -> Result<V::Output> {
-        v.decode_one_byte(alloc, reader, start, frame, code)
+        <V as CallOneByte>::decode_one_byte(v, alloc, reader, start, frame, code)
     }
 }
 
@@ -185,7 +185,7 @@ impl<V: Visitor> GroupOneByte for V
 where
     <V::Visits as Routes>::OneByte: RouteOneByte<V>,
 {
-    fn dispatch_one_byte(&mut self, op: Operator<'_>) -> Self::Output {
+    fn dispatch_one_byte(&mut self, op: Operator<'_>) -> V::Output {
         <V::Visits as Routes>::OneByte::visit(self, op)
     }
 
@@ -197,7 +197,7 @@ where
         start: usize,
         frame: FrameKind,
         code: u8,
-    ) -> Result<Self::Output> {
+    ) -> Result<V::Output> {
         <V::Visits as Routes>::OneByte::decode(alloc, self, reader, start, frame, code)
     }
 }

@@ -92,7 +92,7 @@ pub trait CallSimdHigh: Visitor {
 
 impl<V: CallSimdHigh> RouteSimdHigh<V> for Once {
     fn visit(v: &mut V, op: SimdOperator) -> V::Output {
-        v.dispatch_simd_high(op)
+        <V as CallSimdHigh>::dispatch_simd_high(v, op)
     }
 
     #[inline(always)]
@@ -102,7 +102,7 @@ impl<V: CallSimdHigh> RouteSimdHigh<V> for Once {
         start: usize,
         code: u32,
     ) -> Result<V::Output> {
-        v.decode_simd_high(reader, start, code)
+        <V as CallSimdHigh>::decode_simd_high(v, reader, start, code)
     }
 }
 
@@ -165,7 +165,7 @@ impl<V: Visitor> GroupSimdHigh for V
 where
     <V::Visits as Routes>::SimdHigh: RouteSimdHigh<V>,
 {
-    fn dispatch_simd_high(&mut self, op: SimdOperator) -> Self::Output {
+    fn dispatch_simd_high(&mut self, op: SimdOperator) -> V::Output {
         <V::Visits as Routes>::SimdHigh::visit(self, op)
     }
 
@@ -175,7 +175,7 @@ where
         reader: &mut BinaryReader<'_>,
         start: usize,
         code: u32,
-    ) -> Result<Self::Output> {
+    ) -> Result<V::Output> {
         <V::Visits as Routes>::SimdHigh::decode(self, reader, start, code)
     }
 }

@@ -92,7 +92,7 @@ pub trait CallSimdLow: Visitor {
 
 impl<V: CallSimdLow> RouteSimdLow<V> for Once {
     fn visit(v: &mut V, op: SimdOperator) -> V::Output {
-        v.dispatch_simd_low(op)
+        <V as CallSimdLow>::dispatch_simd_low(v, op)
     }
 
     #[inline(always)]
@@ -102,7 +102,7 @@ impl<V: CallSimdLow> RouteSimdLow<V> for Once {
         start: usize,
         code: u32,
     ) -> Result<V::Output> {
-        v.decode_simd_low(reader, start, code)
+        <V as CallSimdLow>::decode_simd_low(v, reader, start, code)
     }
 }
 
@@ -165,7 +165,7 @@ impl<V: Visitor> GroupSimdLow for V
 where
     <V::Visits as Routes>::SimdLow: RouteSimdLow<V>,
 {
-    fn dispatch_simd_low(&mut self, op: SimdOperator) -> Self::Output {
+    fn dispatch_simd_low(&mut self, op: SimdOperator) -> V::Output {
         <V::Visits as Routes>::SimdLow::visit(self, op)
     }
 
@@ -175,7 +175,7 @@ where
         reader: &mut BinaryReader<'_>,
         start: usize,
         code: u32,
-    ) -> Result<Self::Output> {
+    ) -> Result<V::Output> {
         <V::Visits as Routes>::SimdLow::decode(self, reader, start, code)
     }
 }
