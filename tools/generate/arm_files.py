@@ -34,15 +34,16 @@ def source(ops, group):
     words = named(ROW_WORDS + KIND_WORDS, "\n".join(line for line in text.split("\n") if "{ " in line))
     words = [it for it in words if it.startswith("is_")]
     marks = [it.mark for it in GROUPS if it.module != "one_byte"]
-    here = named(["At", "Maker", "Makes", "arm", *marks], text)
+    here = named(["At", "Maker", "Makes", "arm", "read_arm", *marks], text)
     opcodes = named([*read_types("wasm_decode_opcodes"), "Guard", "Only", "unknown_opcode", "unknown_subopcode"], text)
     imm = named(sorted([*read_types("wasm_imm"), "MemArgKind"]), text)
     below = named(sorted([*read_types("wasm_below"), "BinaryReader", "Result"]), text)
-    specs = named(["HasKindsAt"], text)
+    specs = named(["HasKindsAt", "ReadsOperatorAt"], text)
     lines = [
         f"//! Decoding of {group.short.removeprefix('the ')}. {HEAD}",
         f"ghost use Rattle.std.specs.Prelude.{{{', '.join(prelude)}}};",
         *(["ghost use Rattle.wasm_grammar.specs.declared.frame_kind.FrameKind.{FrameKind};"] if "FrameKind" in text else []),
+        *(["ghost use Rattle.wasm_instr.specs.declared.operator.Operator.{Operator};"] if group.is_returned else []),
         *([f"ghost use Rattle.wasm_instr.specs.Immediate.{{{', '.join(words)}}};"] if words else []),
         f"ghost use Rattle.wasm_decode_opcodes.specs.Decoding.{{{', '.join(named(['DecodesAt', 'IsAfterCode', 'VisitsRow'], text))}}};",
         *(["ghost use Rattle.wasm_decode_opcodes.specs.Entries.{align_at};"] if "align_at" in text else []),
@@ -391,6 +392,14 @@ def prefixed_proof(ops, group):
     return group_proof(path, body, names)
 
 
+def returned_proof(ops, group):
+    """Returns the proof of the function that returns the operator: the goals of `prefixed_proof`, without type parameters."""
+    of, to = f"{group.module}_operators.{group.module}_by", f"{group.module}_operators.read_{group.module}_operator"
+    text = prefixed_proof(ops, group).replace(of, to)
+    text = re.sub(r"\barm-requires", "read_arm-requires", text)
+    return {to: re.sub(r"^([\w-]+) g c", r"\1 c", text, flags=re.M)}
+
+
 def one_byte_proofs(ops, group):
     those = parts(ops, group)
     common = [part for part in those if any(op.is_common for op in part.free)]
@@ -430,6 +439,7 @@ def proofs(ops, group):
         out = numeric_proof(parts(ops, group)[0])
     else:
         out = one_byte_proofs(ops, group) if group.enum == "Own" else {f"{module}.{group.module}_by": prefixed_proof(ops, group)}
+    out |= returned_proof(ops, group) if group.is_returned else {}
     for part in parts(ops, group):
         at = f"{module}.OwnAt{mark}{folder_of(part.key)}.at"
         make = f"{module}.MakerMakes{mark}{folder_of(part.key)}.make"

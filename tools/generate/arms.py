@@ -201,7 +201,12 @@ def call(part, code, ty=None):
     return f"arm::<V, {part.mark}, {ty or part.type}, R>(v, reader, start, {code}, {bound})"
 
 
-def arms(those, code="code", takes=lambda op: True):
+def read_call(part, code):
+    bound = f"align_of_{part.title}({code})" if part.has_align else "0"
+    return f"read_arm::<{part.mark}, {part.type}>(reader, start, {code}, {bound})"
+
+
+def arms(those, code="code", takes=lambda op: True, call=call):
     """Returns an arm for each run of codes of the operators that `takes` accepts."""
     out = []
     for part in those:
@@ -243,6 +248,22 @@ def prefixed_head(group, name, params, text):
     ]
 
 
+def returned(those, group):
+    """Returns the function that returns the operator in the type of its group."""
+    return [
+        *doc(f"Reads the immediates of {singular(group.short)} and returns the operator."),
+        "#[inline(always)]",
+        f"pub fn read_{group.module}_operator(reader: &mut BinaryReader<'_>, start: usize, code: u32) -> Result<{type_name(group)}>",
+        f"    requires after {{ IsAfterCode start (Some 0x{group.prefix}) code reader.old }}",
+        f"    ensures {{ (frame : FrameKind) → ReadsOperatorAt (λ op. Operator.{group.enum} op) frame start result reader.old reader.new }}",
+        "{",
+        "    match code {",
+        *arms(those, call=read_call),
+        f"        _ => Err(unknown_subopcode(reader, start, 0x{group.prefix}, code)),",
+        "    }", "}", "",
+    ]
+
+
 def prefixed_body(those, group):
     unknown = f"Err(unknown_subopcode(reader, start, 0x{those[0].prefix}, code))"
     if group.enum != "Simd":
@@ -266,6 +287,7 @@ def prefixed(those, group):
         "",
         *prefixed_head(group, f"{name}_by", f"V: Visitor, R: At{group.mark}<V>", f"{visited} passes them to `R`."),
         *prefixed_body(those, group),
+        *(returned(those, group) if group.is_returned else []),
         *alias(group, [part.type for part in those]),
     ]
 

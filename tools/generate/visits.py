@@ -24,6 +24,11 @@ class Group:
         """Returns the name of the predicate that holds for its operators, if other operators have the same type."""
         return f"Is{self.mark}" if self.enum in ("Own", "Simd") else ""
 
+    @property
+    def is_returned(self):
+        """Returns whether a call returns its operators in the type of the group: those of 0xfb have many fewer bytes than an `Operator`."""
+        return self.enum == "Gc"
+
     def has(self, op):
         if op.group != self.enum or op.borrows:
             return False

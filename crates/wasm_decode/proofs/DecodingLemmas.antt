@@ -19,6 +19,7 @@ use Rattle.wasm_visit.specs.instr.Kinds.{IsVector}
 use Rattle.wasm_visit.specs.instr.Row.{prefix_of, opcode_of}
 use Rattle.wasm_visit.specs.opcodes.Allowed.{EncodesAllowed, EncodesScalar, EncodesIn}
 use Rattle.wasm_visit.specs.opcodes.Decoding.{Decodes, DecodesAt, RefusesOperator, IsAfterCode}
+use Rattle.wasm_visit.specs.decode.Arms.{ReadsOperatorAt}
 use Rattle.wasm_visit.specs.opcodes.declared.guard.Guard.{Guard}
 use Rattle.wasm_visit.specs.opcodes.Entry.{Entry, prefixes, guard_of, kinds_of, guarded_entry, entry_of}
 use Rattle.wasm_visit.specs.opcodes.Entries.{opcode_entries, entry_at}
@@ -148,10 +149,6 @@ pub vector_prefix : (op : Operator) → IsVector op → prefix_of op ≡ Some 0x
 vector_prefix (operator.Simd op) h = refl
 vector_prefix op h = absurd h
 
-abbrev number_in : Option ℕ → ℕ
-number_in None = 0
-number_in (Some n) = n
-
 -- an operator that does not start with the byte 0xfd is not a SIMD operator
 scalar_after : (f : WasmFeatures) (op : Operator) (code : ℕ) (text after left : List ℕ) → code ≢ 0xfd → EncodesOperator f op text → code ∷ after ≡ text ++ left → ¬ IsVector op
 scalar_after f op code text after left other s eq h = go (prefix_of op) refl s.code
@@ -240,28 +237,14 @@ module _ (k : FrameKind) (start : ℕ) (old lent mid : Reader) (same : lent ≡ 
       as_read (EncodesAllowed old.features k) (OperatorFault old.features k) (at_position old start) new tt tt (Err e)
       (copy_refused ReturnsOperator k start old lent mid tt tt same e new (visited (Err e) h) went)
 
--- the operator of a visit, if its prefix byte is 0xfb
-abbrev IsGc : Operator → GcOperator → Type 0
-IsGc op outcome = (made : GcOperator) → op ≡ operator.Gc made → outcome ≡ made
-
-prefix_gc : (op : Operator) (outcome : GcOperator) → prefix_of op ≡ Some 0xfb → IsGc op outcome → op ≡ operator.Gc outcome
-prefix_gc (operator.Gc op) outcome e is = ap operator.Gc (sym (is op refl))
-prefix_gc op outcome e is = absurd (omega (arith, ap number_in e))
-
--- decoding by a visitor that returns the GcOperator, after the subopcode
-pub as_gc : {V : Type 0} (k : FrameKind) (start : ℕ) (old mid new : Reader) (v w : V) (result : Result GcOperator Error) → entry_at None 0xfb ≡ prefixes →
-    IsAfterCode start None 0xfb old → mid ≡ at_position old mid.position → DecodesAt {V = V} (λ before op outcome after. IsGc op outcome) k start result mid new v w →
-    DecodesGcAt k start result old new
-as_gc {V} k start old mid new v w result prefix b stays h =
-    go result b.opcode (subst (λ r. DecodesAt {V = V} (λ before op outcome after. IsGc op outcome) k start result r new v w) stays h)
+-- reading a `GcOperator` after the subopcode is reading its operator
+pub as_gc : (k : FrameKind) (start : ℕ) (old mid new : Reader) (result : Result GcOperator Error) → mid ≡ at_position old mid.position →
+    ReadsOperatorAt operator.Gc k start result mid new → DecodesGcAt k start result old new
+as_gc k start old mid new result stays h = go result (subst (λ r. ReadsOperatorAt operator.Gc k start result r new) stays h)
   where
-    go : (result : Result GcOperator Error) → Reads (λ text it. EncodesOpcode None it text) (Ok 0xfb) (at_position old start) old →
-        DecodesAt {V = V} (λ before op outcome after. IsGc op outcome) k start result old new v w → DecodesGcAt k start result old new
-    go (Ok outcome) (head, opcode, t) (text, op, s, taken, visited) =
-        let parts : rest (at_position old start) ≡ 0xfb ∷ rest old = t.parts ∙ ap (λ z. z ++ rest old) opcode in
-        let o = begins_prefix old.features op 0xfb text (rest old) (rest new) prefix s.0 (sym parts ∙ taken.parts) in
-        (text, subst (EncodesAllowed old.features k text) (prefix_gc op outcome o.2 visited) s, taken)
-    go (Err e) read (same, refused) = refused
+    go : (result : Result GcOperator Error) → ReadsOperatorAt operator.Gc k start result old new → DecodesGcAt k start result old new
+    go (Ok outcome) (text, op, s, taken, same) = (text, subst (EncodesAllowed old.features k text) same s, taken)
+    go (Err e) (same, refused) = refused
 
 pub read_from_start : (E : WasmFeatures → FrameKind → List ℕ → Operator → Type 0) (F : WasmFeatures → FrameKind → Message → Reader → ℕ → Type 0) (k : FrameKind) (start : ℕ)
     (old mid new : Reader) (result : Result Operator Error) → at_position mid start ≡ old →

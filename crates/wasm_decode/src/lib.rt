@@ -7,7 +7,6 @@
 
 mod after;
 pub mod laws;
-mod made_gc;
 mod out_of_line;
 mod prefixes;
 mod read;

@@ -1,11 +1,10 @@
-//! Reads an operator by the visitor `Made` or, with the prefix byte 0xfb, by `MadeGc`.
+//! Reads an operator by the visitor `Made` or, with the prefix byte 0xfb, without a visitor.
 ghost use Rattle.std.specs.Prelude.{◌≢◌, None, Some, Ok, Err, IfSome, IfNone};
 ghost use Rattle.wasm_decode.specs.Reading.{DecodesOperatorIn, DecodesOperatorAt, DecodesGcAt};
 ghost use Rattle.wasm_visit.specs.grammar.declared.frame_kind.FrameKind.{FrameKind};
 ghost use Rattle.wasm_visit.specs.opcodes.Decoding.{IsAfterCode};
 
 use crate::after::{simd_of, subopcode, vector_without_immediates};
-use crate::made_gc::MadeGc;
 use crate::out_of_line::{place, visit_after_prefix};
 use crate::prefixes::{Atomic, Misc};
 use crate::refusals::no_frame;
@@ -14,7 +13,7 @@ use wasm_visit::below::{BinaryReader, Error, Result};
 use wasm_visit::grammar::FrameKind;
 use wasm_visit::instr::{GcOperator, Operator};
 use wasm_visit::opcodes::immediates;
-use wasm_visit::reading::{Made, gc_by, numeric_by, one_byte_by};
+use wasm_visit::reading::{Made, numeric_by, one_byte_by, read_gc_operator};
 use wasm_visit::{ByAny, decode};
 
 /// Reads the operator at the start of the rest. `frame` is the innermost frame. Fails like
@@ -122,7 +121,7 @@ fn gc_of(reader: &mut BinaryReader<'_>, start: usize) -> Result<GcOperator>
     ensures { (frame : FrameKind) → DecodesGcAt frame start result reader.old reader.new }
 {
     match subopcode(reader, start, 0xfb) {
-        Ok(code) => gc_by::<MadeGc, ByAny>(&mut MadeGc, reader, start, code),
+        Ok(code) => read_gc_operator(reader, start, code),
         Err(e) => Err(e),
     }
 }

@@ -1,7 +1,11 @@
-use Rattle.std.specs.Prelude.{◌≡◌, ℕ, ◌<◌, List, Option, Some, None}
+use Rattle.std.specs.Prelude.{◌≡◌, ℕ, ◌<◌, List, Option, Some, None, Result}
+use Rattle.wasm_visit_groups.specs.below.bytes.error.Error.{Error}
+use Rattle.wasm_visit_groups.specs.below.Source.{Reader}
+use Rattle.wasm_visit_groups.specs.grammar.declared.frame_kind.FrameKind.{FrameKind}
 use Rattle.wasm_visit_groups.specs.instr.declared.operator.Operator.{Operator}
 use Rattle.wasm_visit_groups.specs.instr.Immediate.{Immediate, Kind}
 use Rattle.wasm_visit_groups.specs.instr.Row.{prefix_of, opcode_of, immediates_of}
+use Rattle.wasm_decode_opcodes.specs.Decoding.{DecodesAt}
 use Rattle.wasm_decode_opcodes.specs.Entry.{prefixes, free, entry_kinds}
 use Rattle.wasm_decode_opcodes.specs.Entries.{entry_at, align_at}
 
@@ -21,3 +25,7 @@ HasKindsAt prefix code kinds = entry_kinds (entry_at prefix code) ≡ Some (kind
 -- The operator has this code and these immediates.
 abbrev pub IsRow : Option ℕ → ℕ → List Immediate → Operator → Type 0
 IsRow prefix code is op = (prefix_of op ≡ prefix) × (opcode_of op ≡ code) × (immediates_of op ≡ is)
+
+-- As `DecodesAt`, for a call that returns the operator, in a type from which `whole` makes an `Operator`.
+abbrev pub ReadsOperatorAt : {A : Type 0} → (A → Operator) → FrameKind → ℕ → Result A Error → Reader → Reader → Type 0
+ReadsOperatorAt {A} whole frame start result old new = DecodesAt {V = Unit {0}} {A = A} (λ v op outcome w. op ≡ whole outcome) frame start result old new tt tt

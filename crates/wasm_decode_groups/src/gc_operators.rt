@@ -1,9 +1,11 @@
 //! Decoding of operators with prefix 0xfb. Written by tools/lists.py from tools/operators.tsv.
 ghost use Rattle.std.specs.Prelude.{Some};
 ghost use Rattle.wasm_visit_groups.specs.grammar.declared.frame_kind.FrameKind.{FrameKind};
+ghost use Rattle.wasm_visit_groups.specs.instr.declared.operator.Operator.{Operator};
 ghost use Rattle.wasm_decode_opcodes.specs.Decoding.{DecodesAt, IsAfterCode};
+ghost use Rattle.wasm_decode_groups.specs.Arms.{ReadsOperatorAt};
 
-use crate::arm::{At, Gc, Maker, Makes, arm};
+use crate::arm::{At, Gc, Maker, Makes, arm, read_arm};
 use wasm_decode_opcodes::unknown_subopcode;
 use wasm_visit_groups::below::{BinaryReader, HeapType, Result};
 use wasm_visit_groups::imm::Cast;
@@ -50,6 +52,35 @@ pub fn gc_by<V: Visitor, R: AtGc<V>>(
         0x23..=0x24 => arm::<V, Gc, HeapType, R>(v, reader, start, code, 0),
         0x18..=0x19 => arm::<V, Gc, Cast, R>(v, reader, start, code, 0),
         0x25..=0x26 => arm::<V, Gc, Cast, R>(v, reader, start, code, 0),
+        _ => Err(unknown_subopcode(reader, start, 0xfb, code)),
+    }
+}
+
+/// Reads the immediates of an operator with prefix 0xfb and returns the operator.
+#[inline(always)]
+pub fn read_gc_operator(
+    reader: &mut BinaryReader<'_>,
+    start: usize,
+    code: u32,
+) -> Result<GcOperator>
+    requires after { IsAfterCode start (Some 0xfb) code reader.old }
+    ensures { (frame : FrameKind) → ReadsOperatorAt (λ op. Operator.Gc op) frame start result reader.old reader.new }
+{
+    match code {
+        0x00..=0x01 => read_arm::<Gc, u32>(reader, start, code, 0),
+        0x06..=0x07 => read_arm::<Gc, u32>(reader, start, code, 0),
+        0x0b..=0x0e => read_arm::<Gc, u32>(reader, start, code, 0),
+        0x10 => read_arm::<Gc, u32>(reader, start, 0x10, 0),
+        0x20..=0x22 => read_arm::<Gc, u32>(reader, start, code, 0),
+        0x02..=0x05 => read_arm::<Gc, (u32, u32)>(reader, start, code, 0),
+        0x08..=0x0a => read_arm::<Gc, (u32, u32)>(reader, start, code, 0),
+        0x11..=0x13 => read_arm::<Gc, (u32, u32)>(reader, start, code, 0),
+        0x0f => read_arm::<Gc, ()>(reader, start, 0x0f, 0),
+        0x1a..=0x1e => read_arm::<Gc, ()>(reader, start, code, 0),
+        0x14..=0x17 => read_arm::<Gc, HeapType>(reader, start, code, 0),
+        0x23..=0x24 => read_arm::<Gc, HeapType>(reader, start, code, 0),
+        0x18..=0x19 => read_arm::<Gc, Cast>(reader, start, code, 0),
+        0x25..=0x26 => read_arm::<Gc, Cast>(reader, start, code, 0),
         _ => Err(unknown_subopcode(reader, start, 0xfb, code)),
     }
 }

@@ -15,7 +15,7 @@ mod simd_low_operators;
 mod vectors_without_immediates;
 
 pub use atomic_operators::{AtAtomic, atomic, atomic_by};
-pub use gc_operators::{AtGc, gc, gc_by};
+pub use gc_operators::{AtGc, gc, gc_by, read_gc_operator};
 pub use misc_operators::{AtMisc, misc, misc_by};
 pub use numeric_operators::{numeric, numeric_by};
 pub use one_byte_operators::{AtOneByte, one_byte, one_byte_by};

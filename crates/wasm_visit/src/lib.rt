@@ -37,8 +37,9 @@ pub mod decode {
     };
 }
 
-/// Reading an operator: the visitor that returns it, and decoders by any route.
+/// Reading an operator: the visitor that returns it, decoders by any route, and one without a
+/// visitor.
 pub mod reading {
     pub use crate::made::Made;
-    pub use wasm_decode_groups::{gc_by, numeric_by, one_byte_by};
+    pub use wasm_decode_groups::{numeric_by, one_byte_by, read_gc_operator};
 }
