@@ -34,7 +34,7 @@ def source(ops, group):
     words = named(ROW_WORDS + KIND_WORDS, "\n".join(line for line in text.split("\n") if "{ " in line))
     words = [it for it in words if it.startswith("is_")]
     marks = [it.mark for it in GROUPS if it.module != "one_byte"]
-    here = named(["At", "Maker", "Makes", "arm", "read_arm", *marks], text)
+    here = named(["At", "Maker", "Makes", "arm", *marks], text)
     opcodes = named([*read_types("wasm_decode_opcodes"), "Guard", "Only", "unknown_opcode", "unknown_subopcode"], text)
     imm = named(sorted([*read_types("wasm_imm"), "MemArgKind"]), text)
     below = named(sorted([*read_types("wasm_below"), "BinaryReader", "Result"]), text)
@@ -52,6 +52,7 @@ def source(ops, group):
         "",
         f"use crate::arm::{{{', '.join(sorted(here))}}};",
         *(["use crate::one_byte_arms::{AtList, OneByte, guarded_arm, list_arm};", "use crate::out_of_line::other_one_byte_by;", "use std::alloc::Global;", "use wasm_grammar::FrameKind;"] if is_own else []),
+        *(["use crate::read_arm::read_arm;"] if group.is_returned else []),
         *(["use crate::vectors_without_immediates::has_no_immediates;"] if "has_no_immediates(" in text else []),
         *([f"use wasm_below::{{{', '.join(below)}}};"] if below else []),
         *([f"use wasm_imm::{{{', '.join(imm)}}};"] if imm else []),

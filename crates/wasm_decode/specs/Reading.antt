@@ -25,8 +25,7 @@ abbrev pub DecodesOperatorIn : Option FrameKind → Result Operator Error → Re
 DecodesOperatorIn frame result old new =
     DecodesOperator (EncodesIn (EncodesAllowed old.features) frame) (FaultIn (OperatorFault old.features) frame) result old new
 
--- As `DecodesOperatorAt`, for a call after the prefix byte 0xfb; the operator is returned as a
--- `GcOperator`.
+-- As `DecodesOperatorAt` after the prefix byte 0xfb, for a `GcOperator`.
 abbrev pub DecodesGcAt : FrameKind → ℕ → Result GcOperator Error → Reader → Reader → Type 0
 DecodesGcAt frame start (Ok op) old new = DecodesOperatorAt frame start (Ok (operator.Gc op)) old new
 DecodesGcAt frame start (Err e) old new = DecodesOperatorAt frame start (Err e) old new

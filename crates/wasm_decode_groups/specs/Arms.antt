@@ -14,7 +14,7 @@ abbrev pub IsCodeAfter : Option ℕ → ℕ → Type 0
 IsCodeAfter None code = code < 256
 IsCodeAfter (Some prefix) code = (entry_at None prefix ≡ prefixes) × (prefix < 256)
 
--- The code has these kinds and no guard, and `bound` as its natural alignment.
+-- The code has these kinds, no guard, and this natural alignment.
 abbrev pub HasArm : Option ℕ → ℕ → List Kind → ℕ → Type 0
 HasArm prefix code ks bound = (entry_at prefix code ≡ free ks) × (bound ≡ align_at prefix code)
 
@@ -26,6 +26,6 @@ HasKindsAt prefix code kinds = entry_kinds (entry_at prefix code) ≡ Some (kind
 abbrev pub IsRow : Option ℕ → ℕ → List Immediate → Operator → Type 0
 IsRow prefix code is op = (prefix_of op ≡ prefix) × (opcode_of op ≡ code) × (immediates_of op ≡ is)
 
--- As `DecodesAt`, for a call that returns the operator, in a type from which `whole` makes an `Operator`.
+-- As `DecodesAt`, for a call that returns the operator.
 abbrev pub ReadsOperatorAt : {A : Type 0} → (A → Operator) → FrameKind → ℕ → Result A Error → Reader → Reader → Type 0
 ReadsOperatorAt {A} whole frame start result old new = DecodesAt {V = Unit {0}} {A = A} (λ v op outcome w. op ≡ whole outcome) frame start result old new tt tt

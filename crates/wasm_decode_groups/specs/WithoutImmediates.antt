@@ -4,7 +4,7 @@ use Rattle.wasm_decode_opcodes.specs.Entry.{Entry, free}
 use Rattle.wasm_visit_groups.specs.instr.simd.simd.SimdOperator.{SimdOperator}
 use Rattle.wasm_visit_groups.specs.instr.Simd.{simd_subopcode, simd_immediates}
 
--- Whether the entry belongs to an operator without immediates and without a guard.
+-- Whether the entry has no immediates and no guard.
 abbrev pub is_without_immediates : Entry → Bool
 is_without_immediates (free []) = true
 is_without_immediates _ = false

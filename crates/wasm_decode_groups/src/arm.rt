@@ -4,7 +4,7 @@ ghost use Rattle.wasm_visit_groups.specs.grammar.declared.frame_kind.FrameKind.{
 ghost use Rattle.wasm_visit_groups.specs.instr.declared.operator.Operator.{Operator};
 ghost use Rattle.wasm_decode_opcodes.specs.Decoding.{DecodesAt, IsAfterCode, VisitsRow};
 ghost use Rattle.wasm_decode_opcodes.specs.Entries.{align_at};
-ghost use Rattle.wasm_decode_groups.specs.Arms.{HasArm, HasKindsAt, IsCodeAfter, IsRow, ReadsOperatorAt};
+ghost use Rattle.wasm_decode_groups.specs.Arms.{HasArm, HasKindsAt, IsCodeAfter, IsRow};
 
 use wasm_decode_opcodes::{Immediates, Only};
 use wasm_visit_groups::below::{BinaryReader, Result};
@@ -186,33 +186,6 @@ pub fn arm<V: Visitor, G: Group, I: Immediates, R: At<V, G, I>>(
 {
     match I::read(reader, start, bound) {
         Ok(it) => Ok(R::at(v, code, it)),
-        Err(e) => {
-            reader.rewind(start);
-            Err(e)
-        }
-    }
-}
-
-/// As `arm`, but returns the operator. In the type of its group it has fewer bytes than an
-/// `Operator`, which each call would copy.
-#[inline(always)]
-pub fn read_arm<G: Group, I: Immediates>(
-    reader: &mut BinaryReader<'_>,
-    start: usize,
-    code: u32,
-    bound: u8,
-) -> Result<G::Operator>
-where
-    Maker: Makes<G, I>,
-    requires after { IsAfterCode start G.prefix code reader.old }
-    requires code { IsCodeAfter G.prefix code }
-    requires group { G.codes code }
-    requires kinds { HasArm G.prefix code (I.kinds bound) bound }
-    requires known { I.known code }
-    ensures { (frame : FrameKind) → ReadsOperatorAt G.operator frame start result reader.old reader.new }
-{
-    match I::read(reader, start, bound) {
-        Ok(it) => Ok(<Maker as Makes<G, I>>::make(code, it)),
         Err(e) => {
             reader.rewind(start);
             Err(e)

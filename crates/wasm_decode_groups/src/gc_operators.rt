@@ -5,7 +5,8 @@ ghost use Rattle.wasm_visit_groups.specs.instr.declared.operator.Operator.{Opera
 ghost use Rattle.wasm_decode_opcodes.specs.Decoding.{DecodesAt, IsAfterCode};
 ghost use Rattle.wasm_decode_groups.specs.Arms.{ReadsOperatorAt};
 
-use crate::arm::{At, Gc, Maker, Makes, arm, read_arm};
+use crate::arm::{At, Gc, Maker, Makes, arm};
+use crate::read_arm::read_arm;
 use wasm_decode_opcodes::unknown_subopcode;
 use wasm_visit_groups::below::{BinaryReader, HeapType, Result};
 use wasm_visit_groups::imm::Cast;

@@ -10,6 +10,7 @@ mod numeric_operators;
 mod one_byte_arms;
 mod one_byte_operators;
 mod out_of_line;
+mod read_arm;
 mod simd_high_operators;
 mod simd_low_operators;
 mod vectors_without_immediates;

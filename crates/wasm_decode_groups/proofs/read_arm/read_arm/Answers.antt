@@ -5,7 +5,7 @@ use Rattle.wasm_decode_opcodes.specs.OperatorFaults.{OperatorFault}
 use Rattle.wasm_decode_opcodes.proofs.OperatorLemmas.{refuses_free, visited_free}
 use Rattle.wasm_decode_opcodes.proofs.SequenceLemmas.{gone_back}
 use Rattle.wasm_decode_groups.proofs.Arms.{is_code}
-use Rattle.wasm_decode_groups.proofs.arm.read_arm.Goals as goal
+use Rattle.wasm_decode_groups.proofs.read_arm.read_arm.Goals as goal
 
 pub make-requires-clause-kinds : goal.make-requires-clause-kinds
 make-requires-clause-kinds g c =
