@@ -4,8 +4,8 @@ ghost use Rattle.uses_steps.specs.Tallies.{CountsOne, TakesOne};
 
 use std::alloc::Global;
 use wasm_operators::{
-    BinaryReader, BrTable, ByAny, FrameKind, FrameStack, Operator, Result, VisitOperator, Visitor,
-    visit_operator_with_simd, visit_owned, visit_owned_simd,
+    BinaryReader, BrTable, ByAny, FrameKind, FrameStack, Operator, ReadSimdVisits, ReadVisits,
+    Result, VisitOperator, Visitor, visit_operator_with_simd, visit_owned, visit_owned_simd,
 };
 
 #[derive(Debug, Drop)]
