@@ -2,8 +2,8 @@ use crate::row::Given;
 use crate::words::{is_lacking, write_error, write_position};
 use std::alloc::Global;
 use wasm_listing::operators::{
-    BinaryReader, BrTable, ByAny, FrameKind, FrameStack, Operator, OperatorsReader, Result,
-    VisitOperator, Visitor, visit_operator_with_simd,
+    BinaryReader, BrTable, ByAny, FrameKind, FrameStack, Operator, OperatorsReader, ReadOperators,
+    ReadSimdVisits, ReadVisits, Result, VisitOperator, Visitor, visit_operator_with_simd,
 };
 use wasm_tests_texts::{Written, write_operator};
 

@@ -1,10 +1,14 @@
 use crate::own::Call;
-use std::alloc::{AllocError, Global};
-use wasm_decode::below::Result;
-use wasm_decode::instr::{BrTable, Operator};
+use std::alloc::Global;
+use wasm_decode::below::{BinaryReader, Result};
+use wasm_decode::grammar::FrameKind;
+use wasm_decode::instr::{
+    AtomicOperator, BrTable, GcOperator, MiscOperator, NumericOperator, Operator, SimdOperator,
+};
 use wasm_decode::visitors::{
-    ByAny, OwnAtomic, OwnGc, OwnMisc, OwnNumeric, OwnOneByte, OwnSimdHigh, OwnSimdLow,
-    VisitOperator, Visitor,
+    ByAny, CallAtomic, CallGc, CallMisc, CallNumeric, CallOneByte, CallSimdHigh, CallSimdLow,
+    OnceAtomic, OnceGc, OnceMisc, OnceNumeric, OnceOneByte, OnceSimdHigh, OnceSimdLow,
+    VisitOperator, Visitor, decode, dispatch,
 };
 use wasm_tests_texts::write_operator;
 
@@ -22,14 +26,20 @@ impl Teller {
         }
     }
 
-    pub fn own(&mut self, op: Operator<'static>) -> std::result::Result<Call, AllocError> {
-        write_operator(&mut self.text, &op)?;
-        Ok(Call::Own)
+    pub fn own(&mut self, op: Operator<'static>) -> Call {
+        self.written(&op, Call::Own)
+    }
+
+    fn written(&mut self, op: &Operator<'_>, call: Call) -> Call {
+        match write_operator(&mut self.text, op) {
+            Ok(()) => call,
+            Err(_) => Call::OutOfMemory,
+        }
     }
 }
 
 impl Visitor for Teller {
-    type Output = std::result::Result<Call, AllocError>;
+    type Output = Call;
 
     type Visits = OnceOneByte<
         OnceNumeric<OnceGc<OnceMisc<OnceAtomic<OnceSimdLow<OnceSimdHigh<ByAny>>>>>>,
@@ -38,8 +48,7 @@ impl Visitor for Teller {
     ghost visits = { λ before op outcome after. Unit {0} };
 
     fn visit_any(&mut self, op: Operator<'static>) -> Self::Output {
-        write_operator(&mut self.text, &op)?;
-        Ok(Call::Any)
+        self.written(&op, Call::Any)
     }
 }
 
@@ -147,7 +156,6 @@ impl CallSimdHigh for Teller {
 
 impl<'a> VisitOperator<'a> for Teller {
     fn visit_br_table(&mut self, targets: BrTable<'a>) -> Self::Output {
-        write_operator(&mut self.text, &Operator::BrTable { targets })?;
-        Ok(Call::Table)
+        self.written(&Operator::BrTable { targets }, Call::Table)
     }
 }
