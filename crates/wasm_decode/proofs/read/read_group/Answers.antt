@@ -1,5 +1,10 @@
-use Rattle.std.proofs.Common.{arith}
-use Rattle.wasm_decode.proofs.DecodingLemmas.{prefix_bytes}
+use Rattle.std.proofs.Common.{◌≡◌, Ok, None, arith}
+use Rattle.wasm_visit.specs.below.Source.{at_position}
+use Rattle.wasm_visit.specs.opcodes.Allowed.{EncodesAllowed}
+use Rattle.wasm_visit.specs.opcodes.OperatorFaults.{OperatorFault}
+use Rattle.wasm_visit.proofs.of_decode.Codes.{numeric_without_immediates_45}
+use Rattle.wasm_visit.proofs.of_opcodes.OperatorLemmas.{visited_without_immediates}
+use Rattle.wasm_decode.proofs.DecodingLemmas.{as_read, prefix_bytes}
 use Rattle.wasm_decode.proofs.read.read_group.Goals as goal
 
 pub one_byte_by-requires-clause-apart : goal.one_byte_by-requires-clause-apart
@@ -9,3 +14,27 @@ one_byte_by-requires-clause-apart c =
       table = c.requires.table;
       numeric = λ from to. grind (arith, from, to);
     }
+
+pub returns-in-252 : goal.returns-in-252
+returns-in-252 c =
+    let r = c.args.reader.now in
+    let k = c.args.frame in
+    let call = c.visit_after_prefix in
+    as_read (EncodesAllowed r.features k) (OperatorFault r.features k) (at_position r c.args.start) call.new.reader _ call.new.v call.result (call.ensures k)
+
+pub returns-in-254 : goal.returns-in-254
+returns-in-254 c =
+    let r = c.args.reader.now in
+    let k = c.args.frame in
+    let call = c.visit_after_prefix-in-254 in
+    as_read (EncodesAllowed r.features k) (OperatorFault r.features k) (at_position r c.args.start) call.new.reader _ call.new.v call.result (call.ensures k)
+
+pub returns-in-69-to-196 : goal.returns-in-69-to-196
+returns-in-69-to-196 c =
+    let r = c.args.reader.now in
+    let k = c.args.frame in
+    let call = c.numeric_by in
+    let none = (numeric_without_immediates_45 c.args.code (omega (arith, c.in-69-to-196)) (omega (arith, c.in-69-to-196))).0 in
+    as_read (EncodesAllowed r.features k) (OperatorFault r.features k) (at_position r c.args.start) r _ call.new.v (Ok call.result)
+    (visited_without_immediates (λ before op outcome after. outcome ≡ op) (OperatorFault r.features k) k None c.args.code c.args.start r _ call.new.v call.result none c.requires.after
+    call.ensures)
