@@ -419,9 +419,10 @@ def one_byte_proofs(ops, group):
 
 def numeric_proof(part):
     """Returns the proof that numeric opcodes have no immediates."""
-    path, goal = "numeric_operators.numeric_by", "at-requires-clause-kinds"
+    path, group, goal = "numeric_operators.numeric_by", "at-requires-clause-group", "at-requires-clause-kinds"
     lemma = f"{part.lemma}_{part.ops[0].hex()[2:]}"
-    body = [f"pub {goal} : goal.{goal}", f"{goal} g c = ap entry_kinds ({lemma} c.args.code c.requires.from c.requires.to).0", ""]
+    body = [f"pub {group} : goal.{group}", f"{group} g c = (c.requires.from, c.requires.to)", ""]
+    body += [f"pub {goal} : goal.{goal}", f"{goal} g c = ap entry_kinds ({lemma} c.args.code c.requires.from c.requires.to).0", ""]
     return {path: group_proof(path, body, [lemma])}
 
 
