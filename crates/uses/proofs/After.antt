@@ -1,11 +1,12 @@
 -- Several calls that read to the end, seen as one call.
 use Rattle.std.proofs.Common.{◌≡◌, ℕ, ◌+◌, List, [], ◌++◌, length, refl, sym, ap, subst, ◌∙◌, arith, append_assoc, length-append}
+use Rattle.std.proofs.lemmas.List.{map-append}
 use Rattle.wasm_operators.specs.below.Source.{Reader, rest, offset_of, source_of, at_position, Takes}
+use Rattle.wasm_operators.specs.instr.declared.operator.Operator.{Operator}
 use Rattle.wasm_operators.specs.Expression.{Placed, operators, LaidOut, AreWalk, EncodesRest, EncodesExpression}
 use Rattle.wasm_operators.specs.Reading.{State}
 use Rattle.wasm_operators.specs.MainTheorem.{ReadSoFar}
 use Rattle.wasm_operators.specs.Laws.{LaysOutBoth}
-use Rattle.uses.proofs.Parts.{operators_join}
 
 -- From the reader `opened` to the state `now`, the bytes encode the operators `found`.
 pub record HasFound (opened : Reader) (now : State) (found : Placed) : Type 0 where
@@ -47,7 +48,7 @@ found_more r old new found placed text joined h takes laid read_so_far = record 
   text = h.text ++ text;
   takes = takes_both r old.reader new.reader h.text text h.takes takes;
   laid = joined (offset_of r) found placed h.text text h.laid (laid_after r old.reader h.text placed text h.takes laid);
-  read_so_far = subst (λ ops. ReadSoFar ops new) (sym (operators_join found placed)) read_so_far;
+  read_so_far = subst (λ ops. ReadSoFar ops new) (sym (map-append (λ (p : Operator × ℕ). p.0) found placed)) read_so_far;
 }
 
 pub whole_after : (r : Reader) (old : State) (found placed : Placed) → LaysOutBoth r.features → HasFound r old found →
@@ -55,5 +56,5 @@ pub whole_after : (r : Reader) (old : State) (found placed : Placed) → LaysOut
 whole_after r old found placed joined h (laid, walk) =
     let all = joined (offset_of r) found placed h.text (rest old.reader) h.laid (laid_after r old.reader h.text placed (rest old.reader) h.takes laid) in (
       subst (λ bytes. LaidOut r.features (offset_of r) (found ++ placed) bytes) (sym h.takes.parts) all,
-      subst AreWalk (sym (operators_join found placed)) walk,
+      subst AreWalk (sym (map-append (λ (p : Operator × ℕ). p.0) found placed)) walk,
     )

@@ -6,5 +6,5 @@ pub mod ConstantText
 pub mod Counting
 pub mod Frames
 pub mod HeightsAlong
-pub mod Parts
+pub mod SameTrees
 pub mod Singles

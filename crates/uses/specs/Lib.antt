@@ -4,3 +4,4 @@ pub mod Frames
 pub mod Heights
 pub mod Input
 pub mod Module
+pub mod Trees

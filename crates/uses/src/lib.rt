@@ -16,6 +16,7 @@ mod own_visits;
 mod reserved;
 mod same;
 mod single;
+mod vectors;
 
 pub use again::operators_again;
 pub use calls::called_functions;
@@ -23,10 +24,14 @@ pub use constant::read_offset;
 pub use count::{Count, count_operators};
 pub use heights::{HeightFault, Heights, heights_of_body};
 pub use list::operators;
-pub use locals::{Body, read_body};
+pub use locals::{Body, read_body, read_locals};
 pub use longest::{Kept, longest_beginning};
 pub use module::{BlockArity, Context, Frame};
 pub use own_visits::{Moves, count_moves};
 pub use reserved::{operators_reserved, read_reserved};
-pub use same::same_operator;
+pub use same::{
+    same_block_type, same_branch_table, same_code, same_memory_argument, same_operator, same_tree,
+    same_type,
+};
 pub use single::{Inside, operator_inside};
+pub use vectors::{number_of, signed_number_of, vector_of, vector_of_signed};
