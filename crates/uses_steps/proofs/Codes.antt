@@ -1,13 +1,14 @@
 -- The encoding at the reader's position determines the result: encodings are prefix codes, and
 -- faults determine errors.
-use Rattle.std.proofs.Common.{◌≡◌, ◌≢◌, ℕ, ◌+◌, List, [], ◌++◌, length, Result, Ok, Err, IfOk, IfErr, refl, sym, ap, subst, ◌∙◌, append-nil}
+use Rattle.std.proofs.Common.{◌≡◌, ◌≢◌, ℕ, ◌+◌, Bool, List, [], ◌++◌, length, Result, Ok, Err, IfOk, IfErr, refl, sym, ap, subst, ◌∙◌, append-nil}
 use Rattle.wasm_operators.specs.below.bytes.error.Error.{Error}
 use Rattle.wasm_operators.specs.below.bytes.message.Message.{Message}
 use Rattle.wasm_operators.specs.below.bytes.message.Message.TheVariants as message
 use Rattle.wasm_operators.specs.below.Fault.{DeterminesRefusal, HasFault}
 use Rattle.wasm_operators.specs.below.Refusal.{IsReadFault}
 use Rattle.wasm_operators.specs.below.Sequence.{PrefixCode, PrefixCodeUpTo}
-use Rattle.wasm_operators.specs.below.Source.{Reader, rest, Takes, Reads, Refuses, MayFollow}
+use Rattle.wasm_operators.specs.below.FromReader.{ReadsValue}
+use Rattle.wasm_operators.specs.below.Source.{Reader, rest, Takes, Reads, ReadsFrom, Refuses, MayFollow}
 
 pub may_follow : (m : Message) → m ≢ message.OutOfMemory → MayFollow m []
 may_follow message.EndOfData other = refl
@@ -32,6 +33,19 @@ reads_known Encodes (Ok y) old new x text more code (taken, encodes, takes) part
     ap (λ v. Ok v) (code taken text (rest new) more y x encodes known (sym takes.parts ∙ parts)).1
 reads_known Encodes (Err e) old new x text more code (same, refusal) parts known =
     absurd (refusal.refuses [] (nothing_follows e.message refusal.fault) text more x known (append-nil (rest old) ∙ parts))
+
+pub reads_from_known : {X : Type 0} (start : ℕ) (Encodes : List ℕ → X → Type 0) (result : Result X Error) (old new : Reader) (x : X) (text more : List ℕ) →
+    PrefixCode Encodes → ReadsFrom start Encodes result old new → rest old ≡ text ++ more → Encodes text x → result ≡ Ok x
+reads_from_known start Encodes (Ok y) old new x text more code reads parts known = reads_known Encodes (Ok y) old new x text more code reads parts known
+reads_from_known start Encodes (Err e) old new x text more code (same, refuses, fault, above, within) parts known =
+    absurd (refuses [] (nothing_follows e.message fault) text more x known (append-nil (rest old) ∙ parts))
+
+pub value_known : {X : Type 0} (Encodes : List ℕ → X → Type 0) (takes_memory : Bool) (result : Result X Error) (old new : Reader) (x : X) (text more : List ℕ) →
+    PrefixCode Encodes → ReadsValue Encodes takes_memory result old new → rest old ≡ text ++ more → Encodes text x →
+    IfOk result (λ y. y ≡ x)
+value_known Encodes takes_memory (Ok y) old new x text more code (taken, encodes, takes) parts known =
+    (code taken text (rest new) more y x encodes known (sym takes.parts ∙ parts)).1
+value_known Encodes takes_memory (Err e) old new x text more code stopped parts known = tt
 
 pub reads_some : {X : Type 0} (Encodes : List ℕ → X → Type 0) (result : Result X Error) (old new : Reader) → Reads Encodes result old new →
     IfOk result (λ x. (text more : List ℕ) × (rest old ≡ text ++ more) × Encodes text x)

@@ -3,8 +3,10 @@ pub mod Codes
 pub mod Counted
 pub mod Declared
 pub mod Ended
+pub mod Immediates
 pub mod Items
 pub mod Left
+pub mod Grown
 pub mod Ranges
 pub mod Scalars
 pub mod Singles

@@ -1,4 +1,4 @@
-use Rattle.std.proofs.Common.{◌≡◌, ◌≢◌, ℕ, ◌+◌, ◌<◌, List, [], ◌∷◌, ◌++◌, length, inl, inr, Some, Result, Ok, Err, IfOk, IfErr, refl, ap, subst, ◌∙◌, append-nil, arith}
+use Rattle.std.proofs.Common.{◌≡◌, ◌≢◌, ℕ, ◌+◌, ◌<◌, List, [], ◌∷◌, ◌++◌, length, inl, inr, Option, Some, None, IfSome, Result, Ok, Err, IfOk, IfErr, refl, ap, subst, ◌∙◌, append-nil, arith}
 use Rattle.std.specs.Prelude.{is_some}
 use Rattle.std.specs.Result.{result_err}
 use Rattle.std.proofs.lemmas.Option.{option_and_then_some}
@@ -6,6 +6,7 @@ use Rattle.wasm_operators.specs.below.bytes.error.Error.{Error}
 use Rattle.wasm_operators.specs.below.bytes.features.WasmFeatures.{WasmFeatures}
 use Rattle.wasm_operators.specs.below.bytes.message.Message.{Message}
 use Rattle.wasm_operators.specs.below.bytes.message.Message.TheVariants as message
+use Rattle.wasm_operators.specs.below.Refusal.{IsReadFault}
 use Rattle.wasm_operators.specs.below.Source.{Reader, rest, offset_of, source_of, reader_of, Takes, BeginsWith}
 use Rattle.wasm_operators.specs.grammar.declared.frame_kind.FrameKind.{FrameKind}
 use Rattle.wasm_operators.specs.grammar.declared.frame_kind.FrameKind.TheVariants as frame_kind
@@ -19,21 +20,21 @@ use Rattle.wasm_operators.specs.opcodes.OperatorFaults.{OperatorFault}
 use Rattle.wasm_operators.specs.opcodes.Refused.{LeadsList}
 use Rattle.wasm_operators.specs.Expression.{Placed, operators, LaidOut, EncodesRest, EncodesExpression}
 use Rattle.wasm_operators.specs.Next.{NextMayAllocate, ReadsNext, StopsNext}
-use Rattle.wasm_operators.specs.Reading.{State, TakesOperator, StopsRead, StopsFinish}
+use Rattle.wasm_operators.specs.Reading.{State, Taking, Refusing, TakesOperator, StopsRead, StopsFinish}
 use Rattle.uses_steps.specs.Complaints.{IsRefusal}
 use Rattle.uses_steps.specs.Input.{input}
 use Rattle.uses_steps.proofs.Codes.{may_follow}
 use Rattle.uses_steps.proofs.Ended.{along}
 
-pub fault_there : (e : Error) (s : State) (frame : FrameKind) → innermost s.frames ≡ Some frame → e.message ≢ message.OutOfMemory →
-    StopsRead EncodesAllowed OperatorFault (NextMayAllocate EncodesAllowed) e s → OperatorFault s.reader.features frame e.message s.reader e.offset
-fault_there e s frame inner other (inl (closed, said, at)) =
+fault_there : (Encodes : Taking) (Fault : Refusing) (e : Error) (s : State) (frame : FrameKind) → innermost s.frames ≡ Some frame →
+    e.message ≢ message.OutOfMemory → StopsRead Encodes Fault (NextMayAllocate Encodes) e s → Fault s.reader.features frame e.message s.reader e.offset
+fault_there Encodes Fault e s frame inner other (inl (closed, said, at)) =
     let none : innermost [] ≡ Some frame = subst (λ frames. innermost frames ≡ Some frame) closed inner in
     absurd (cc none)
-fault_there e s frame inner other (inr (inl there)) =
+fault_there Encodes Fault e s frame inner other (inr (inl there)) =
     let same : there.kind ≡ frame = cc (there.open_frame, inner) in
-    subst (λ kind. OperatorFault s.reader.features kind e.message s.reader e.offset) same there.fault
-fault_there e s frame inner other (inr (inr (memory, at, may))) = absurd (other memory)
+    subst (λ kind. Fault s.reader.features kind e.message s.reader e.offset) same there.fault
+fault_there Encodes Fault e s frame inner other (inr (inr (memory, at, may))) = absurd (other memory)
 
 list_leads : (s : State) → 0 < s.room → NextMayAllocate EncodesAllowed s → (byte : ℕ) × LeadsList byte × BeginsWith byte (rest s.reader)
 list_leads s some (inl (kind, inner, byte, begins, leads, none)) = absurd (omega arith)
@@ -55,11 +56,21 @@ first_then features bytes old mid op placed fresh taken (laid, walk) =
     let there = subst (λ o. LaidOut features o placed (rest mid.reader)) place (subst (λ f. LaidOut f (offset_of mid.reader) placed (rest mid.reader)) same laid) in
     ((refl, taken.text, rest mid.reader, takes.parts, encodes, there), walk)
 
+pub fault_of : (Encodes : Taking) (Fault : Refusing) (e : Error) (old new : State) (frame : FrameKind) → innermost old.frames ≡ Some frame →
+    e.message ≢ message.OutOfMemory → StopsNext Encodes Fault e old new → Fault old.reader.features frame e.message old.reader e.offset
+fault_of Encodes Fault e old new frame inner other (unchanged, stops) =
+    let there = fault_there Encodes Fault e new frame (ap innermost unchanged.1 ∙ inner) other stops in
+    subst (λ (r : Reader). Fault r.features frame e.message r e.offset) unchanged.0 there
+
 pub fault_before : (e : Error) (old new : State) (frame : FrameKind) → innermost old.frames ≡ Some frame → e.message ≢ message.OutOfMemory →
     StopsNext EncodesAllowed OperatorFault e old new → OperatorFault old.reader.features frame e.message old.reader e.offset
-fault_before e old new frame inner other (unchanged, stops) =
-    let there = fault_there e new frame (ap innermost unchanged.1 ∙ inner) other stops in
-    subst (λ (r : Reader). OperatorFault r.features frame e.message r e.offset) unchanged.0 there
+fault_before = fault_of EncodesAllowed OperatorFault
+
+pub read_fault : (result : Option Error) (old new : State) (frame : FrameKind) → innermost old.frames ≡ Some frame →
+    ((m : Message) (r : Reader) (offset : ℕ) → OperatorFault old.reader.features frame m r offset → IsReadFault m) → IsRefusal result old new →
+    IfSome result (λ e. e.message ≢ message.OutOfMemory → IsReadFault e.message)
+read_fault (Some e) old new frame inner says stopped = λ other. says e.message old.reader e.offset (fault_before e old new frame inner other stopped)
+read_fault None old new frame inner says taken = tt
 
 pub refusal_of : (result : Result Operator Error) (old new : State) → ReadsNext result old new → IsRefusal (result_err result) old new
 refusal_of (Ok op) old new taken = (op, taken)

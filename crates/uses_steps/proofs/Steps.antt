@@ -1,8 +1,11 @@
-use Rattle.std.proofs.Common.{◌≡◌, ℕ, ◌+◌, List, [], ◌∷◌, ◌++◌, length, false, Some, inl, inr, IsSome, refl, sym, ap, subst, ◌∙◌, arith, append_assoc, append-nil, length-append}
+use Rattle.std.proofs.Common.{◌≡◌, ◌↔◌, ℕ, ◌+◌, List, [], ◌∷◌, ◌++◌, length, false, Some, inl, inr, IsSome, refl, sym, ap, subst, ◌∙◌, arith, append_assoc, append-nil, length-append}
 use Rattle.std.proofs.lemmas.Bool.{false≢true}
+use Rattle.std.proofs.lemmas.List.{map-append}
 use Rattle.wasm_operators.specs.below.Source.{Reader, rest, offset_of, source_of, at_position, Takes}
 use Rattle.wasm_operators.specs.grammar.declared.frame_kind.FrameKind.TheVariants as frame
+use Rattle.wasm_operators.specs.grammar.Beginning.{BeginsWalk}
 use Rattle.wasm_operators.specs.grammar.Frames.{frames_along}
+use Rattle.wasm_operators.specs.grammar.Role.{Role}
 use Rattle.wasm_operators.specs.instr.declared.operator.Operator.{Operator}
 use Rattle.wasm_operators.specs.instr.Roles.{roles_of}
 use Rattle.wasm_operators.specs.opcodes.Allowed.{EncodesAllowed}
@@ -25,10 +28,6 @@ pub record HasGiven (r : Reader) (items : Iterating) (found : Placed) : Type 0 w
   pub laid : LaidOut r.features (offset_of r) found text
   pub read_so_far : ReadSoFar (operators found) items.reader
   pub goes_on : items.refused ≡ false
-
-operators_more : (found : Placed) (op : Operator) (at : ℕ) → operators (found ++ (op, at) ∷ []) ≡ operators found ++ op ∷ []
-operators_more [] op at = refl
-operators_more (p ∷ ps) op at = ap (λ ops. p.0 ∷ ops) (operators_more ps op at)
 
 pub gives_none : (r : Reader) (s : State) → s.reader ≡ r → ReadSoFar [] s → HasGiven r (iterating_over s) []
 gives_none r s same read_so_far =
@@ -62,16 +61,22 @@ gives_one r old new found op at joined occurs h taken is goes_on =
         parts = h.takes.parts ∙ ap (λ t. h.text ++ t) taken.takes.parts ∙ sym (append_assoc h.text taken.text (rest new.reader.reader));
       };
       laid = joined (offset_of r) found ((op, at) ∷ []) h.text taken.text h.laid one;
-      read_so_far = subst (λ ops. ReadSoFar ops new.reader) (sym (operators_more found op at)) (occurs (operators found) op old.reader new.reader taken h.read_so_far);
+      read_so_far = subst (λ ops. ReadSoFar ops new.reader) (sym (map-append (λ (p : Operator × ℕ). p.0) found ((op, at) ∷ []))) (occurs (operators found) op old.reader new.reader taken h.read_so_far);
       goes_on = goes_on;
     }
 
-pub gives_all : (r : Reader) (items : Iterating) (found : Placed) → HasGiven r items found → HasEnded items →
+-- What the law `rules_run_beginnings` states of operators.
+abbrev pub RunsBeginnings : Type 0
+RunsBeginnings = (roles : List (Role Operator)) → IsSome (frames_along (frame.Block ∷ []) roles) ↔ BeginsWalk roles
+
+pub gives_all : (r : Reader) (items : Iterating) (found : Placed) → RunsBeginnings → HasGiven r items found → HasEnded items →
     frames_along (frame.Block ∷ []) (roles_of (operators found)) ≡ Some items.reader.frames → AreAllAllowed (source_of r) found
-gives_all r items found h (inl refused) along = absurd (false≢true (sym h.goes_on ∙ refused))
-gives_all r items found h (inr nothing) along =
+gives_all r items found begins h (inl refused) along = absurd (false≢true (sym h.goes_on ∙ refused))
+gives_all r items found begins h (inr nothing) along =
+    let some : IsSome (frames_along (frame.Block ∷ []) (roles_of (operators found))) = subst IsSome (sym along) refl in
     let all : rest r ≡ h.text = h.takes.parts ∙ ap (λ t. h.text ++ t) nothing ∙ append-nil h.text in
     record {
       laid = subst (λ bytes. LaidOut r.features (offset_of r) found bytes) (sym all) h.laid;
-      allowed = subst IsSome (sym along) refl;
+      allowed = some;
+      begins = (begins (roles_of (operators found))).0 some;
     }

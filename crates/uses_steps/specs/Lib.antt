@@ -1,8 +1,10 @@
 pub mod Begun
 pub mod Bodies
 pub mod Complaints
+pub mod Immediates
 pub mod Input
 pub mod Iterated
+pub mod Paths
 pub mod Places
 pub mod Rest
 pub mod Tallies

@@ -1,7 +1,9 @@
-ghost use Rattle.std.specs.Prelude.{◌≡◌, ◌↔◌, List, length, IsTrue, IfOk};
+ghost use Rattle.std.specs.Prelude.{◌≡◌, ◌↔◌, ◌++◌, ℕ, List, length, IsTrue, IfOk, IfErr};
+ghost use Rattle.wasm_operators.specs.below.bytes.message.Message.{Message};
+ghost use Rattle.wasm_operators.specs.below.Source.{rest};
 ghost use Rattle.wasm_operators.specs.Body.{EncodesBody};
 ghost use Rattle.wasm_operators.specs.Expression.{Placed};
-ghost use Rattle.wasm_operators.specs.Locals.{Declaration};
+ghost use Rattle.wasm_operators.specs.Locals.{Declaration, EncodesLocals, LocalsFault};
 ghost use Rattle.uses_steps.specs.Bodies.{IsBody, BeginsWithDeclaration};
 ghost use Rattle.uses_steps.specs.Input.{input};
 
@@ -50,4 +52,21 @@ pub fn first_declaration(body: &FunctionBody<'_>) -> Result<(u32, ValType)>
     ensures { IfOk result (λ declaration. BeginsWithDeclaration body.now declaration) }
 {
     body.get_locals_reader()?.read()
+}
+
+/// Returns the length in bytes of a body's locals. No other prefix encodes locals (law
+/// `declarations`), and the bytes determine the error (`refusals`).
+pub fn locals_size(body: &FunctionBody<'_>) -> Result<usize>
+    ensures size { (declarations : List Declaration) (text more : List ℕ) → rest body.now ≡ text ++ more
+        → EncodesLocals text declarations → IfOk result (λ size. size ≡ length text) }
+    ensures refused { (m : Message) (offset : ℕ) → LocalsFault m body.now offset
+        → IfErr result (λ e. (e.message ≡ m) × (e.offset ≡ offset)) }
+{
+    body_laws::declarations();
+    body_laws::refusals();
+    let start = body.get_binary_reader().current_position();
+    match body.get_binary_reader_for_operators() {
+        Ok(after) => Ok(after.current_position() - start),
+        Err(error) => Err(error),
+    }
 }

@@ -11,8 +11,8 @@ use wasm_operators::{
 /// Returns all operators that the bytes encode, with their offsets. Frames may be open after the
 /// last.
 ///
-/// Each step of the iterator is one read (law `one_operator`); by `path_is_run`, the frames of an
-/// expression allow these operators.
+/// Each step of the iterator is one read (law `one_operator`). By `path_is_run`, the frames of an
+/// expression allow these operators; by `rules_run_beginnings`, they begin an expression.
 pub fn iterated<'a>(
     alloc: Global,
     features: WasmFeatures,
@@ -23,6 +23,7 @@ pub fn iterated<'a>(
     run_laws::one_operator();
     expression_laws::layouts(features);
     grammar_laws::path_is_run::<Operator<'a>>();
+    grammar_laws::rules_run_beginnings::<Operator<'a>>();
     let reader = OperatorsReader::new(alloc, BinaryReader::new_features(bytes, 0, features));
     let mut items = reader.into_iter_with_offsets();
     let mut found = Vec::new(alloc);

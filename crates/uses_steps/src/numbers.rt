@@ -1,24 +1,32 @@
-ghost use Rattle.std.specs.Prelude.{◌≡◌, ◌≢◌, ◌++◌, ℕ, ℤ, List, length, Ok, IfOk, IfErr};
+ghost use Rattle.std.specs.Prelude.{◌≡◌, ◌≢◌, ◌≤◌, ◌++◌, ℕ, ℤ, List, length, Ok, IfOk, IfErr};
 ghost use Rattle.std.specs.Int.{w64};
 ghost use Rattle.wasm_operators.specs.below.bytes.message.Message.{Message};
 ghost use Rattle.wasm_operators.specs.below.Number.{EncodesUnsigned, EncodesSigned, EncodesSize, EncodesFixed};
-ghost use Rattle.wasm_operators.specs.below.Source.{rest, Takes, U32Fault};
+ghost use Rattle.wasm_operators.specs.below.Source.{rest, offset_of, Takes, U32Fault};
 ghost use Rattle.wasm_operators.specs.imm.control.block_type.BlockType.{BlockType};
 ghost use Rattle.wasm_operators.specs.imm.BlockTypes.{EncodesBlockType};
 ghost use Rattle.wasm_operators.specs.imm.BlockTypeFaults.{BlockTypeFault};
+ghost use Rattle.wasm_operators.specs.imm.BranchTables.{BranchTable, EncodesBranchTable};
+ghost use Rattle.wasm_operators.specs.imm.BranchTableFaults.{BranchTableFault};
 ghost use Rattle.wasm_operators.specs.imm.control.cast.Cast.{Cast};
 ghost use Rattle.wasm_operators.specs.imm.Casts.{EncodesCast};
 ghost use Rattle.wasm_operators.specs.imm.CastFaults.{CastFault};
+ghost use Rattle.wasm_operators.specs.imm.control.select.Select.{Select};
+ghost use Rattle.wasm_operators.specs.imm.HandlerTables.{EncodesSelect};
+ghost use Rattle.wasm_operators.specs.imm.ListFaults.{SelectFault};
 ghost use Rattle.wasm_operators.specs.imm.declared.memory_argument.MemArg.{MemArg};
 ghost use Rattle.wasm_operators.specs.imm.MemoryArgument.{EncodesMemArg};
 ghost use Rattle.wasm_operators.specs.imm.MemoryArgumentFaults.{MemArgFault};
 ghost use Rattle.wasm_operators.specs.imm.declared.ordering.Ordering.{Ordering};
-ghost use Rattle.wasm_operators.specs.imm.Orderings.{EncodesOrderingByte, OrderingByteFault};
+ghost use Rattle.wasm_operators.specs.imm.Orderings.{EncodesOrderingByte, OrderingByteFault, EncodesFence, FenceFault};
+ghost use Rattle.wasm_operators.specs.imm.Immediate.{Immediate, EncodesImmediates};
+ghost use Rattle.uses_steps.specs.Immediates.{access, AreAccess};
 
 use std::alloc::Global;
 use wasm_operators::{
-    BinaryReader, BlockType, Cast, FromReader, Ieee64, MemArg, MemArgKind, Message, Ordering,
-    ReadImmediates, Result, SizeName, byte_laws, control_laws, memory_laws,
+    BinaryReader, BlockType, BrTable, Cast, FromReader, Ieee64, MemArg, MemArgKind, Message,
+    Ordering, ReadImmediates, Result, Select, SizeName, byte_laws, control_laws, immediate_laws,
+    memory_laws,
 };
 
 /// Returns the u32 at the reader's position, without consuming it.
@@ -106,6 +114,31 @@ pub fn peek_cast(reader: &BinaryReader<'_>) -> Result<Cast>
     Cast::read(&mut reader.clone())
 }
 
+/// Returns the branch table at the reader's position (laws `branch_tables` and `control_refusals`).
+pub fn peek_branch_table<'a>(reader: &BinaryReader<'a>) -> Result<BrTable<'a>>
+    ensures reads { (table : BranchTable) (text more : List ℕ) → rest reader.now ≡ text ++ more
+        → EncodesBranchTable text table → result ≡ Ok table }
+    ensures refused { (m : Message) (offset : ℕ) → BranchTableFault m reader.now offset
+        → IfErr result (λ e. (e.message ≡ m) × (e.offset ≡ offset)) }
+{
+    control_laws::branch_tables();
+    control_laws::control_refusals();
+    BrTable::read(&mut reader.clone())
+}
+
+/// Returns the types of the `select` at the reader's position (laws `select_types` and
+/// `control_refusals`).
+pub fn peek_select(alloc: Global, reader: &BinaryReader<'_>) -> Result<Select>
+    ensures reads { (value : Select) (text more : List ℕ) → rest reader.now ≡ text ++ more → EncodesSelect text value
+        → IfOk result (λ types. types ≡ value) }
+    ensures refused { (m : Message) (offset : ℕ) → SelectFault m reader.now offset
+        → IfErr result (λ e. e.message ≢ Message.OutOfMemory → (e.message ≡ m) × (e.offset ≡ offset)) }
+{
+    control_laws::select_types();
+    control_laws::control_refusals();
+    Select::read(alloc, &mut reader.clone())
+}
+
 /// Returns the ordering at the reader's position (laws `orderings` and `short_refusals`).
 pub fn peek_ordering(reader: &BinaryReader<'_>) -> Result<Ordering>
     ensures reads { (value : Ordering) (text more : List ℕ) → rest reader.now ≡ text ++ more
@@ -116,6 +149,34 @@ pub fn peek_ordering(reader: &BinaryReader<'_>) -> Result<Ordering>
     memory_laws::orderings(reader.features());
     memory_laws::short_refusals(reader.features());
     Ordering::read(&mut reader.clone())
+}
+
+/// Returns the ordering of the `atomic.fence` at the offset `start`, whose last byte is at the
+/// reader's position (laws `orderings` and `short_refusals`).
+pub fn peek_fence(reader: &BinaryReader<'_>, start: u64) -> Result<Ordering>
+    requires { start ≤ offset_of reader.now }
+    ensures reads { (value : Ordering) (text more : List ℕ) → rest reader.now ≡ text ++ more
+        → EncodesFence reader.now.features text value → result ≡ Ok value }
+    ensures refused { (m : Message) (offset : ℕ) → FenceFault reader.now.features start m reader.now offset
+        → IfErr result (λ e. (e.message ≡ m) × (e.offset ≡ offset)) }
+{
+    memory_laws::orderings(reader.features());
+    memory_laws::short_refusals(reader.features());
+    Ordering::read_fence(&mut reader.clone(), start)
+}
+
+/// Returns the immediates of the `array.atomic.get` whose ordering is at the reader's position. No
+/// others are encoded there (law `immediates`).
+pub fn peek_array_access(reader: &BinaryReader<'_>) -> Result<(Ordering, u32)>
+    ensures { (immediates : List Immediate) (text more : List ℕ) → rest reader.now ≡ text ++ more
+        → AreAccess immediates → EncodesImmediates reader.now.features immediates text
+        → IfOk result (λ read. immediates ≡ access read.0 read.1) }
+{
+    immediate_laws::immediates(reader.features());
+    let mut ahead = reader.clone();
+    let ordering = Ordering::read(&mut ahead)?;
+    let array_type = ahead.read_var_u32()?;
+    Ok((ordering, array_type))
 }
 
 /// Returns the memory argument of a plain access at the reader's position (laws

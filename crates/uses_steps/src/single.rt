@@ -1,12 +1,14 @@
-ghost use Rattle.std.specs.Prelude.{◌≡◌, ◌≢◌, ◌↔◌, ◌<◌, ◌⊎◌, ℕ, List, [], ◌∷◌, ◌++◌, length, Ok, Option, IsTrue, IfOk, IfErr, IfSome, IfNone};
+ghost use Rattle.std.specs.Prelude.{◌≡◌, ◌≢◌, ◌↔◌, ◌<◌, ◌⊎◌, ℕ, List, [], ◌∷◌, ◌++◌, length, Ok, Option, Some, IsTrue, IfOk, IfErr, IfSome, IfNone};
 ghost use Rattle.wasm_operators.specs.below.bytes.error.Error.{Error};
+ghost use Rattle.wasm_operators.specs.below.Refusal.{IsReadFault};
 ghost use Rattle.wasm_operators.specs.below.Source.{rest, BeginsWith};
 ghost use Rattle.wasm_operators.specs.grammar.declared.frame_kind.FrameKind.{FrameKind};
+ghost use Rattle.wasm_operators.specs.grammar.Frames.{innermost};
 ghost use Rattle.wasm_operators.specs.instr.declared.operator.Operator.{Operator};
 ghost use Rattle.wasm_operators.specs.instr.Encoding.{EncodesOperator};
 ghost use Rattle.wasm_operators.specs.opcodes.Allowed.{EncodesAllowed};
 ghost use Rattle.wasm_operators.specs.opcodes.declared.guard.Guard.{Guard};
-ghost use Rattle.wasm_operators.specs.opcodes.OperatorFaults.{LacksFeature};
+ghost use Rattle.wasm_operators.specs.opcodes.OperatorFaults.{LacksFeature, OperatorFault};
 ghost use Rattle.wasm_operators.specs.opcodes.Refused.{LeadsList};
 ghost use Rattle.wasm_operators.specs.Expression.{Placed, EncodesExpression};
 ghost use Rattle.wasm_operators.specs.readers.Guarded.{BeginsGuarded};
@@ -17,7 +19,7 @@ ghost use Rattle.uses_steps.specs.Input.{input};
 
 use std::alloc::Global;
 use wasm_operators::{
-    BinaryReader, Error, FrameStack, Message, Operator, OperatorsReader,
+    BinaryReader, Error, FrameStack, IsEndOperatorVisitor, Message, Operator, OperatorsReader,
     OperatorsReaderAllocations, Result, WasmFeatures, decoder_laws, decoding_laws, grammar_laws,
     operator_laws, reading_laws, run_laws,
 };
@@ -34,6 +36,37 @@ pub fn next_refusal(operators: &mut OperatorsReader<'_>) -> Option<Error>
     ensures { IsRefusal result operators.old operators.new }
 {
     operators.read().err()
+}
+
+/// Returns the error of the next operator in an expression. The bytes of an operator never cause
+/// E3, E8 to E11, E23 or E25 (law `refusal_messages`).
+pub fn operator_refusal(operators: &mut OperatorsReader<'_>) -> Option<Error>
+    ensures { IfSome result (λ e. e.message ≢ Message.OutOfMemory → IsReadFault e.message) }
+{
+    let Some(frame) = operators.current_frame() else {
+        return None;
+    };
+    decoding_laws::refusal_messages(operators.get_binary_reader().features(), frame);
+    next_refusal(operators)
+}
+
+/// Returns the error of the next operator in an expression for visitors without SIMD operators. Only
+/// at the byte 0xfd, it differs from the error of `read` (law `vector_refusals`).
+pub fn scalar_refusal(operators: &mut OperatorsReader<'_>) -> Option<Error>
+    ensures there { BeginsWith 0xfd (rest operators.old.reader)
+        → IfSome result (λ e. e.message ≢ Message.OutOfMemory → e.message ≡ Message.UnexpectedSimd) }
+    ensures elsewhere { (frame : FrameKind) → innermost operators.old.frames ≡ Some frame
+        → ¬ BeginsWith 0xfd (rest operators.old.reader) → IfSome result (λ e. e.message ≢ Message.OutOfMemory
+        → OperatorFault operators.old.reader.features frame e.message operators.old.reader e.offset) }
+{
+    let Some(frame) = operators.current_frame() else {
+        return None;
+    };
+    decoding_laws::vector_refusals(operators.get_binary_reader().features(), frame);
+    match operators.visit_operator(&mut IsEndOperatorVisitor) {
+        Ok(_) => None,
+        Err(error) => Some(error),
+    }
 }
 
 /// Returns why reading the next operator fails; `None` if it succeeds, no frame is open, or

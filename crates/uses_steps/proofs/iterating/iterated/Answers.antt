@@ -27,4 +27,4 @@ returns c =
     let r = reader_of c.args.features 0 c.args.bytes.now in
     let given = c.operators.invariant in
     let along = (c.path_is_run.ensures (roles_of (operators c.operators.found.items)) c.operators.items.reader.frames).0 given.read_so_far.path in
-    gives_all r c.operators.items c.operators.found.items given c.in_default.ensures.steps.0 along
+    gives_all r c.operators.items c.operators.found.items c.rules_run_beginnings.ensures given c.in_default.ensures.steps.0 along
