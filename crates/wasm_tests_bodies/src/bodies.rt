@@ -62,6 +62,26 @@ pub fn write_locals_items(alloc: Global, given: Given<'_>, out: &mut String) -> 
     out.push_str(if is_end { "one end" } else { "not one end" })
 }
 
+/// Writes the first error of the locals' iterator, and where the operators start if it returns
+/// `None` after one item.
+pub fn write_locals_end(given: Given<'_>, out: &mut String) -> Written {
+    let mut items = match FunctionBody::new(given.reader()).get_locals_reader() {
+        Ok(locals) => locals.into_iter(),
+        Err(e) => return write_error(out, e),
+    };
+    if let Some(Err(e)) = items.next() {
+        write_error(out, e)?;
+        out.push_str(", ")?;
+    }
+    match items.next() {
+        Some(_) => out.push_str("more"),
+        None => {
+            out.push_str("operators")?;
+            write_position(out, &items.into_binary_reader_for_operators())
+        }
+    }
+}
+
 pub fn write_body(alloc: Global, given: Given<'_>, out: &mut String) -> Written {
     let mut reader = given.reader();
     match reader.read::<FunctionBody>(alloc) {

@@ -1,4 +1,6 @@
-use crate::bodies::{write_body, write_body_after_byte, write_locals, write_locals_items};
+use crate::bodies::{
+    write_body, write_body_after_byte, write_locals, write_locals_end, write_locals_items,
+};
 use crate::constants::{write_constant, write_only_constant};
 use crate::disassembly::{write_disassembly, write_text};
 use crate::failing::{write_failing_read, write_failing_write};
@@ -40,6 +42,7 @@ pub fn write_found(
         "code" => write_code(alloc, given, out),
         "code_operators" => write_code_operators(alloc, given, out),
         "locals" => write_locals(given, out),
+        "locals_end" => write_locals_end(given, out),
         "locals_items" => write_locals_items(alloc, given, out),
         "body" => write_body(alloc, given, out),
         "body_after_byte" => write_body_after_byte(given, out),
