@@ -1,18 +1,5 @@
 ghost use Rattle.std.specs.Prelude.{◌≡◌, ◌<◌, ℕ, List, length, All};
 ghost use Rattle.std.specs.Int.{w128, to_le_bytes, from_le_bytes, cast_signed, cast_unsigned};
-ghost use Rattle.wasm_imm_control.specs.below.Fault.{DeterminesRefusal};
-ghost use Rattle.wasm_imm_control.specs.below.Sequence.{PrefixCode};
-ghost use Rattle.wasm_imm_control.specs.below.Source.{IsByte};
-ghost use Rattle.wasm_imm.specs.Vectors.{EncodesSixteen, LanesFault};
-
-pub fn lanes()
-    ensures one { PrefixCode IsByte }
-    ensures sixteen { PrefixCode EncodesSixteen }
-{}
-
-pub fn lane_refusals()
-    ensures { DeterminesRefusal LanesFault }
-{}
 
 /// States that converting a number to a vector and back restores it.
 pub fn number_restored(value: u128)

@@ -2,7 +2,6 @@ ghost use Rattle.std.specs.Prelude.{ℕ};
 ghost use Rattle.wasm_imm_control.specs.below.bytes.features.WasmFeatures.{WasmFeatures};
 ghost use Rattle.wasm_imm_control.specs.below.Fault.{DeterminesRefusal};
 ghost use Rattle.wasm_imm_control.specs.below.Sequence.{PrefixCode};
-ghost use Rattle.wasm_imm.specs.Indices.{EncodesMemoryIndex, EncodesTableIndex, MemoryIndexFault, TableIndexFault};
 ghost use Rattle.wasm_imm.specs.Orderings.{EncodesOrderingByte, EncodesFence, OrderingByteFault, FenceFault};
 ghost use Rattle.wasm_imm.specs.MemoryArgumentFaults.{MemArgFault};
 ghost use Rattle.wasm_imm.specs.MemoryArgument.{EncodesMemArg};
@@ -14,19 +13,12 @@ pub fn memory_arguments(features: WasmFeatures, kind: MemArgKind, max_align: u8)
     ensures { PrefixCode (EncodesMemArg features kind max_align) }
 {}
 
-pub fn indices(features: WasmFeatures)
-    ensures memory { PrefixCode (EncodesMemoryIndex features) }
-    ensures table { PrefixCode (EncodesTableIndex features) }
-{}
-
 pub fn orderings(features: WasmFeatures)
     ensures alone { PrefixCode EncodesOrderingByte }
     ensures fence { PrefixCode (EncodesFence features) }
 {}
 
 pub fn short_refusals(features: WasmFeatures)
-    ensures memory { DeterminesRefusal (MemoryIndexFault features) }
-    ensures table { DeterminesRefusal (TableIndexFault features) }
     ensures ordering { DeterminesRefusal OrderingByteFault }
     ensures fence { (start : ℕ) → DeterminesRefusal (FenceFault features start) }
 {}

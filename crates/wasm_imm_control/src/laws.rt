@@ -2,8 +2,6 @@
 //! errors, and `==` is exact. For catches, clauses and their tables, `is_prefix_code` and
 //! `determines_refusal` of `FromReader` state the first two.
 ghost use Rattle.std.specs.Prelude.{◌≡◌, ◌<◌, ℕ, List, true};
-ghost use Rattle.wasm_below.specs.bytes.features.WasmFeatures.{WasmFeatures};
-ghost use Rattle.wasm_below.specs.bytes.message.SizeName.{SizeName};
 ghost use Rattle.wasm_below.specs.Equality.{IsExact};
 ghost use Rattle.wasm_below.specs.Fault.{DeterminesRefusal};
 ghost use Rattle.wasm_below.specs.Number.{EncodesUnsigned};
@@ -15,12 +13,11 @@ ghost use Rattle.wasm_imm_control.specs.BranchTables.{BranchTable, EncodesBranch
 ghost use Rattle.wasm_imm_control.specs.CastFaults.{CastFault};
 ghost use Rattle.wasm_imm_control.specs.Casts.{EncodesCast};
 ghost use Rattle.wasm_imm_control.specs.HandlerTables.{EncodesSelect};
-ghost use Rattle.wasm_imm_control.specs.ListFaults.{ListFault, SelectFault};
+ghost use Rattle.wasm_imm_control.specs.ListFaults.{SelectFault};
 ghost use Rattle.wasm_imm_control.specs.Lists.{EncodesMany};
 ghost use Rattle.wasm_imm_control.specs.BranchTableEquality.{same_table};
 
 use crate::{BlockType, ResumeTable, TryTable};
-use wasm_below::FromReader;
 
 pub fn block_types()
     ensures { PrefixCode EncodesBlockType }
@@ -36,13 +33,6 @@ pub fn casts()
 
 pub fn select_types()
     ensures { PrefixCode EncodesSelect }
-{}
-
-pub fn list_refusals<'a, T: FromReader<'a>>()
-    ensures { (name : SizeName) (limit : ℕ) (features : WasmFeatures)
-        → PrefixCode (T.encodes features)
-        → DeterminesRefusal T.fault
-        → DeterminesRefusal (ListFault name limit (T.encodes features) T.fault) }
 {}
 
 pub fn control_refusals()
