@@ -1,14 +1,11 @@
 -- What is found in two steps is found in one; and the same after the locals of a body.
-use Rattle.std.proofs.Common.{◌≡◌, ℕ, ◌+◌, ◌≤◌, List, [], ◌++◌, length, length-append, length-drop, Result, Ok, Err, sym, ap, subst, ◌∙◌, arith, ◌⊎◌, inl, inr}
+use Rattle.std.proofs.Common.{◌≡◌, ℕ, ◌+◌, ◌≤◌, List, [], ◌++◌, length, length-append, length-drop, Result, Ok, Err, sym, ap, ◌∙◌, arith, ◌⊎◌, inl, inr}
 use Rattle.wasm_operators.specs.below.bytes.error.Error.{Error}
-use Rattle.wasm_operators.specs.below.bytes.message.Message.TheVariants as message
-use Rattle.wasm_operators.specs.below.Refusal.{IsReadFault}
 use Rattle.wasm_operators.specs.below.Source.{Reader, rest, offset_of, end_of}
 use Rattle.wasm_operators.specs.opcodes.Allowed.{EncodesAllowed}
 use Rattle.wasm_operators.specs.opcodes.OperatorFaults.{OperatorFault}
 use Rattle.wasm_operators.specs.Body.{OpensBody}
 use Rattle.wasm_operators.specs.Expression.{Placed, OfPlaced}
-use Rattle.wasm_operators.specs.Locals.{RefusesLocals}
 use Rattle.wasm_operators.specs.Reading.{State, Anywhere, TakesOperators, EndsRun, RunsToEnd}
 use Rattle.wasm_operators.specs.Next.{NextMayAllocate}
 use Rattle.wasm_operators.specs.MainTheorem.{ReadSoFar}
@@ -95,7 +92,3 @@ pub memory_body : {X : Type 0} (result : Result X Error) (body : Reader) (opened
     IfMemory result (MayAllocateAfter opened placed) → IfMemory result (BodyMayAllocate body placed)
 memory_body (Ok x) body opened placed opens h = tt
 memory_body (Err e) body opened placed opens h = λ is. record { opened = opened; opens = opens; next = h is }
-
--- Reading locals does not allocate.
-pub no_memory : (P : Type 0) (e : Error) (body : Reader) → RefusesLocals e body → e.message ≡ message.OutOfMemory → P
-no_memory P e body h is = absurd (subst IsReadFault is h.refusal.fault)

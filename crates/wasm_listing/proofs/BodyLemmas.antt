@@ -1,7 +1,6 @@
-use Rattle.std.proofs.Common.{◌≡◌, List, [], Result, Ok, Err, IfErr, subst}
+use Rattle.std.proofs.Common.{◌≡◌, List, [], Result, Ok, Err, IfErr}
 use Rattle.wasm_operators.specs.below.bytes.error.Error.{Error}
 use Rattle.wasm_operators.specs.below.bytes.message.Message.TheVariants as message
-use Rattle.wasm_operators.specs.below.Refusal.{IsReadFault}
 use Rattle.wasm_operators.specs.below.Source.{Reader, source_of}
 use Rattle.wasm_operators.specs.opcodes.Allowed.{EncodesAllowed}
 use Rattle.wasm_operators.specs.opcodes.OperatorFaults.{OperatorFault}
@@ -10,7 +9,7 @@ use Rattle.wasm_operators.specs.MainTheorem.{ReadsTree, ReadsBeginning, ReadsRes
 use Rattle.wasm_operators.specs.Next.{NextMayAllocate}
 use Rattle.wasm_operators.specs.Reading.{Allocating, State, StopsRun, RunsToEnd}
 use Rattle.wasm_operators.specs.Body.{EncodesBody, OpensBody, StopsBody, ReadsBody}
-use Rattle.wasm_operators.specs.Locals.{Declaration, RefusesLocals}
+use Rattle.wasm_operators.specs.Locals.{Declaration}
 use Rattle.wasm_listing.specs.Census.{BodyMayAllocate}
 
 -- The law `opened_bodies` for a body that was read to its end.
@@ -34,9 +33,6 @@ opened_body Effect Allocates (Ok x) body opened new whole stopped opens h =
     (all.0, h.tree.0, h.tree.1, all.1)
 opened_body Effect Allocates (Err e) body opened new whole stopped opens h =
     λ other. (h.beginning.0, h.beginning.1, stopped e body opened new h.beginning.0 opens h.beginning.2)
-
-pub refused_no_memory : (P : Type 0) (e : Error) (body : Reader) → RefusesLocals e body → e.message ≡ message.OutOfMemory → P
-refused_no_memory P e body h is = absurd (subst IsReadFault is h.refusal.fault)
 
 pub opened_memory : {X : Type 0} (Effect : OfPlaced) (r : Result X Error) (body : Reader) (opened new : State) →
     ((e : Error) (s : State) → StopsRun EncodesAllowed OperatorFault (NextMayAllocate EncodesAllowed) e s → e.message ≡ message.OutOfMemory →

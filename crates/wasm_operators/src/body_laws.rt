@@ -62,11 +62,13 @@ pub fn opened_bodies()
         → StopsBody e body placed }
 {}
 
-/// States that if the locals are in error, the bytes encode no body.
+/// States that if the locals are in error, the bytes encode no body, and that reading locals does
+/// not allocate.
 pub fn refused_locals()
     ensures none { (e : Error) (body : Reader) (declarations : List Declaration) (placed : Placed)
         → RefusesLocals e body → ¬ EncodesBody (source_of body) declarations placed }
     ensures stopped { (e : Error) (body : Reader) → RefusesLocals e body → StopsBody e body [] }
+    ensures memory { (e : Error) (body : Reader) → RefusesLocals e body → e.message ≢ Message.OutOfMemory }
 {}
 
 /// States how steps of an iterator over locals follow one another.

@@ -2,8 +2,7 @@ use Rattle.std.proofs.Common.{Ok, [], refl, subst, ◌∙◌}
 use Rattle.wasm_operators.specs.below.Source.{reader_of}
 use Rattle.wasm_operators.specs.Body.{OpensBody}
 use Rattle.wasm_operators.specs.Locals.{RefusesLocals}
-use Rattle.wasm_c.specs.Reads.{BodyMayAllocate}
-use Rattle.wasm_c.proofs.Found.{ends_body, memory_body, no_memory}
+use Rattle.wasm_c.proofs.Found.{ends_body, memory_body}
 use Rattle.wasm_c.proofs.Written.{written_none}
 use Rattle.wasm_c.proofs.body.read_body.Goals as goal
 
@@ -28,7 +27,7 @@ returns-in-Err c =
       [],
       record {
         ends = c.refused_locals.ensures.stopped c.in-Err.error input refused;
-        memory = no_memory (BodyMayAllocate input []) c.in-Err.error input refused;
+        memory = λ is. absurd (c.refused_locals.ensures.memory c.in-Err.error input refused is);
         counted = refl;
         in_array = written_none c.args.out.now;
       },

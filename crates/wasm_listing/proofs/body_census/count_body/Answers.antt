@@ -2,9 +2,9 @@ use Rattle.std.proofs.Common.{[], refl}
 use Rattle.std.proofs.lemmas.Result.{err_from_is_err_and}
 use Rattle.wasm_operators.specs.opcodes.Allowed.{EncodesAllowed}
 use Rattle.wasm_operators.specs.Next.{NextMayAllocate}
-use Rattle.wasm_listing.specs.Census.{Counted, BodyMayAllocate}
+use Rattle.wasm_listing.specs.Census.{Counted}
 use Rattle.wasm_listing.specs.Dump.{input_of}
-use Rattle.wasm_listing.proofs.BodyLemmas.{refused_body, opened_body, refused_no_memory, opened_memory}
+use Rattle.wasm_listing.proofs.BodyLemmas.{refused_body, opened_body, opened_memory}
 use Rattle.wasm_listing.proofs.body_census.count_body.Goals as goal
 
 pub returns-in_err-operators-clause-counts : goal.returns-in_err-operators-clause-counts
@@ -24,7 +24,8 @@ pub returns-in_err-operators-clause-memory : goal.returns-in_err-operators-claus
 returns-in_err-operators-clause-memory c =
     let p = err_from_is_err_and c.from_residual.result c.from_residual.ensures.1 in
     let body = input_of c.args.features c.args.bytes.now in
-    rw (p.1, p.2) (refused_no_memory (BodyMayAllocate body) c.in_err-operators.field-0.0 body c.in_err-operators.ensures.opens)
+    let none = c.refused_locals.ensures.memory c.in_err-operators.field-0.0 body c.in_err-operators.ensures.opens in
+    rw (p.1, p.2) (λ is. absurd (none is))
 
 pub returns-clause-counts : goal.returns-clause-counts
 returns-clause-counts c =

@@ -1,3 +1,5 @@
+use Rattle.std.proofs.Common.{subst}
+use Rattle.wasm_operators_readers.specs.below.Refusal.{IsReadFault}
 use Rattle.wasm_operators.proofs.Bodies.{no_body, refused_stops}
 use Rattle.wasm_operators.proofs.body_laws.refused_locals.Goals as goal
 
@@ -6,3 +8,6 @@ returns-clause-none c = no_body
 
 pub returns-clause-stopped : goal.returns-clause-stopped
 returns-clause-stopped c = refused_stops
+
+pub returns-clause-memory : goal.returns-clause-memory
+returns-clause-memory c = λ e body refuses is. subst IsReadFault is refuses.refusal.fault
