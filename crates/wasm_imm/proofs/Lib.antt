@@ -4,6 +4,7 @@ pub use Rattle.wasm_imm_control.proofs.Faults
 pub use Rattle.wasm_imm_control.proofs.ListLemmas
 pub use Rattle.wasm_imm_control.proofs.ListRefusals
 pub use Rattle.wasm_imm_control.proofs.BranchTables
+pub use Rattle.wasm_imm_control.proofs.Returned
 pub use Rattle.wasm_imm_control.proofs.DeterminedRefusals as DeterminedControlRefusals
 pub mod DeterminedMemoryArgumentRefusals
 pub mod DeterminedRefusals

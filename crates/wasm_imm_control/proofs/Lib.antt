@@ -7,6 +7,7 @@ pub mod Faults
 pub mod HandlerTables
 pub mod HandlerLemmas
 pub mod ListRefusals
+pub mod Returned
 pub mod PassedTargets
 pub mod ListLemmas
 pub use Rattle.wasm_below.proofs as of_below

@@ -1,7 +1,8 @@
 //! Laws of the immediates of control operators: encodings are prefix codes, faults determine
 //! errors, and `==` is exact. For catches, clauses and their tables, `is_prefix_code` and
 //! `determines_refusal` of `FromReader` state the first two.
-ghost use Rattle.std.specs.Prelude.{◌≡◌, ◌<◌, ℕ, List, true};
+ghost use Rattle.std.specs.Prelude.{◌≡◌, ℕ, List, [], ◌∷◌, map, true, Result, Ok, Err};
+ghost use Rattle.wasm_below.specs.bytes.error.Error.{Error};
 ghost use Rattle.wasm_below.specs.Equality.{IsExact};
 ghost use Rattle.wasm_below.specs.Fault.{DeterminesRefusal};
 ghost use Rattle.wasm_below.specs.Number.{EncodesUnsigned};
@@ -45,6 +46,15 @@ pub fn control_refusals()
 /// States that bytes encode one list of targets.
 pub fn target_numbers()
     ensures { (count : ℕ) (text numbers : List ℕ) → EncodesMany (EncodesUnsigned 32) count text numbers → numbers_of text ≡ numbers }
+{}
+
+/// States that the items of an iterator over targets are the targets, one after another.
+pub fn returned_targets()
+    ensures next { (old new : List ℕ) (target : Result ℕ Error) (label : ℕ) → map Ok old ≡ target ∷ map Ok new
+        → target ≡ Ok label → old ≡ label ∷ new }
+    ensures ok { (old new : List ℕ) (target : Result ℕ Error) (e : Error) → map Ok old ≡ target ∷ map Ok new
+        → target ≡ Err e → ⊥ }
+    ensures end { (old : List ℕ) → map {B = Result ℕ Error} Ok old ≡ [] → old ≡ [] }
 {}
 
 /// States that equal branch tables have the same targets.

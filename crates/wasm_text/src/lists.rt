@@ -11,6 +11,7 @@ pub fn write_branch_table(out: &mut String, table: &BrTable<'_>) -> Written
     ensures { OnOk result (string_bytes out.new ≡ string_bytes out.old ++ branch_table_text table.now) }
 {
     control_laws::target_numbers();
+    control_laws::returned_targets();
     for target in table.targets() {
         if let Ok(label) = target {
             write_number(out, label)?;

@@ -1,9 +1,10 @@
 use Rattle.std.proofs.Common.{refl, sym, ap, ◌∙◌, arith, ◌++◌, ◌∷◌, [], length}
 use Rattle.wasm_instr.specs.imm.BranchTables.{numbers_of}
 use Rattle.wasm_view.proofs.Placed.{none_placed}
-use Rattle.wasm_view.proofs.Targets.{first_returned, never_refused, fits_below, one_fewer, one_further, none_left}
+use Rattle.wasm_view.proofs.Targets.{fits_below, one_fewer, one_further, none_left}
 use Rattle.wasm_view.proofs.lists.place_targets.Goals as goal
 use Rattle.wasm_instr.proofs.of_imm.BranchTables.{numbers_are}
+use Rattle.wasm_instr.proofs.of_imm.Returned.{first_returned, none_returned, never_refused}
 
 pub loop-target-init : goal.loop-target-init
 loop-target-init c = (
@@ -43,4 +44,4 @@ returns c =
     let inv = c.loop-target.invariant in
     let n = c.len-count.ensures ∙ sym c.targets-target-items.ensures.0 ∙ ap length (sym (numbers_are c.args.table.now.targets _ c.targets-target-items.ensures.1)) in
     none_left (numbers_of c.args.table.now.targets) inv.2 c.loop-target.target-iterator c.args.out.now c.loop-target.out c.len-count.result c.args.from
-    c.in-None.ensures.steps.0 inv.3 n inv.5
+    (none_returned c.loop-target.target-iterator c.in-None.ensures.steps.0) inv.3 n inv.5
