@@ -1,38 +1,33 @@
 -- Pieces of a text, one after another.
-use Rattle.std.proofs.Common.{◌≡◌, ℕ, ◌≤◌, ◌<◌, List, [], ◌∷◌, ◌++◌, length, set, suc, refl, ap, ◌∙◌, arith, append_assoc, length-append}
+use Rattle.std.proofs.Common.{◌≡◌, ℕ, ◌≤◌, ◌<◌, List, [], ◌∷◌, ◌++◌, length, set, refl, ap, ◌∙◌, arith, append_assoc, length-append}
 use Rattle.wasm_view.specs.Lists.{written}
 use Rattle.wasm_c.specs.Texts.{PutsPiece}
 use Rattle.wasm_c.proofs.Written.{written_none}
 
-written_length : {X : Type 0} (items room : List X) → length (written items room) ≡ length room
-written_length items [] = refl
-written_length [] (y ∷ ys) = refl
-written_length (x ∷ xs) (y ∷ ys) = ap suc (written_length xs ys)
+-- What the law `written_members` states of bytes.
+abbrev pub OfLength : Type 0
+OfLength = (members old : List ℕ) → length (written members old) ≡ length old
 
-written_one : {X : Type 0} (items room : List X) (x : X) → length items < length room →
-    set (written items room) (length items) x ≡ written (items ++ x ∷ []) room
-written_one items [] x fits = absurd (omega (arith, fits))
-written_one [] (y ∷ ys) x fits = ap (λ list. x ∷ list) (written_none ys)
-written_one (i ∷ is) (y ∷ ys) x fits = ap (λ list. i ∷ list) (written_one is ys x (omega (arith, fits)))
+abbrev pub OfFitting : Type 0
+OfFitting = (members old : List ℕ) (member : ℕ) → length members < length old →
+    set (written members old) (length members) member ≡ written (members ++ member ∷ []) old
 
-written_full : {X : Type 0} (items room : List X) (x : X) → length room ≤ length items → written items room ≡ written (items ++ x ∷ []) room
-written_full items [] x full = refl
-written_full [] (y ∷ ys) x full = absurd (omega (arith, full))
-written_full (i ∷ is) (y ∷ ys) x full = ap (λ list. i ∷ list) (written_full is ys x (omega (arith, full)))
+abbrev pub OfFull : Type 0
+OfFull = (members old : List ℕ) (member : ℕ) → length old ≤ length members → written members old ≡ written (members ++ member ∷ []) old
 
 -- A byte that is written because it fits.
-pub byte_set : (before room old new : List ℕ) (at byte : ℕ) → at ≡ length before → old ≡ written before room → at < length old → new ≡ set old at byte →
-    new ≡ written (before ++ byte ∷ []) room
-byte_set before room old new at byte place is within put =
-    let fits : length before < length room = omega (arith, within, ap length is, written_length before room, place) in
-    put ∙ ap (λ list. set list at byte) is ∙ ap (λ n. set (written before room) n byte) place ∙ written_one before room byte fits
+pub byte_set : OfLength → OfFitting → (before room old new : List ℕ) (at byte : ℕ) → at ≡ length before → old ≡ written before room →
+    at < length old → new ≡ set old at byte → new ≡ written (before ++ byte ∷ []) room
+byte_set long fitting before room old new at byte place is within put =
+    let fits : length before < length room = omega (arith, within, ap length is, long before room, place) in
+    put ∙ ap (λ list. set list at byte) is ∙ ap (λ n. set (written before room) n byte) place ∙ fitting before room byte fits
 
 -- A byte that does not fit.
-pub byte_left : (before room old : List ℕ) (at byte : ℕ) → at ≡ length before → old ≡ written before room → length old ≤ at →
+pub byte_left : OfLength → OfFull → (before room old : List ℕ) (at byte : ℕ) → at ≡ length before → old ≡ written before room → length old ≤ at →
     old ≡ written (before ++ byte ∷ []) room
-byte_left before room old at byte place is full =
-    let there : length room ≤ length before = omega (arith, full, ap length is, written_length before room, place) in
-    is ∙ written_full before room byte there
+byte_left long past before room old at byte place is full =
+    let there : length room ≤ length before = omega (arith, full, ap length is, long before room, place) in
+    is ∙ past before room byte there
 
 -- Two pieces, one after the other.
 pub puts_both : (a b : List ℕ) (at middle end : ℕ) (old between new : List ℕ) → PutsPiece a at old middle between → PutsPiece b middle between end new →

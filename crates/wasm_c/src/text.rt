@@ -9,12 +9,14 @@ use crate::refusal::{
     frame_name, instruction_name, leading_name, number_name, size_name, type_name,
 };
 use wasm_operators::FrameName;
+use wasm_view::laws::written_members;
 
 /// Writes a byte at index `at`, if it fits. Returns the index after it.
 fn put_byte(byte: u8, at: usize, text: &mut [u8]) -> usize
     requires { at < 2 ^ 62 }
     ensures { PutsPiece (byte ∷ []) at text.old result text.new }
 {
+    written_members::<u8>();
     if at < text.len() {
         text[at] = byte;
     }

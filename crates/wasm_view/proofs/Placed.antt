@@ -11,18 +11,18 @@ pub written_none : {X : Type 0} (old : List X) → written [] old ≡ old
 written_none [] = refl
 written_none (x ∷ xs) = refl
 
-written_length : {X : Type 0} (items room : List X) → length (written items room) ≡ length room
+pub written_length : {X : Type 0} (items room : List X) → length (written items room) ≡ length room
 written_length items [] = refl
 written_length [] (y ∷ ys) = refl
 written_length (x ∷ xs) (y ∷ ys) = ap suc (written_length xs ys)
 
-written_one : {X : Type 0} (items room : List X) (x : X) → length items < length room →
+pub written_one : {X : Type 0} (items room : List X) (x : X) → length items < length room →
     set (written items room) (length items) x ≡ written (items ++ x ∷ []) room
 written_one items [] x fits = absurd (omega (arith, fits))
 written_one [] (y ∷ ys) x fits = ap (λ list. x ∷ list) (sym (written_none ys))
 written_one (i ∷ is) (y ∷ ys) x fits = ap (λ list. i ∷ list) (written_one is ys x (omega (arith, fits)))
 
-written_full : {X : Type 0} (items room : List X) (x : X) → length room ≤ length items → written items room ≡ written (items ++ x ∷ []) room
+pub written_full : {X : Type 0} (items room : List X) (x : X) → length room ≤ length items → written items room ≡ written (items ++ x ∷ []) room
 written_full items [] x full = refl
 written_full [] (y ∷ ys) x full = absurd (omega (arith, full))
 written_full (i ∷ is) (y ∷ ys) x full = ap (λ list. i ∷ list) (written_full is ys x (omega (arith, full)))
