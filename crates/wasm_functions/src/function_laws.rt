@@ -1,8 +1,8 @@
-ghost use Rattle.std.specs.Prelude.{◌≡◌, ◌≢◌, ℕ, List, Option};
-ghost use Rattle.wasm_module.specs.below.Source.{Reader};
-ghost use Rattle.wasm_module.specs.Module.{SectionParts};
+ghost use Rattle.std.specs.Prelude.{◌≡◌, ◌≢◌, ◌<◌, ℕ, List, [], ◌∷◌, ◌++◌, length, Option, Ok};
+ghost use Rattle.wasm_module.specs.below.Source.{Reader, rest, offset_of, end_of, Reads};
+ghost use Rattle.wasm_module.specs.Module.{SectionParts, EncodesSection};
 ghost use Rattle.wasm_functions.specs.Refusals.{SectionsFault, ModuleFunctionsFault};
-ghost use Rattle.wasm_functions.specs.Sections.{IsModule, IsSection};
+ghost use Rattle.wasm_functions.specs.Sections.{SectionsOccur, IsModule, IsSection};
 ghost use Rattle.wasm_functions.specs.declared.fault.ModuleFault.{ModuleFault};
 ghost use Rattle.wasm_functions.specs.ModuleFunctions.{ModuleFunctions, DescribesFunctions};
 
@@ -16,6 +16,15 @@ pub fn sections()
     unsigned_numbers();
     fixed_numbers();
 }
+
+/// States that sections and the next one are sections, and that a section is not empty.
+pub fn next_section()
+    ensures more { (first : Reader) (sections : List SectionParts) (mid new : Reader) (next : SectionParts)
+        → SectionsOccur first sections mid → Reads (EncodesSection mid.features) (Ok next) mid new
+        → end_of next.contents ≡ offset_of new → SectionsOccur first (sections ++ next ∷ []) new }
+    ensures shorter { (old new : Reader) (next : SectionParts) → Reads (EncodesSection old.features) (Ok next) old new
+        → length (rest new) < length (rest old) }
+{}
 
 /// States that bytes that are no module have at most one fault, and a module has none.
 pub fn refusals()

@@ -1,7 +1,7 @@
-use Rattle.std.proofs.Common.{◌≡◌, ℕ, ◌+◌, ◌<◌, List, [], ◌∷◌, ◌++◌, length, Option, Result, Ok, Err, IfErr, refl, sym, subst, ap, ◌∙◌, append_assoc, append-nil, length-append, arith}
+use Rattle.std.proofs.Common.{◌≡◌, ℕ, List, [], ◌∷◌, ◌++◌, Option, Result, Ok, Err, IfErr, refl, sym, ap, ◌∙◌, append_assoc, append-nil}
 use Rattle.std.specs.Io.KnownBytes.{Appends}
 use Rattle.wasm_disassembly.specs.operators.below.bytes.features.WasmFeatures.{WasmFeatures}
-use Rattle.wasm_disassembly.specs.operators.below.Source.{Reader, rest, offset_of, end_of, reader_of, Reads}
+use Rattle.wasm_disassembly.specs.operators.below.Source.{Reader, offset_of, end_of, reader_of, Reads}
 use Rattle.wasm_functions.specs.of_module.Module.{SectionParts, EncodesSection}
 use Rattle.wasm_functions.specs.Sections.{BeginsModule, SectionsOccur}
 use Rattle.wasm_module_listing.specs.declared.fault.Fault.{Fault}
@@ -11,18 +11,10 @@ use Rattle.wasm_module_listing.specs.Headers.{HasDetail, section_line, AreShown,
 use Rattle.wasm_module_listing.specs.Listing.{IsHalt, heading_of}
 use Rattle.wasm_module_listing.proofs.Bodies.{appends_both, appends_none}
 
-pub one_more : (r : Reader) (ss : List SectionParts) (mid new : Reader) (s : SectionParts) → SectionsOccur r ss mid →
-    Reads (EncodesSection mid.features) (Ok s) mid new → end_of s.contents ≡ offset_of new → SectionsOccur r (ss ++ s ∷ []) new
-one_more r [] mid new s same reads placed =
-    (new, subst (λ z. Reads (EncodesSection z.features) (Ok s) z new) same reads, placed, refl)
-one_more r (t ∷ ts) mid new s (next, first, occurs, others) reads placed = (next, first, occurs, one_more next ts mid new s others reads placed)
-
-pub shorter : (r new : Reader) (s : SectionParts) → Reads (EncodesSection r.features) (Ok s) r new → length (rest new) < length (rest r)
-shorter r new s (text, (a, b, parts, is, after), takes) =
-    let long : length text ≡ length a + length b = ap length parts ∙ length-append a b in
-    let one : length a ≡ 1 = ap length is.0 in
-    let left : length (rest r) ≡ length text + length (rest new) = ap length takes.parts ∙ length-append text (rest new) in
-    omega (arith, long, one, left)
+-- What the law `next_section` states of sections and the next.
+abbrev pub OfNext : Type 0
+OfNext = (first : Reader) (sections : List SectionParts) (mid new : Reader) (next : SectionParts) → SectionsOccur first sections mid →
+    Reads (EncodesSection mid.features) (Ok next) mid new → end_of next.contents ≡ offset_of new → SectionsOccur first (sections ++ next ∷ []) new
 
 shown_more : (ss : List SectionParts) (s : SectionParts) (d : Detail) (text : List ℕ) → AreShown ss text → HasDetail s (Ok d) →
     AreShown (ss ++ s ∷ []) (text ++ section_line s d)
@@ -38,10 +30,10 @@ shown_more (t ∷ ts) s d text (e, has_e, more, is, others) has = (
 pub shows_none : (first : Reader) (old : Option (List ℕ)) → ShowsSections first first old old
 shows_none first old = record { sections = []; occur = refl; text = []; shown = refl; appends = appends_none old }
 
-pub shows_more : (first mid new : Reader) (s : SectionParts) (d : Detail) (old between after : Option (List ℕ)) → ShowsSections first mid old between →
+pub shows_more : OfNext → (first mid new : Reader) (s : SectionParts) (d : Detail) (old between after : Option (List ℕ)) → ShowsSections first mid old between →
     Reads (EncodesSection mid.features) (Ok s) mid new → end_of s.contents ≡ offset_of new → HasDetail s (Ok d) → Appends between after (section_line s d) →
     ShowsSections first new old after
-shows_more first mid new s d old between after h reads placed has wrote = record {
+shows_more one_more first mid new s d old between after h reads placed has wrote = record {
   sections = h.sections ++ s ∷ [];
   occur = one_more first h.sections mid new s h.occur reads placed;
   text = h.text ++ section_line s d;

@@ -15,6 +15,7 @@ pub fn find_cut(features: WasmFeatures, bytes: &[u8]) -> Option<(usize, Error)>
     ensures within { IfSome result (λ cut. cut.0 ≤ length bytes.now) }
 {
     function_laws::refusals();
+    function_laws::next_section();
     let mut reader = match open_sections(features, bytes) {
         Ok(reader) => reader,
         Err(_) => return None,

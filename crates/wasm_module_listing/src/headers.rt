@@ -10,6 +10,7 @@ use std::alloc::Global;
 use std::io::Write;
 use wasm_disassembly::lines::text::{Written, write_byte};
 use wasm_disassembly::operators::{BinaryReader, Error};
+use wasm_functions::function_laws;
 use wasm_functions::module::{CustomSection, Section, read_section};
 
 /// What the line of a section says about its contents.
@@ -162,6 +163,7 @@ pub fn list_sections<W: Write>(
     ensures lists { ListsSections sections.entry result (W.contents writer.old) (W.contents writer.new) }
     ensures kinds { IfErr result (λ fault. IsSectionFault fault) }
 {
+    function_laws::next_section();
     let mut reader = sections;
     let mut line = String::new(alloc);
     'sections: while !reader.eof() {

@@ -1,6 +1,5 @@
 use Rattle.std.proofs.Common.{◌≡◌, [], ◌∷◌, ◌++◌, refl, rules, arith}
 use Rattle.wasm_disassembly.specs.operators.below.Source.{rest, reader_of}
-use Rattle.wasm_module_listing.proofs.Shown.{one_more, shorter}
 use Rattle.wasm_module_listing.proofs.Cuts.{cut_at, no_cut_before, no_cut_in}
 use Rattle.wasm_module_listing.proofs.cut.find_cut.Goals as goal
 
@@ -12,10 +11,10 @@ sections-preserved c =
     let h = c.sections.invariant in
     let s = c.in-Ok-read_section.section in
     let read = c.in-Ok-read_section.ensures in
-    (h.0 ++ s ∷ [], one_more c.in-Ok.reader h.0 c.sections.reader c.read_section.new.reader s h.1 read.reads read.placed)
+    (h.0 ++ s ∷ [], c.next_section.ensures.more c.in-Ok.reader h.0 c.sections.reader c.read_section.new.reader s h.1 read.reads read.placed)
 
 pub sections-smaller : goal.sections-smaller
-sections-smaller c = shorter c.sections.reader c.read_section.new.reader c.in-Ok-read_section.section c.in-Ok-read_section.ensures.reads
+sections-smaller c = c.next_section.ensures.shorter c.sections.reader c.read_section.new.reader c.in-Ok-read_section.section c.in-Ok-read_section.ensures.reads
 
 pub returns-in-Err-clause-cut : goal.returns-in-Err-clause-cut
 returns-in-Err-clause-cut c = no_cut_before (reader_of c.args.features 0 c.args.bytes.now) c.in-Err.ensures.refused

@@ -1,7 +1,7 @@
 use Rattle.std.proofs.Common.{◌≡◌, [], Err, inl, inr, rules}
 use Rattle.wasm_disassembly.specs.operators.below.Source.{rest}
 use Rattle.wasm_module_listing.specs.Headers.{ListsSections, IsSectionFault}
-use Rattle.wasm_module_listing.proofs.Shown.{shorter, shows_none, shows_more, at_halt}
+use Rattle.wasm_module_listing.proofs.Shown.{shows_none, shows_more, at_halt}
 use Rattle.wasm_module_listing.proofs.headers.list_sections.Goals as goal
 
 pub sections-init : goal.sections-init
@@ -9,12 +9,12 @@ sections-init g c = shows_none c.args.sections (g.W.Write.contents c.args.writer
 
 pub sections-preserved : goal.sections-preserved
 sections-preserved g c =
-    shows_more c.args.sections c.sections.reader c.read_section.new.reader c.in-Ok.section c.in-Ok-detail_of.detail (g.W.Write.contents c.args.writer.now)
+    shows_more c.next_section.ensures.more c.args.sections c.sections.reader c.read_section.new.reader c.in-Ok.section c.in-Ok-detail_of.detail (g.W.Write.contents c.args.writer.now)
     (g.W.Write.contents c.sections.writer) (g.W.Write.contents c.write_section.new.writer) c.sections.invariant c.in-Ok.ensures.reads c.in-Ok.ensures.placed
     c.in-Ok-detail_of.ensures c.in-Ok-write_section.ensures.ok
 
 pub sections-smaller : goal.sections-smaller
-sections-smaller g c = shorter c.sections.reader c.read_section.new.reader c.in-Ok.section c.in-Ok.ensures.reads
+sections-smaller g c = c.next_section.ensures.shorter c.sections.reader c.read_section.new.reader c.in-Ok.section c.in-Ok.ensures.reads
 
 pub returns-in-Err-clause-lists : goal.returns-in-Err-clause-lists
 returns-in-Err-clause-lists g c = (c.sections.reader, c.sections.invariant, inl c.in-Err.ensures.reads.1)
