@@ -162,7 +162,7 @@ text_of_name name = if is_utf8 name then name else []
 abbrev pub name_at : ModuleFunctions → ℕ → List ℕ
 name_at t index = text_of_name (slice_index_or t.names index [])
 
--- The name, as text, of a function that the module defines. It is empty if the function has none.
+-- The name, as text, of a defined function; empty if it has none.
 abbrev pub NamesFunction : List ℕ → ℕ → List ℕ → Type 0
 NamesFunction bytes index name =
     (t : ModuleFunctions) × DescribesFunctions (module_of bytes) t × IsOwn t index × (name ≡ name_at t index)

@@ -14,8 +14,8 @@ abbrev pub functions_in : List ImportParts → ℕ
 functions_in [] = 0
 functions_in (i ∷ is) = (if i.kind == 0 then 1 else 0) + functions_in is
 
--- The number of imported functions, the number of parameters of each type, the types of the defined
--- functions, and the names of all functions.
+-- The number of imported functions, each type's number of parameters, the types of the defined
+-- functions, and all functions' names.
 pub record ModuleFunctions : Type 0 where
   pub imported : ℕ
   pub parameters : List ℕ

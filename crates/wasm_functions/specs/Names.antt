@@ -92,7 +92,7 @@ abbrev pub LastNames : List SectionParts → Option Reader → Type 0
 LastNames sections None = NoneIsNames sections
 LastNames sections (Some contents) = (before after : List SectionParts) × (s : SectionParts) × (sections ≡ before ++ s ∷ after) × IsNames s contents × NoneIsNames after
 
--- The contents of a module's last custom section `name`, if there is one.
+-- The contents of a module's last custom section `name`, if any.
 abbrev pub HasNames : Reader → Option Reader → Type 0
 HasNames whole found = (sections : List SectionParts) × IsModule whole sections × LastNames sections found
 

@@ -5,8 +5,7 @@ use Rattle.wasm_module.specs.Module.{EncodesPreamble, preamble_kind, SectionPart
 use Rattle.wasm_module.specs.declared.preamble.Preamble.{Preamble}
 use Rattle.wasm_module.specs.declared.preamble.PreambleKind.TheVariants as kind
 
--- Between the two readers, the bytes encode these sections. The readers of their contents count
--- offsets as the module does.
+-- The sections between two readers. Their contents count offsets as the module does.
 abbrev pub SectionsOccur : Reader → List SectionParts → Reader → Type 0
 SectionsOccur r [] end = end ≡ r
 SectionsOccur r (s ∷ ss) end = (mid : Reader) × Reads (EncodesSection r.features) (Ok s) r mid × (end_of s.contents ≡ offset_of mid) × SectionsOccur mid ss end
@@ -29,7 +28,7 @@ abbrev pub first_with : ℕ → List SectionParts → Option Reader
 first_with id [] = None
 first_with id (s ∷ ss) = if s.id == id then Some s.contents else first_with id ss
 
--- The contents of the first section with this number in a module, if there is one.
+-- The contents of a module's first section with this number, if any.
 abbrev pub IsSection : Reader → ℕ → Option Reader → Type 0
 IsSection whole id found = (sections : List SectionParts) × IsModule whole sections × (found ≡ first_with id sections)
 

@@ -114,8 +114,8 @@ pub record WritesSections {X : Type 0} (whole : Reader) (file : Option (List ℕ
   pub title : Appends old titled (heading_of file name sections_heading)
   pub lists : ListsSections after result titled new
 
--- The sections are listed up to an error, or the bytes do not begin with a module's preamble and
--- nothing is written.
+-- The sections are listed up to an error; or no module's preamble comes first, and nothing is
+-- written.
 abbrev pub ListsHeaders : {X : Type 0} → WasmFeatures → Option (List ℕ) → List ℕ → Result X Fault → Option (List ℕ) → Option (List ℕ) → Type 0
 ListsHeaders features file bytes (Ok x) old new = WritesSections (reader_of features 0 bytes) file (Ok x) old new
 ListsHeaders {X} features file bytes (Err (fault.Section e)) old new = WritesSections {X = X} (reader_of features 0 bytes) file (Err (fault.Section e)) old new

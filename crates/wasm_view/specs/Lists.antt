@@ -7,7 +7,7 @@ use Rattle.wasm_view.specs.Members.{type_of, catch_of, handle_of}
 use Rattle.wasm_view.specs.declared.members.WasmType.{WasmType}
 use Rattle.wasm_view.specs.declared.members.WasmHandler.{WasmHandler}
 
--- The second list, its start replaced by as much of the first as fits.
+-- The second list, overwritten by the first from its start.
 abbrev pub written : {X : Type 0} → List X → List X → List X
 written items [] = []
 written [] (old ∷ olds) = old ∷ olds
@@ -41,8 +41,7 @@ handles_of _ = None
 abbrev pub PlacesMembers : {X : Type 0} → List X → ℕ → List X → ℕ → List X → Type 0
 PlacesMembers members from old count new = (count ≡ length members) × (new ≡ written (drop from members) old)
 
--- As `PlacesMembers`, for an operator's list. Without one, the result is `None`, and nothing
--- changes.
+-- As `PlacesMembers`, for an operator's list; without one, `None`, and nothing changes.
 abbrev pub ReturnsMembers : {X : Type 0} → Option (List X) → ℕ → List X → Option ℕ → List X → Type 0
 ReturnsMembers None from old result new = (result ≡ None) × (new ≡ old)
 ReturnsMembers (Some members) from old result new = (count : ℕ) × (result ≡ Some count) × PlacesMembers members from old count new
