@@ -1,9 +1,11 @@
 -- Frames are listed from the outermost. Specification: Validation, Control Instructions; Appendix,
 -- Validation Algorithm. Proposal legacy exception handling.
-use Rattle.std.specs.Prelude.{List, [], ◌∷◌, Option, Some, None, IsSome}
+use Rattle.std.specs.Prelude.{Bool, true, false, if◌then◌else◌, ℕ, List, [], ◌∷◌, ◌++◌, Option, Some, None, IsSome}
 use Rattle.std.specs.Option.{option_map, option_and_then}
 use Rattle.wasm_grammar.specs.declared.frame_kind.FrameKind.{FrameKind}
 use Rattle.wasm_grammar.specs.declared.frame_kind.FrameKind.TheVariants as frame
+use Rattle.wasm_grammar.specs.declared.frame_change.FrameChange.{FrameChange}
+use Rattle.wasm_grammar.specs.declared.frame_change.FrameChange.TheVariants as change
 use Rattle.wasm_grammar.specs.Role.{Nest, block, loop, try_table, Role, plain, opens, opens_if, opens_try, turns_else, turns_catch, turns_catch_all, delegates, ends}
 
 abbrev pub kind_of_nest : Nest → FrameKind
@@ -11,20 +13,42 @@ kind_of_nest block = frame.Block
 kind_of_nest loop = frame.Loop
 kind_of_nest try_table = frame.TryTable
 
+-- What an operator with this role does to the frames.
+abbrev pub change_of : {A : Type 0} → Role A → FrameChange
+change_of (plain a) = change.Stays
+change_of (opens n a) = change.Opens (kind_of_nest n)
+change_of (opens_if a) = change.Opens frame.If
+change_of (opens_try a) = change.Opens frame.LegacyTry
+change_of turns_else = change.Turns frame.Else
+change_of (turns_catch tag) = change.Turns frame.LegacyCatch
+change_of turns_catch_all = change.Turns frame.LegacyCatchAll
+change_of (delegates depth) = change.Closes
+change_of ends = change.Closes
+
+-- What a change puts in place of an innermost frame of this kind.
+abbrev pub replaced : FrameKind → FrameChange → List FrameKind
+replaced kind change.Stays = kind ∷ []
+replaced kind (change.Opens inner) = kind ∷ inner ∷ []
+replaced kind (change.Turns other) = other ∷ []
+replaced kind change.Closes = []
+
+abbrev pub is_allowed : {A : Type 0} → FrameKind → Role A → Bool
+is_allowed kind (plain a) = true
+is_allowed kind (opens n a) = true
+is_allowed kind (opens_if a) = true
+is_allowed kind (opens_try a) = true
+is_allowed kind ends = true
+is_allowed frame.If turns_else = true
+is_allowed frame.LegacyTry (turns_catch tag) = true
+is_allowed frame.LegacyCatch (turns_catch tag) = true
+is_allowed frame.LegacyTry turns_catch_all = true
+is_allowed frame.LegacyCatch turns_catch_all = true
+is_allowed frame.LegacyTry (delegates depth) = true
+is_allowed _ _ = false
+
 -- What replaces the innermost frame after a role; `None` if not allowed.
 abbrev pub replacement : {A : Type 0} → FrameKind → Role A → Option (List FrameKind)
-replacement kind (plain a) = Some (kind ∷ [])
-replacement kind (opens n a) = Some (kind ∷ kind_of_nest n ∷ [])
-replacement kind (opens_if a) = Some (kind ∷ frame.If ∷ [])
-replacement kind (opens_try a) = Some (kind ∷ frame.LegacyTry ∷ [])
-replacement kind ends = Some []
-replacement frame.If turns_else = Some (frame.Else ∷ [])
-replacement frame.LegacyTry (turns_catch tag) = Some (frame.LegacyCatch ∷ [])
-replacement frame.LegacyCatch (turns_catch tag) = Some (frame.LegacyCatch ∷ [])
-replacement frame.LegacyTry turns_catch_all = Some (frame.LegacyCatchAll ∷ [])
-replacement frame.LegacyCatch turns_catch_all = Some (frame.LegacyCatchAll ∷ [])
-replacement frame.LegacyTry (delegates depth) = Some []
-replacement _ _ = None
+replacement kind role = if is_allowed kind role then Some (replaced kind (change_of role)) else None
 
 -- An innermost frame of this kind allows the role.
 abbrev pub Allows : {A : Type 0} → FrameKind → Role A → Type 0
@@ -61,3 +85,19 @@ without_innermost_in kind (next ∷ inside) = kind ∷ without_innermost_in next
 abbrev pub without_innermost : List FrameKind → List FrameKind
 without_innermost [] = []
 without_innermost (kind ∷ inside) = without_innermost_in kind inside
+
+-- The frames after a change.
+abbrev pub frames_changed : List FrameKind → FrameChange → List FrameKind
+frames_changed frames change.Stays = frames
+frames_changed frames (change.Opens kind) = frames ++ kind ∷ []
+frames_changed frames (change.Turns kind) = without_innermost frames ++ kind ∷ []
+frames_changed frames change.Closes = without_innermost frames
+
+abbrev pub OpensFrame : FrameChange → Type 0
+OpensFrame (change.Opens kind) = Unit {0}
+OpensFrame _ = ⊥
+
+-- How many frames a change opens.
+abbrev pub opened : FrameChange → ℕ
+opened (change.Opens kind) = 1
+opened _ = 0
