@@ -18,6 +18,7 @@ from arities import fixed_arity_source, fixed_arity_specs
 from arm_files import arm_files
 from arms import unread
 from cargo import cargo_files
+from changes import change_files
 from counts import wrong_counts
 from decode import decode_files
 from entries import entry_files
@@ -56,6 +57,7 @@ def files(ops):
     out["crates/wasm_instr/specs/FixedArity.antt"] = fixed_arity_specs(ops)
     out["crates/wasm_instr/src/fixed_arity.rt"] = fixed_arity_source(ops)
     out["crates/wasm_instr/proofs/ByOpcode.antt"] = operators_by_opcode(own)
+    out |= change_files(ops)
     out |= entry_files(ops)
     out |= equality_files(ops, ENUMS)
     out |= proposal_files()

@@ -4,6 +4,7 @@ import unittest
 from pathlib import Path
 
 import expected_reading as reading
+from changes import CHANGES
 from original import differences, originals, proposals
 from rules import faults
 from table import COLUMNS, PROPOSALS, TOP, Operator, rows_of, shared, table
@@ -218,34 +219,32 @@ def by_name(path, definition):
     return {case[1]: case[2] for case in cases if case}
 
 
-def codes_of(path, definition):
-    (line,) = [line for line in lines_of(path) if line.startswith(f"{definition} opcode = ")]
-    return {int(code, 16) for code in re.findall("0x([0-9a-f]+)", line)}
-
-
 class Columns(unittest.TestCase):
     """Compares columns with definitions and expectations that are written by hand."""
 
     ops = table()
 
-    def codes(self, *roles):
-        return {op.code for op in self.ops if op.role.startswith(roles)}
-
     def test_roles(self):
-        cases = by_name("wasm_instr/specs/Roles.antt", "role_of").items()
-        wanted = {name: " ".join(role.split(" (")[0].split()[: 2 if role.startswith("opens ") else 1]) for name, role in cases}
+        wanted = {
+            "Block": "opens block", "Loop": "opens loop", "TryTable": "opens try_table", "If": "opens_if", "Try": "opens_try",
+            "Else": "turns_else", "Catch": "turns_catch", "CatchAll": "turns_catch_all", "Delegate": "delegates", "End": "ends",
+        }
         self.assertEqual({op.name: op.role for op in self.ops if op.role}, wanted)
-        self.assertEqual(len(wanted), 10)
 
-    def test_roles_of_lines(self):
-        path = "wasm_lines/specs/Lines.antt"
-        self.assertEqual(codes_of(path, "opens"), self.codes("opens"))
-        self.assertEqual(codes_of(path, "closes"), self.codes("ends", "delegates"))
-        self.assertEqual(codes_of(path, "is_outside"), self.codes("turns", "ends", "delegates"))
+    def test_changes(self):
+        cases = (re.match(r"change_of \(?(opens n|\w+)[^=]*= change\.(.*)", line) for line in lines_of("wasm_grammar/specs/Frames.antt"))
+        changes = {case[1]: case[2].replace("frame.", "").split() for case in cases if case}
+        self.assertEqual(changes.pop("plain"), ["Stays"])
+        self.assertEqual(changes.pop("opens n"), ["Opens", "(kind_of_nest", "n)"])
+        for role, change in CHANGES.items():
+            word, *nest = role.split()
+            self.assertEqual(list(change), ["Opens", nest[0].title().replace("_", "")] if nest else changes.pop(word))
+        self.assertEqual(changes, {})
 
     def test_guards(self):
-        guards = by_name("wasm_decode_opcodes/specs/Entry.antt", "guard_of")
-        self.assertEqual({op.name: f"Some guard.{op.name}" for op in self.ops if op.has_guard}, guards)
+        cases = (re.match(r"guard_of \(?(\w+)[^=]*= Some guard\.(.*)", line) for line in lines_of("wasm_decode_opcodes/specs/Entry.antt"))
+        guards = {case[1]: case[2] for case in cases if case}
+        self.assertEqual({op.role: op.name for op in self.ops if op.has_guard}, guards)
         framed = [fields.split()[0] for _, fields, *_ in reading.FRAMED]
         self.assertEqual({op.name for op in self.ops if op.role.startswith(("turns", "delegates"))}, set(framed))
 

@@ -1,9 +1,15 @@
-ghost use Rattle.std.specs.Prelude.{◌≡◌, ◌⊎◌, ℕ, List, ◌++◌};
+ghost use Rattle.std.specs.Prelude.{◌≡◌, ◌≤◌, ◌⊎◌, ℕ, List, ◌++◌, Some};
+ghost use Rattle.wasm_grammar.specs.declared.frame_change.FrameChange.{FrameChange};
+ghost use Rattle.wasm_grammar.specs.declared.frame_kind.FrameKind.{FrameKind};
+ghost use Rattle.wasm_grammar.specs.Frames.{Allows, change_of, frames_after, frames_changed, innermost};
+ghost use Rattle.wasm_instr_ops.specs.below.bytes.features.WasmFeatures.{WasmFeatures};
 ghost use Rattle.wasm_instr_ops.specs.below.Equality.{IsExact};
+ghost use Rattle.wasm_instr_ops.specs.below.Source.{BeginsWith};
 ghost use Rattle.wasm_instr.specs.declared.operator.Operator.{Operator};
 ghost use Rattle.wasm_instr.specs.Kinds.{IsTypedSelect};
 ghost use Rattle.wasm_instr.specs.Row.{prefix_of, opcode_of, name_of};
 ghost use Rattle.wasm_instr.specs.Encoding.{EncodesOperator};
+ghost use Rattle.wasm_instr.specs.Roles.{change_at, role_of};
 
 use crate::Operator;
 use wasm_instr_ops::below::WasmFeatures;
@@ -23,6 +29,17 @@ pub fn shared_opcodes()
         → prefix_of op ≡ prefix_of other
         → opcode_of op ≡ opcode_of other
         → (name_of op ≡ name_of other) ⊎ (IsTypedSelect op × IsTypedSelect other) }
+{}
+
+/// States that the first byte of an operator determines what it does to the frames, which follow if
+/// the innermost allows the operator. Operators with first bytes from 0x20 on keep the frames.
+pub fn frame_changes()
+    ensures bytes { (f : WasmFeatures) (op : Operator) (text : List ℕ) (byte : ℕ) → EncodesOperator f op text
+        → BeginsWith byte text → change_at byte ≡ change_of (role_of op) }
+    ensures frames { (op : Operator) (frames : List FrameKind) (kind : FrameKind)
+        → innermost frames ≡ Some kind → Allows kind (role_of op)
+        → frames_after frames (role_of op) ≡ Some (frames_changed frames (change_of (role_of op))) }
+    ensures high { (byte : ℕ) → 0x20 ≤ byte → change_at byte ≡ FrameChange.Stays }
 {}
 
 pub fn equality()

@@ -3,6 +3,7 @@
 
 mod arity;
 mod fixed_arity;
+mod frame_changes;
 mod frame_stack;
 pub mod laws;
 mod operator;
@@ -20,5 +21,6 @@ pub use wasm_instr_simd::SimdOperator;
 
 /// Instruction trees and their frames.
 pub mod grammar {
-    pub use wasm_grammar::{FrameKind, laws};
+    pub use crate::frame_changes::frame_change_at;
+    pub use wasm_grammar::{FrameChange, FrameKind, laws};
 }
