@@ -21,6 +21,7 @@ use Rattle.wasm_visit.specs.opcodes.Allowed.{EncodesAllowed, EncodesScalar, Enco
 use Rattle.wasm_visit.specs.opcodes.Decoding.{Decodes, DecodesAt, RefusesOperator, IsAfterCode}
 use Rattle.wasm_visit.specs.decode.Arms.{ReadsOperatorAt}
 use Rattle.wasm_visit.specs.opcodes.declared.guard.Guard.{Guard}
+use Rattle.wasm_visit.specs.instr.Roles.{role_of}
 use Rattle.wasm_visit.specs.opcodes.Entry.{Entry, prefixes, guard_of, kinds_of, guarded_entry, entry_of}
 use Rattle.wasm_visit.specs.opcodes.Entries.{opcode_entries, entry_at}
 use Rattle.wasm_visit.specs.opcodes.OperatorFaults.{EntryFault, OperatorFault, ScalarOperatorFault, FaultIn}
@@ -109,7 +110,7 @@ begins_prefix f op p text after left is s eq = go (prefix_of op) refl s.code
         let first : p ∷ after ≡ opcode_of op ∷ (s.after ++ left) = whole ∙ ap (λ z. z ++ (s.after ++ left)) h in
         let same : p ≡ opcode_of op = cc first in
         let row : entry_at None (opcode_of op) ≡ entry_of op = ap (λ z. entry_at z (opcode_of op)) (sym e) ∙ entry_agrees op in
-        absurd (no_prefixes (guard_of op) (kinds_of op) (sym row ∙ ap (entry_at None) (sym same) ∙ is))
+        absurd (no_prefixes (guard_of (role_of op)) (kinds_of op) (sym row ∙ ap (entry_at None) (sym same) ∙ is))
     go (Some q) e (number, h, u) =
         let first : p ∷ after ≡ q ∷ (number ++ (s.after ++ left)) = whole ∙ ap (λ z. z ++ (s.after ++ left)) h in
         let same : p ≡ q = cc first in

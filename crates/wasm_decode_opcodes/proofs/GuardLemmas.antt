@@ -54,7 +54,7 @@ some_guard : (a g : Guard) → Some a ≡ Some g → a ≡ g
 some_guard a g e = cc e
 
 -- if a frame allows the operator, it allows the role of its guard
-pub allows_guard : (k : FrameKind) (op : Operator) (g : Guard) → guard_of op ≡ Some g → Allows k (role_of op) → Allows k (guarded_role g)
+pub allows_guard : (k : FrameKind) (op : Operator) (g : Guard) → guard_of (role_of op) ≡ Some g → Allows k (role_of op) → Allows k (guarded_role g)
 allows_guard k operator.Else g e h = subst (λ z. Allows k (guarded_role z)) (some_guard guard.Else g e) (else_same Operator ℕ k h)
 allows_guard k (operator.Try ty) g e h = subst (λ z. Allows k (guarded_role z)) (some_guard guard.Try g e) refl
 allows_guard k (operator.Catch tag) g e h = subst (λ z. Allows k (guarded_role z)) (some_guard guard.Catch g e) (catch_same Operator ℕ k tag 0 h)
@@ -62,7 +62,7 @@ allows_guard k operator.CatchAll g e h = subst (λ z. Allows k (guarded_role z))
 allows_guard k (operator.Delegate depth) g e h = subst (λ z. Allows k (guarded_role z)) (some_guard guard.Delegate g e) (delegate_same Operator ℕ k depth 0 h)
 allows_guard k op g e h = absurd (cc e)
 
-pub guard_allows : (k : FrameKind) (op : Operator) (g : Guard) → guard_of op ≡ Some g → Allows k (guarded_role g) → Allows k (role_of op)
+pub guard_allows : (k : FrameKind) (op : Operator) (g : Guard) → guard_of (role_of op) ≡ Some g → Allows k (guarded_role g) → Allows k (role_of op)
 guard_allows k operator.Else g e h = else_same ℕ Operator k (subst (λ z. Allows k (guarded_role z)) (sym (some_guard guard.Else g e)) h)
 guard_allows k (operator.Try ty) g e h = refl
 guard_allows k (operator.Catch tag) g e h = catch_same ℕ Operator k 0 tag (subst (λ z. Allows k (guarded_role z)) (sym (some_guard guard.Catch g e)) h)
@@ -71,7 +71,7 @@ guard_allows k (operator.Delegate depth) g e h = delegate_same ℕ Operator k 0 
 guard_allows k op g e h = absurd (cc e)
 
 -- an operator with an encoding has its feature enabled
-pub enabled_needs : (f : WasmFeatures) (op : Operator) (g : Guard) → guard_of op ≡ Some g → NeedsLegacy g → IsEnabled f op → HasFeature legacy_exceptions f
+pub enabled_needs : (f : WasmFeatures) (op : Operator) (g : Guard) → guard_of (role_of op) ≡ Some g → NeedsLegacy g → IsEnabled f op → HasFeature legacy_exceptions f
 enabled_needs f operator.Else g e n h = absurd (subst NeedsLegacy (sym (some_guard guard.Else g e)) n)
 enabled_needs f (operator.Try ty) g e n h = h
 enabled_needs f (operator.Catch tag) g e n h = h
@@ -79,7 +79,7 @@ enabled_needs f operator.CatchAll g e n h = h
 enabled_needs f (operator.Delegate depth) g e n h = absurd (subst NeedsLegacy (sym (some_guard guard.Delegate g e)) n)
 enabled_needs f op g e n h = absurd (cc e)
 
-pub guard_enables : (f : WasmFeatures) (op : Operator) (g : Guard) → guard_of op ≡ Some g → (NeedsLegacy g → HasFeature legacy_exceptions f) → IsEnabled f op
+pub guard_enables : (f : WasmFeatures) (op : Operator) (g : Guard) → guard_of (role_of op) ≡ Some g → (NeedsLegacy g → HasFeature legacy_exceptions f) → IsEnabled f op
 guard_enables f operator.Else g e h = tt
 guard_enables f (operator.Try ty) g e h = h (subst NeedsLegacy (some_guard guard.Try g e) tt)
 guard_enables f (operator.Catch tag) g e h = h (subst NeedsLegacy (some_guard guard.Catch g e) tt)
@@ -93,8 +93,8 @@ guard_in (Some h) g own_kinds ks e = let same : h ≡ g = cc e in ap Some same
 
 -- an operator with a guarded opcode has that guard
 pub guard_of_code : (op : Operator) (code : ℕ) (g : Guard) (ks : List Kind) → prefix_of op ≡ None → opcode_of op ≡ code → entry_at None code ≡ guarded g ks →
-    guard_of op ≡ Some g
-guard_of_code op code g ks prefix opcode e = guard_in (guard_of op) g (kinds_of op) ks (sym (same_entry op None code prefix opcode) ∙ e)
+    guard_of (role_of op) ≡ Some g
+guard_of_code op code g ks prefix opcode e = guard_in (guard_of (role_of op)) g (kinds_of op) ks (sym (same_entry op None code prefix opcode) ∙ e)
 
 -- ---- errors before the immediates
 

@@ -53,7 +53,7 @@ agrees (Some p) None op code head other x y e c (number, h, u) k eq =
     let whole : p ∷ (number ++ x) ≡ opcode_of op ∷ y = ap (λ z. z ++ x) (sym h) ∙ eq ∙ ap (λ z. z ++ y) k in
     let same : p ≡ opcode_of op = cc whole in
     let row : entry_at None (opcode_of op) ≡ entry_of op = ap (λ z. entry_at z (opcode_of op)) (sym e) ∙ entry_agrees op in
-    absurd (no_prefixes (guard_of op) (kinds_of op) (sym row ∙ ap (entry_at None) (sym same) ∙ c.0))
+    absurd (no_prefixes (guard_of (role_of op)) (kinds_of op) (sym row ∙ ap (entry_at None) (sym same) ∙ c.0))
 agrees (Some p) (Some q) op code head other x y e c (number, h, u) (more, k, v) eq =
     let whole : p ∷ (number ++ x) ≡ q ∷ (more ++ y) = ap (λ z. z ++ x) (sym h) ∙ eq ∙ ap (λ z. z ++ y) k in
     let same : p ≡ q = cc whole in
@@ -93,18 +93,18 @@ kinds_in (Some g) own_kinds ks h = h
 -- the kinds in the entry of an opcode are those of its operators
 pub kinds_of_code : (op : Operator) (p : Option ℕ) (code : ℕ) (ks : List Kind) → prefix_of op ≡ p → opcode_of op ≡ code → HasKinds (entry_at p code) ks → kinds_of op ≡ ks
 kinds_of_code op p code ks prefix opcode h =
-    kinds_in (guard_of op) (kinds_of op) ks (subst (λ z. HasKinds z ks) (same_entry op p code prefix opcode) h)
+    kinds_in (guard_of (role_of op)) (kinds_of op) ks (subst (λ z. HasKinds z ks) (same_entry op p code prefix opcode) h)
 
 -- the guard in the entry of an opcode is that of its operators
 guard_in : (g : Option Guard) (own_kinds ks : List Kind) → guarded_entry g own_kinds ≡ free ks → g ≡ None
 guard_in None own_kinds ks e = refl
 guard_in (Some g) own_kinds ks e = absurd (cc e)
 
-pub unguarded : (op : Operator) (p : Option ℕ) (code : ℕ) (ks : List Kind) → prefix_of op ≡ p → opcode_of op ≡ code → entry_at p code ≡ free ks → guard_of op ≡ None
-unguarded op p code ks prefix opcode e = guard_in (guard_of op) (kinds_of op) ks (sym (same_entry op p code prefix opcode) ∙ e)
+pub unguarded : (op : Operator) (p : Option ℕ) (code : ℕ) (ks : List Kind) → prefix_of op ≡ p → opcode_of op ≡ code → entry_at p code ≡ free ks → guard_of (role_of op) ≡ None
+unguarded op p code ks prefix opcode e = guard_in (guard_of (role_of op)) (kinds_of op) ks (sym (same_entry op p code prefix opcode) ∙ e)
 
 -- an operator without a guard is allowed in every frame, under all features
-pub allowed_free : (k : FrameKind) (op : Operator) → guard_of op ≡ None → Allows k (role_of op)
+pub allowed_free : (k : FrameKind) (op : Operator) → guard_of (role_of op) ≡ None → Allows k (role_of op)
 allowed_free k operator.Else e = absurd (cc e)
 allowed_free k (operator.Try _) e = absurd (cc e)
 allowed_free k (operator.Catch _) e = absurd (cc e)
@@ -112,7 +112,7 @@ allowed_free k operator.CatchAll e = absurd (cc e)
 allowed_free k (operator.Delegate _) e = absurd (cc e)
 allowed_free k op e = refl
 
-pub enabled_free : (f : WasmFeatures) (op : Operator) → guard_of op ≡ None → IsEnabled f op
+pub enabled_free : (f : WasmFeatures) (op : Operator) → guard_of (role_of op) ≡ None → IsEnabled f op
 enabled_free f (operator.Try _) e = absurd (cc e)
 enabled_free f (operator.Catch _) e = absurd (cc e)
 enabled_free f operator.CatchAll e = absurd (cc e)
@@ -273,4 +273,4 @@ pub none_unknown : (f : WasmFeatures) (k : FrameKind) (p : Option ℕ) (code : �
     EncodesOpcode p code head → NoPrefix (EncodesAllowed f k) (head ++ after)
 none_unknown f k p code head after c is h text left op s eq =
     let o = own f p code head after text left op c h s.0 eq in
-    no_entry (guard_of op) (kinds_of op) (sym (same_entry op p code o.same_prefix o.same_code) ∙ is)
+    no_entry (guard_of (role_of op)) (kinds_of op) (sym (same_entry op p code o.same_prefix o.same_code) ∙ is)

@@ -9,7 +9,7 @@ use Rattle.wasm_decode_opcodes.specs.declared.guard.Guard.{Guard}
 use Rattle.wasm_decode_opcodes.specs.declared.guard.Guard.TheVariants as guard
 use Rattle.wasm_instr.specs.grammar.Role.{Role, opens_try, turns_else, turns_catch, turns_catch_all, delegates}
 use Rattle.wasm_instr.specs.declared.operator.Operator.{Operator}
-use Rattle.wasm_instr.specs.declared.operator.Operator.TheVariants as operator
+use Rattle.wasm_instr.specs.Roles.{role_of}
 use Rattle.wasm_instr.specs.Row.{immediates_of}
 use Rattle.wasm_instr.specs.Immediate.{Kind, kind_of, is_memory_argument}
 
@@ -25,13 +25,13 @@ pub data Entry : Type 0 where
 abbrev pub kinds_of : Operator → List Kind
 kinds_of op = map kind_of (immediates_of op)
 
--- The guard of an operator, if it has one.
-abbrev pub guard_of : Operator → Option Guard
-guard_of operator.Else = Some guard.Else
-guard_of (operator.Try _) = Some guard.Try
-guard_of (operator.Catch _) = Some guard.Catch
-guard_of operator.CatchAll = Some guard.CatchAll
-guard_of (operator.Delegate _) = Some guard.Delegate
+-- The guard of the operators with this role, if they have one.
+abbrev pub guard_of : {A : Type 0} → Role A → Option Guard
+guard_of turns_else = Some guard.Else
+guard_of (opens_try _) = Some guard.Try
+guard_of (turns_catch _) = Some guard.Catch
+guard_of turns_catch_all = Some guard.CatchAll
+guard_of (delegates _) = Some guard.Delegate
 guard_of _ = None
 
 -- The entry with these kinds, and with the guard if there is one.
@@ -41,7 +41,7 @@ guarded_entry (Some g) ks = guarded g ks
 
 -- The entry that an operator's opcode must have.
 abbrev pub entry_of : Operator → Entry
-entry_of op = guarded_entry (guard_of op) (kinds_of op)
+entry_of op = guarded_entry (guard_of (role_of op)) (kinds_of op)
 
 -- The role of a guarded operator, with 0 as its immediate.
 abbrev pub guarded_role : Guard → Role ℕ
