@@ -1,72 +1,8 @@
--- Open frames, the innermost last, and the effect of a role on them.
-use Rattle.std.proofs.Common.{◌≡◌, ℕ, ◌≤◌, ◌<◌, ◌-◌, List, [], ◌∷◌, ◌++◌, length, set, get_or, take, zero, suc, Some, refl, sym, ap, ◌∙◌, arith}
-use Rattle.std.specs.Option.{option_map}
+-- Open frames in an array, the innermost last.
+use Rattle.std.proofs.Common.{◌≡◌, ℕ, ◌≤◌, ◌<◌, ◌+◌, ◌-◌, List, [], ◌∷◌, ◌++◌, length, set, get_or, take, zero, suc, Some, refl, sym, ap, ◌∙◌, arith}
 use Rattle.wasm_operators.specs.grammar.declared.frame_kind.FrameKind.{FrameKind}
-use Rattle.wasm_operators.specs.grammar.declared.frame_kind.FrameKind.TheVariants as frame
-use Rattle.wasm_operators.specs.grammar.Frames.{replacement, Allows, frames_after, innermost, innermost_in}
-use Rattle.wasm_operators.specs.grammar.Role.{Role, plain, opens, opens_if, opens_try, turns_else, turns_catch, turns_catch_all, delegates, ends}
-use Rattle.wasm_c.specs.declared.frames.FrameChange.{FrameChange}
-use Rattle.wasm_c.specs.declared.frames.FrameChange.TheVariants as change
-use Rattle.wasm_c.specs.Frames.{kind_of, kinds, change_of, frames_changed}
-
--- What the innermost frame becomes after a role that it allows.
-replaced : {A : Type 0} (kind : FrameKind) (role : Role A) → Allows kind role → replacement kind role ≡ Some (frames_changed [] kind (change_of role))
-replaced kind (plain a) allowed = refl
-replaced kind (opens nest a) allowed = refl
-replaced kind (opens_if a) allowed = refl
-replaced kind (opens_try a) allowed = refl
-replaced kind ends allowed = refl
-replaced frame.Block turns_else allowed = absurd (cc allowed)
-replaced frame.If turns_else allowed = refl
-replaced frame.Else turns_else allowed = absurd (cc allowed)
-replaced frame.Loop turns_else allowed = absurd (cc allowed)
-replaced frame.TryTable turns_else allowed = absurd (cc allowed)
-replaced frame.LegacyTry turns_else allowed = absurd (cc allowed)
-replaced frame.LegacyCatch turns_else allowed = absurd (cc allowed)
-replaced frame.LegacyCatchAll turns_else allowed = absurd (cc allowed)
-replaced frame.Block (turns_catch tag) allowed = absurd (cc allowed)
-replaced frame.If (turns_catch tag) allowed = absurd (cc allowed)
-replaced frame.Else (turns_catch tag) allowed = absurd (cc allowed)
-replaced frame.Loop (turns_catch tag) allowed = absurd (cc allowed)
-replaced frame.TryTable (turns_catch tag) allowed = absurd (cc allowed)
-replaced frame.LegacyTry (turns_catch tag) allowed = refl
-replaced frame.LegacyCatch (turns_catch tag) allowed = refl
-replaced frame.LegacyCatchAll (turns_catch tag) allowed = absurd (cc allowed)
-replaced frame.Block turns_catch_all allowed = absurd (cc allowed)
-replaced frame.If turns_catch_all allowed = absurd (cc allowed)
-replaced frame.Else turns_catch_all allowed = absurd (cc allowed)
-replaced frame.Loop turns_catch_all allowed = absurd (cc allowed)
-replaced frame.TryTable turns_catch_all allowed = absurd (cc allowed)
-replaced frame.LegacyTry turns_catch_all allowed = refl
-replaced frame.LegacyCatch turns_catch_all allowed = refl
-replaced frame.LegacyCatchAll turns_catch_all allowed = absurd (cc allowed)
-replaced frame.Block (delegates depth) allowed = absurd (cc allowed)
-replaced frame.If (delegates depth) allowed = absurd (cc allowed)
-replaced frame.Else (delegates depth) allowed = absurd (cc allowed)
-replaced frame.Loop (delegates depth) allowed = absurd (cc allowed)
-replaced frame.TryTable (delegates depth) allowed = absurd (cc allowed)
-replaced frame.LegacyTry (delegates depth) allowed = refl
-replaced frame.LegacyCatch (delegates depth) allowed = absurd (cc allowed)
-replaced frame.LegacyCatchAll (delegates depth) allowed = absurd (cc allowed)
-
-after_one : {A : Type 0} (first : FrameKind) (frames : List FrameKind) (kind : FrameKind) (role : Role A) →
-    frames_after (first ∷ (frames ++ kind ∷ [])) role ≡ option_map (λ list. first ∷ list) (frames_after (frames ++ kind ∷ []) role)
-after_one first [] kind role = refl
-after_one first (f ∷ frames) kind role = refl
-
--- The frames after a role that the innermost frame allows.
-pub frames_stepped : {A : Type 0} (outer : List FrameKind) (kind : FrameKind) (role : Role A) → Allows kind role →
-    frames_after (outer ++ kind ∷ []) role ≡ Some (frames_changed outer kind (change_of role))
-frames_stepped [] kind role allowed = replaced kind role allowed
-frames_stepped (o ∷ outer) kind role allowed =
-    after_one o outer kind role ∙ ap (option_map (λ list. o ∷ list)) (frames_stepped outer kind role allowed) ∙ ap Some (around o outer kind (change_of role))
-  where
-    around : (o : FrameKind) (outer : List FrameKind) (kind : FrameKind) (c : FrameChange) →
-        o ∷ frames_changed outer kind c ≡ frames_changed (o ∷ outer) kind c
-    around o outer kind change.Stays = refl
-    around o outer kind (change.Opens inner) = refl
-    around o outer kind (change.Turns other) = refl
-    around o outer kind change.Closes = refl
+use Rattle.wasm_operators.specs.grammar.Frames.{innermost, innermost_in, without_innermost, without_innermost_in}
+use Rattle.wasm_c.specs.Frames.{kind_of, kinds}
 
 innermost_after : (first : FrameKind) (frames : List FrameKind) (kind : FrameKind) → innermost_in first (frames ++ kind ∷ []) ≡ kind
 innermost_after first [] kind = refl
@@ -83,7 +19,7 @@ outer_of first (f ∷ frames) =
     let rest = outer_of f frames in
     (first ∷ rest.0, ap (λ list. first ∷ list) rest.1)
 
-pub last_innermost : (frames : List FrameKind) (kind : FrameKind) → innermost frames ≡ Some kind → (outer : List FrameKind) × (frames ≡ outer ++ kind ∷ [])
+last_innermost : (frames : List FrameKind) (kind : FrameKind) → innermost frames ≡ Some kind → (outer : List FrameKind) × (frames ≡ outer ++ kind ∷ [])
 last_innermost [] kind is = absurd (cc is)
 last_innermost (f ∷ frames) kind is =
     let rest = outer_of f frames in
@@ -121,7 +57,7 @@ front_same (f ∷ first) (s ∷ second) x y is =
     ap (λ z. z ∷ first) (head_same is) ∙ ap (λ list. s ∷ list) (front_same first second x y (tail_same is))
 
 -- The frames around the innermost of `depth` frames.
-pub outer_kinds : (list : List ℕ) (outer : List FrameKind) (kind : FrameKind) (depth : ℕ) → 0 < depth → depth ≤ length list →
+outer_kinds : (list : List ℕ) (outer : List FrameKind) (kind : FrameKind) (depth : ℕ) → 0 < depth → depth ≤ length list →
     kinds (take depth list) ≡ outer ++ kind ∷ [] → kinds (take (depth - 1) list) ≡ outer
 outer_kinds list outer kind zero some within is = absurd (omega (arith, some))
 outer_kinds list outer kind (suc n) some within is =
@@ -133,7 +69,7 @@ outer_kinds list outer kind (suc n) some within is =
     sub-one n = omega arith
 
 -- The frames after the innermost has become another.
-pub turned : (list : List ℕ) (outer : List FrameKind) (kind other : FrameKind) (depth byte : ℕ) → 0 < depth → depth ≤ length list →
+turned : (list : List ℕ) (outer : List FrameKind) (kind other : FrameKind) (depth byte : ℕ) → 0 < depth → depth ≤ length list →
     kinds (take depth list) ≡ outer ++ kind ∷ [] → kind_of byte ≡ other → kinds (take depth (set list (depth - 1) byte)) ≡ outer ++ other ∷ []
 turned list outer kind other zero byte some within is same = absurd (omega (arith, some))
 turned list outer kind other (suc n) byte some within is same =
@@ -156,3 +92,33 @@ innermost_taken list (suc n) some within =
     ap (λ m. Some (kind_of (get_or list m 0))) less ∙
     sym (ap (λ items. innermost (kinds items)) (next_taken list n (omega (arith, within))) ∙
     ap innermost (kinds_join (take n list) (get_or list n 0 ∷ [])) ∙ innermost_last (kinds (take n list)) (kind_of (get_or list n 0)))
+
+without_after : (first : FrameKind) (frames : List FrameKind) (kind : FrameKind) → without_innermost_in first (frames ++ kind ∷ []) ≡ first ∷ frames
+without_after first [] kind = refl
+without_after first (f ∷ frames) kind = ap (λ list. first ∷ list) (without_after f frames kind)
+
+without_last : (outer : List FrameKind) (kind : FrameKind) → without_innermost (outer ++ kind ∷ []) ≡ outer
+without_last [] kind = refl
+without_last (o ∷ outer) kind = without_after o outer kind
+
+-- The array after a change of its frames.
+pub opened_in : (list : List ℕ) (kind : FrameKind) (depth byte : ℕ) → depth < length list → kind_of byte ≡ kind →
+    kinds (take (depth + 1) (set list depth byte)) ≡ kinds (take depth list) ++ kind ∷ []
+opened_in list kind depth byte fits same =
+    let more : depth + 1 ≡ suc depth = omega arith in
+    ap (λ m. kinds (take m (set list depth byte))) more ∙ ap kinds (take_set list depth byte fits) ∙ kinds_join (take depth list) (byte ∷ []) ∙
+    ap (λ k. kinds (take depth list) ++ k ∷ []) same
+
+pub closed_in : (list : List ℕ) (depth : ℕ) → 0 < depth → depth ≤ length list → kinds (take (depth - 1) list) ≡ without_innermost (kinds (take depth list))
+closed_in list depth some within =
+    let kind : FrameKind = kind_of (get_or list (depth - 1) 0) in
+    let last = last_innermost (kinds (take depth list)) kind (sym (innermost_taken list depth some within)) in
+    outer_kinds list last.0 kind depth some within last.1 ∙ sym (ap without_innermost last.1 ∙ without_last last.0 kind)
+
+pub turned_in : (list : List ℕ) (kind : FrameKind) (depth byte : ℕ) → 0 < depth → depth ≤ length list → kind_of byte ≡ kind →
+    kinds (take depth (set list (depth - 1) byte)) ≡ without_innermost (kinds (take depth list)) ++ kind ∷ []
+turned_in list kind depth byte some within same =
+    let was : FrameKind = kind_of (get_or list (depth - 1) 0) in
+    let last = last_innermost (kinds (take depth list)) was (sym (innermost_taken list depth some within)) in
+    turned list last.0 was kind depth byte some within last.1 same ∙
+    ap (λ outer. outer ++ kind ∷ []) (sym (ap without_innermost last.1 ∙ without_last last.0 was))

@@ -5,25 +5,24 @@ use Rattle.wasm_operators.specs.below.bytes.message.Message.{Message}
 use Rattle.wasm_operators.specs.below.bytes.message.Message.TheVariants as message
 use Rattle.wasm_operators.specs.below.Source.{Reader, rest, offset_of, at_position, Takes}
 use Rattle.wasm_operators.specs.grammar.declared.frame_kind.FrameKind.{FrameKind}
-use Rattle.wasm_operators.specs.grammar.Frames.{frames_after, innermost}
-use Rattle.wasm_operators.specs.grammar.Role.{Role, plain, opens, opens_if, opens_try, turns_else, turns_catch, turns_catch_all, delegates, ends}
+use Rattle.wasm_operators.specs.grammar.declared.frame_change.FrameChange.{FrameChange}
+use Rattle.wasm_operators.specs.grammar.declared.frame_change.FrameChange.TheVariants as frame_change
+use Rattle.wasm_operators.specs.grammar.Frames.{Allows, change_of, frames_after, frames_changed, innermost, opened, OpensFrame}
 use Rattle.wasm_operators.specs.instr.declared.operator.Operator.{Operator}
 use Rattle.wasm_operators.specs.instr.Roles.{role_of}
 use Rattle.wasm_operators.specs.opcodes.Allowed.{EncodesAllowed}
 use Rattle.wasm_operators.specs.opcodes.Decoding.{RefusesOperator}
 use Rattle.wasm_operators.specs.opcodes.OperatorFaults.{OperatorFault}
-use Rattle.wasm_operators.specs.Openings.{opened_by_role}
+use Rattle.wasm_operators.specs.Openings.{opened_by}
 use Rattle.wasm_operators.specs.Next.{ListMayAllocate}
 use Rattle.wasm_operators.specs.Reading.{State, TakesOperator, StopsRead, StopsFinish}
-use Rattle.wasm_c.specs.declared.frames.FrameChange.{FrameChange}
 use Rattle.wasm_c.specs.declared.reader.WasmReader.{WasmReader}
-use Rattle.wasm_c.specs.Frames.{kinds, change_of, frames_changed, OpensFrame}
+use Rattle.wasm_c.specs.Frames.{kinds}
 use Rattle.wasm_view.specs.View.{view_of}
 use Rattle.wasm_view.specs.declared.view.WasmOperator.{WasmOperator}
 use Rattle.wasm_c.specs.declared.refusal.WasmRefusal.{WasmRefusal}
 use Rattle.wasm_c.specs.Refused.{refusal_of, refusal_at, misuse}
 use Rattle.wasm_c.specs.Steps.{IsReader, reader_at, reader_moved, state_at, FindsNoRoom, TakesPlain, StopsPlain, FinishesPlain}
-use Rattle.wasm_c.proofs.Stepped.{frames_stepped, last_innermost}
 
 is_memory : (m : Message) → (m ≡ message.OutOfMemory) ⊎ (m ≡ message.OutOfMemory → ⊥)
 is_memory message.OutOfMemory = inl refl
@@ -46,18 +45,16 @@ pub stops_outside : (e : Error) (bytes frames : List ℕ) (r : WasmReader) → r
     e.offset ≡ offset_of (reader_at bytes r) → StopsRead EncodesAllowed OperatorFault (ListMayAllocate EncodesAllowed) e (state_at bytes r frames)
 stops_outside e bytes frames r none is at = inl (ap (λ n. kinds (take n frames)) none, is, at)
 
--- An operator opens a frame if and only if it opens one in the array.
-pub opened_or_not : {A : Type 0} (role : Role A) →
-    (OpensFrame (change_of role) × (opened_by_role role ≡ 1)) ⊎ ((OpensFrame (change_of role) → ⊥) × (opened_by_role role ≡ 0))
-opened_or_not (plain a) = inr (λ h. h, refl)
-opened_or_not (opens nest a) = inl (tt, refl)
-opened_or_not (opens_if a) = inl (tt, refl)
-opened_or_not (opens_try a) = inl (tt, refl)
-opened_or_not turns_else = inr (λ h. h, refl)
-opened_or_not (turns_catch tag) = inr (λ h. h, refl)
-opened_or_not turns_catch_all = inr (λ h. h, refl)
-opened_or_not (delegates depth) = inr (λ h. h, refl)
-opened_or_not ends = inr (λ h. h, refl)
+opened_one : (c : FrameChange) → OpensFrame c → opened c ≡ 1
+opened_one (frame_change.Opens kind) h = refl
+opened_one frame_change.Stays h = absurd h
+opened_one (frame_change.Turns kind) h = absurd h
+opened_one frame_change.Closes h = absurd h
+
+-- The clause of the law `frame_changes` about frames.
+abbrev pub FramesFollow : Type 0
+FramesFollow = (op : Operator) (frames : List FrameKind) (kind : FrameKind) → innermost frames ≡ Some kind → Allows kind (role_of op) →
+    frames_after frames (role_of op) ≡ Some (frames_changed frames (change_of (role_of op)))
 
 pub kinds_length : (list : List ℕ) (n : ℕ) → n ≤ length list → length (kinds (take n list)) ≡ n
 kinds_length list zero within = refl
@@ -74,33 +71,27 @@ within_taken r ahead text takes within =
     let sum : length (rest r) ≡ length text + length (rest ahead) = ap length takes.parts ∙ length-append text (rest ahead) in
     omega (arith, place, sum, within, length-drop r.position r.buffer)
 
--- An operator that the innermost frame allows, and its effect on the frames.
-pub takes_inside : (bytes : List ℕ) (old new : WasmReader) (frames_old frames_new : List ℕ) (ahead : Reader) (kind : FrameKind) (op : Operator) (text : List ℕ)
+-- An operator that the innermost frame allows, and what it does to the frames.
+pub takes_inside : FramesFollow → (bytes : List ℕ) (old new : WasmReader) (frames_old frames_new : List ℕ) (ahead : Reader) (kind : FrameKind) (op : Operator) (text : List ℕ)
     (change : FrameChange) → 0 < old.depth → old.depth ≤ length frames_old → innermost (kinds (take old.depth frames_old)) ≡ Some kind →
     EncodesAllowed (reader_at bytes old).features kind text op → Takes (reader_at bytes old) ahead text → change ≡ change_of (role_of op) →
-    ((outer : List FrameKind) (k : FrameKind) → kinds (take old.depth frames_old) ≡ outer ++ k ∷ [] → kinds (take new.depth frames_new) ≡ frames_changed outer k change) →
-    new.depth ≤ length frames_old → new.depth ≤ old.depth + 1 → ((OpensFrame change → ⊥) → new.depth ≤ old.depth) →
+    kinds (take new.depth frames_new) ≡ frames_changed (kinds (take old.depth frames_old)) change →
+    new.depth ≤ length frames_old → new.depth ≤ old.depth + opened change →
     length frames_new ≡ length frames_old → reader_at bytes new ≡ ahead →
     TakesOperator EncodesAllowed op (state_at bytes old frames_old) (state_at bytes new frames_new)
-takes_inside bytes old new frames_old frames_new ahead kind op text change some within inside encodes takes is changed fits most others same occurs =
-    let last = last_innermost (kinds (take old.depth frames_old)) kind inside in
-    let later : kinds (take new.depth frames_new) ≡ frames_changed last.0 kind (change_of (role_of op)) =
-    changed last.0 kind last.1 ∙ ap (frames_changed last.0 kind) is in
+takes_inside follow bytes old new frames_old frames_new ahead kind op text change some within inside encodes takes is changed fits most same occurs =
+    let were = kinds (take old.depth frames_old) in
     let before : length (kinds (take old.depth frames_old)) ≡ old.depth = kinds_length frames_old old.depth within in
     let after : length (kinds (take new.depth frames_new)) ≡ new.depth = kinds_length frames_new new.depth (omega (arith, fits, same)) in
+    let opening : opened change ≡ opened_by op = ap opened is in
     record {
       kind = kind;
       open_frame = inside;
       text = text;
       encodes = encodes;
       takes = subst (λ r. Takes (reader_at bytes old) r text) (sym occurs) takes;
-      frames = ap (λ frames. frames_after frames (role_of op)) last.1 ∙ frames_stepped last.0 kind (role_of op) encodes.1 ∙ ap Some (sym later);
-      room = elim (opened_or_not (role_of op)) [
-        | inl it ↦ omega (arith, it.1, some, within, fits, most, same)
-        | inr stays ↦
-            let fewer : new.depth ≤ old.depth = others (λ h. stays.0 (subst OpensFrame is h)) in
-            omega (arith, stays.1, fewer, fits, same)
-      ];
+      frames = follow op were kind inside encodes.1 ∙ ap Some (ap (frames_changed were) (sym is) ∙ sym changed);
+      room = omega (arith, opening, some, within, fits, most, same);
       memory = omega (arith, before, after, some, within, fits, same);
       kept = omega (arith, before, after, some, within, fits, same);
     }
@@ -110,7 +101,7 @@ pub finds_no_room : (bytes : List ℕ) (r : WasmReader) (frames : List ℕ) (ahe
     (change : FrameChange) → innermost (kinds (take r.depth frames)) ≡ Some kind → EncodesAllowed (reader_at bytes r).features kind text op →
     Takes (reader_at bytes r) ahead text → change ≡ change_of (role_of op) → OpensFrame change → r.depth ≡ length frames →
     FindsNoRoom (state_at bytes r frames)
-finds_no_room bytes r frames ahead kind op text change inside encodes takes is opened full = record {
+finds_no_room bytes r frames ahead kind op text change inside encodes takes is opens full = record {
   kind = kind;
   open_frame = inside;
   op = op;
@@ -118,7 +109,7 @@ finds_no_room bytes r frames ahead kind op text change inside encodes takes is o
   more = rest ahead;
   encodes = encodes;
   there = takes.parts;
-  opens = elim (opened_or_not (role_of op)) [ inl it ↦ it.1 | inr stays ↦ absurd (stays.0 (subst OpensFrame is opened)) ];
+  opens = ap opened (sym is) ∙ opened_one change opens;
   full = omega (arith, full);
 }
 
@@ -143,14 +134,14 @@ reader_after_plain bytes old new start ahead kind view change same viewed moved 
     sym (reader_after bytes old new ahead v.1 v.3 moved offset features)
 
 -- An operator that is read.
-pub takes_plain : (bytes : List ℕ) (old new : WasmReader) (frames_old frames_new : List ℕ) (start ahead : Reader) (kind : FrameKind) (view : WasmOperator)
+pub takes_plain : FramesFollow → (bytes : List ℕ) (old new : WasmReader) (frames_old frames_new : List ℕ) (start ahead : Reader) (kind : FrameKind) (view : WasmOperator)
     (change : FrameChange) → IsReader bytes (length frames_old) old → start ≡ reader_at bytes old → Viewed start kind ahead view change → 0 < old.depth →
     innermost (kinds (take old.depth frames_old)) ≡ Some kind →
-    ((outer : List FrameKind) (k : FrameKind) → kinds (take old.depth frames_old) ≡ outer ++ k ∷ [] → kinds (take new.depth frames_new) ≡ frames_changed outer k change) →
-    new.depth ≤ length frames_old → new.depth ≤ old.depth + 1 → ((OpensFrame change → ⊥) → new.depth ≤ old.depth) →
+    kinds (take new.depth frames_new) ≡ frames_changed (kinds (take old.depth frames_old)) change →
+    new.depth ≤ length frames_old → new.depth ≤ old.depth + opened change →
     length frames_new ≡ length frames_old → new.position ≡ ahead.position → new.offset ≡ old.offset → new.features ≡ old.features →
     new ≡ reader_moved old new.position new.depth → TakesPlain bytes old new frames_old frames_new view
-takes_plain bytes old new frames_old frames_new start ahead kind view change was same viewed some inside changed fits most others room moved offset features
+takes_plain follow bytes old new frames_old frames_new start ahead kind view change was same viewed some inside changed fits most room moved offset features
     pinned =
     let v = subst (λ r. Viewed r kind ahead view change) same viewed in
     let r = reader_at bytes old in
@@ -159,7 +150,7 @@ takes_plain bytes old new frames_old frames_new start ahead kind view change was
     record {
       op = v.0;
       was = was;
-      takes = takes_inside bytes old new frames_old frames_new ahead kind v.0 v.1 change some was.depth inside v.2 v.3 v.5 changed fits most others room
+      takes = takes_inside follow bytes old new frames_old frames_new ahead kind v.0 v.1 change some was.depth inside v.2 v.3 v.5 changed fits most room
           occurs;
       view_is = v.4;
       still = record {

@@ -1,6 +1,7 @@
 //! Readers of operators as C structs, with the open frames in an array.
 ghost use Rattle.std.specs.Prelude.{◌≡◌, ◌≤◌, length, IfSome, IfNone, IfOk, IfErr, List, ℕ};
 ghost use Rattle.wasm_operators.specs.below.Source.{reader_of, offset_of, Takes};
+ghost use Rattle.wasm_operators.specs.grammar.Frames.{change_of};
 ghost use Rattle.wasm_operators.specs.instr.declared.operator.Operator.{Operator};
 ghost use Rattle.wasm_operators.specs.instr.Roles.{role_of};
 ghost use Rattle.wasm_operators.specs.opcodes.Allowed.{EncodesAllowed};
@@ -8,14 +9,13 @@ ghost use Rattle.wasm_operators.specs.opcodes.Decoding.{RefusesOperator};
 ghost use Rattle.wasm_operators.specs.opcodes.OperatorFaults.{OperatorFault};
 ghost use Rattle.wasm_view.specs.View.{view_of};
 ghost use Rattle.wasm_operators.specs.Locals.{ReadsPastLocals};
-ghost use Rattle.wasm_c.specs.Frames.{change_of};
 ghost use Rattle.wasm_c.specs.Reads.{IsWithin};
 ghost use Rattle.wasm_c.specs.Refused.{refusal_of};
 ghost use Rattle.wasm_c.specs.Steps.{IsReader, reader_at, StepsPlain, ReadsPlain, ReadsBatch, FinishesPlain, OpensExpression, OpensPlain, fresh_reader, IsBeforeSimd, unexpected_simd, RefusesSimd};
 ghost use Rattle.wasm_c.specs.Values.{ReturnsValue};
 
 use crate::features::known_features;
-use crate::frames::{BLOCK, FrameChange, change_frames, innermost};
+use crate::frames::{BLOCK, change_frames, innermost};
 use crate::refusal::{
     NO_ROOM, NO_VALUE_KIND, NOT_A_READER, PAST_OFFSETS, UNKNOWN_FEATURES, WasmRefusal,
 };
@@ -26,6 +26,7 @@ use crate::viewer::Viewer;
 use std::alloc::Global;
 use wasm_operators::{
     BinaryReader, Error, FrameKind, FunctionBody, Message, ReadSimdVisits, Result, WasmFeatures,
+    operator_laws,
 };
 use wasm_view::WasmOperator;
 
@@ -115,6 +116,7 @@ impl WasmReader {
         }
         match view_operator(alloc, ahead, innermost(depth, frames), viewer) {
             Ok(()) => {
+                operator_laws::frame_changes();
                 if viewer.change.opens() && depth == frames.len() {
                     return Err(WasmRefusal::misuse(NO_ROOM, offset));
                 }

@@ -1,12 +1,13 @@
 //! The visitor that makes the C struct of an operator, and finds its effect on the frames.
 ghost use Rattle.std.specs.Prelude.{◌≡◌};
 ghost use Rattle.wasm_operators.specs.grammar.declared.frame_kind.FrameKind.{FrameKind};
+ghost use Rattle.wasm_operators.specs.grammar.Frames.{change_of};
 ghost use Rattle.wasm_operators.specs.instr.Roles.{role_of};
 ghost use Rattle.wasm_view.specs.View.{view_of};
-ghost use Rattle.wasm_c.specs.Frames.{change_of};
 
-use crate::frames::{FrameChange, change_of};
-use wasm_operators::{BrTable, ByAny, FrameKind, FrameStack, Operator, VisitOperator, Visitor};
+use wasm_operators::{
+    BrTable, ByAny, FrameChange, FrameKind, FrameStack, Operator, VisitOperator, Visitor,
+};
 use wasm_view::{WasmOperator, view_of};
 
 /// The innermost frame, the offset of the next operator, and what was found of the visited
@@ -56,7 +57,7 @@ impl Visitor for Viewer {
     #[inline(always)]
     fn visit_any(&mut self, op: Operator<'static>) {
         self.view = view_of(&op, self.offset);
-        self.change = change_of(&op);
+        self.change = op.frame_change();
     }
 }
 

@@ -1,9 +1,10 @@
-use Rattle.std.proofs.Common.{◌≡◌, ◌≢◌, ℕ, ◌+◌, ◌-◌, ◌<◌, ◌≤◌, Bool, true, false, cond, List, [], ◌∷◌, ◌++◌, length, Option, Ok, Err, refl, sym, subst, ap, ◌∙◌, append_assoc, append-nil, length-append, arith}
-use Rattle.std.specs.Prelude.{slice_index}
+use Rattle.std.proofs.Common.{◌≡◌, ◌≢◌, ℕ, ◌+◌, ◌-◌, ◌<◌, ◌≤◌, List, [], ◌∷◌, ◌++◌, length, Option, Ok, Err, refl, sym, subst, ap, ◌∙◌, append_assoc, append-nil, length-append, arith}
 use Rattle.std.specs.Io.KnownBytes.{Appends}
 use Rattle.wasm_operators.specs.below.bytes.error.Error.{Error}
 use Rattle.wasm_operators.specs.below.bytes.message.Message.TheVariants as message
 use Rattle.wasm_operators.specs.below.Source.{Reader, rest, offset_of, source_of}
+use Rattle.wasm_operators.specs.grammar.declared.frame_change.FrameChange.{FrameChange}
+use Rattle.wasm_operators.specs.grammar.declared.frame_change.FrameChange.TheVariants as change
 use Rattle.wasm_operators.specs.instr.declared.operator.Operator.{Operator}
 use Rattle.wasm_operators.specs.opcodes.Allowed.{EncodesAllowed}
 use Rattle.wasm_operators.specs.opcodes.OperatorFaults.{OperatorFault}
@@ -12,7 +13,7 @@ use Rattle.wasm_operators.specs.MainTheorem.{ReadsTree, ReadsBeginning}
 use Rattle.wasm_operators.specs.Laws.{TakesNone, TakesOneMore, TakesBytes}
 use Rattle.wasm_operators.specs.Reading.{State, IsFresh, Anywhere, TakesOperator, TakesOperators}
 use Rattle.wasm_lines.specs.Rows.{line_of}
-use Rattle.wasm_lines.specs.Lines.{opens, closes, depth_of, depth_after, between, next_offset, lines_from, lines_of}
+use Rattle.wasm_lines.specs.Lines.{change_in, depth_of, depth_after, between, next_offset, lines_from, lines_of}
 use Rattle.wasm_disassembly.specs.declared.fault.DisassemblyFault.TheVariants as fault
 use Rattle.wasm_disassembly.specs.Disassembly.{called_text, ListsOperators}
 use Rattle.wasm_disassembly.proofs.Written.{appends_none, appends_both}
@@ -39,22 +40,23 @@ listed_none names start bytes opened before first = record {
   few = omega arith;
 }
 
-one_deeper : (b c : Bool) (n : ℕ) → cond b (n + 1) (cond c (n - 1) n) ≤ n + 1
-one_deeper true c n = omega arith
-one_deeper false true n = omega arith
-one_deeper false false n = omega arith
+one_deeper : (c : FrameChange) (n : ℕ) → depth_after c n ≤ n + 1
+one_deeper (change.Opens kind) n = omega arith
+one_deeper change.Closes n = omega arith
+one_deeper change.Stays n = omega arith
+one_deeper (change.Turns kind) n = omega arith
 
 pub listed_more : (names : List (List ℕ)) (start depth deeper at : ℕ) (bytes shown : List ℕ) (opened mid new : State) (before between_lines after : Option (List ℕ)) (op : Operator) →
     TakesOneMore → TakesBytes → AreListed names start bytes opened mid depth before between_lines → TakesOperator EncodesAllowed op mid new →
     at ≡ offset_of mid.reader → shown ≡ between start bytes at (offset_of new.reader) →
-    Appends between_lines after (line_of (depth_of (slice_index shown 0) depth) at shown (called_text names op)) → deeper ≡ depth_after (slice_index shown 0) depth →
+    Appends between_lines after (line_of (depth_of (change_in shown) depth) at shown (called_text names op)) → deeper ≡ depth_after (change_in shown) depth →
     AreListed names start bytes opened new deeper before after
 listed_more names start depth deeper at bytes shown opened mid new before between_lines after op next_law progresses l takes occurs shows wrote goes =
     let p : Operator × ℕ = (op, offset_of mid.reader) in
-    let code = slice_index shown 0 in
-    let line : List ℕ = line_of (depth_of code depth) at shown (called_text names op) in
+    let c = change_in shown in
+    let line : List ℕ = line_of (depth_of c depth) at shown (called_text names op) in
     let on = progresses op mid new takes in
-    let most = one_deeper (opens code) (closes code) depth in
+    let most = one_deeper c depth in
     record {
       placed = l.placed ++ p ∷ [];
       ran = next_law opened mid new l.placed op l.ran takes;
@@ -64,10 +66,10 @@ listed_more names start depth deeper at bytes shown opened mid new before betwee
           let here : shown ≡ between start bytes (offset_of mid.reader) (next_offset end more) =
           shows ∙ ap (λ n. between start bytes n (offset_of new.reader)) occurs ∙ ap (λ n. between start bytes (offset_of mid.reader) n) (sym follows) in
           ap (lines_of (called_text names) start bytes end) (append_assoc l.placed (p ∷ []) more) ∙ l.after end (p ∷ more) refl ∙
-          ap (λ t. l.written ++ (line_of (depth_of (slice_index t 0) depth) (offset_of mid.reader) t (called_text names op) ++
-          lines_from (called_text names) start bytes end (depth_after (slice_index t 0) depth) more)) (sym here) ∙
-          ap (λ n. l.written ++ (line_of (depth_of code depth) n shown (called_text names op) ++
-          lines_from (called_text names) start bytes end (depth_after code depth) more)) (sym occurs) ∙
+          ap (λ t. l.written ++ (line_of (depth_of (change_in t) depth) (offset_of mid.reader) t (called_text names op) ++
+          lines_from (called_text names) start bytes end (depth_after (change_in t) depth) more)) (sym here) ∙
+          ap (λ n. l.written ++ (line_of (depth_of c depth) n shown (called_text names op) ++
+          lines_from (called_text names) start bytes end (depth_after c depth) more)) (sym occurs) ∙
           ap (λ d. l.written ++ (line ++ lines_from (called_text names) start bytes end d more)) (sym goes) ∙
           sym (append_assoc l.written line (lines_from (called_text names) start bytes end deeper more));
       few = let f = l.few in omega (arith, f, on, most, goes);

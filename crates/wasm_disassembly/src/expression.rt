@@ -1,9 +1,9 @@
-ghost use Rattle.std.specs.Prelude.{◌≡◌, ◌+◌, ◌^◌, ◌<◌, IfErr, IfOk, OnOk, length, map, slice_index, string_bytes};
+ghost use Rattle.std.specs.Prelude.{◌≡◌, ◌+◌, ◌^◌, ◌<◌, IfErr, IfOk, OnOk, length, map, string_bytes};
 ghost use Rattle.std.specs.Io.KnownBytes.{Appends};
 ghost use Rattle.wasm_operators.specs.below.Source.{source_of};
 ghost use Rattle.wasm_operators.specs.Expression.{Placed, EncodesExpression};
 ghost use Rattle.wasm_lines.specs.Rows.{line_of};
-ghost use Rattle.wasm_lines.specs.Lines.{depth_of, depth_after};
+ghost use Rattle.wasm_lines.specs.Lines.{change_in, depth_of, depth_after};
 ghost use Rattle.wasm_disassembly.specs.Disassembly.{callee_of, called_text, name_of, ListsOperators};
 ghost use Rattle.wasm_disassembly.specs.Faults.{IsHalt};
 
@@ -47,8 +47,8 @@ fn write_operator<W: Write>(
     requires fits { offset + length bytes.now < 2 ^ 64 }
     requires deep { depth + 1 < 2 ^ 64 }
     ensures lines { OnOk result (Appends (W.contents writer.old) (W.contents writer.new)
-        (line_of (depth_of (slice_index bytes.now 0) depth) offset bytes.now (called_text (map string_bytes names.now) op.entry))) }
-    ensures after { IfOk result (λ after. after ≡ depth_after (slice_index bytes.now 0) depth) }
+        (line_of (depth_of (change_in bytes.now) depth) offset bytes.now (called_text (map string_bytes names.now) op.entry))) }
+    ensures after { IfOk result (λ after. after ≡ depth_after (change_in bytes.now) depth) }
     ensures halts { IfErr result (λ fault. IsHalt fault) }
 {
     line.clear();

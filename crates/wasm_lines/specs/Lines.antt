@@ -1,6 +1,9 @@
 -- The form is that of `wasm-objdump -d` of wabt. Specification: Binary Format, Control
 -- Instructions. Proposal legacy exception handling.
-use Rattle.std.specs.Prelude.{◌==◌, ◌||◌, ℕ, ◌+◌, ◌-◌, Bool, List, [], ◌∷◌, ◌++◌, take, drop, slice_index, codes, decimal, if◌then◌else◌}
+use Rattle.std.specs.Prelude.{◌==◌, ℕ, ◌+◌, ◌-◌, List, [], ◌∷◌, ◌++◌, take, drop, slice_index, codes, decimal, if◌then◌else◌}
+use Rattle.wasm_text.specs.instr.grammar.declared.frame_change.FrameChange.{FrameChange}
+use Rattle.wasm_text.specs.instr.grammar.declared.frame_change.FrameChange.TheVariants as change
+use Rattle.wasm_text.specs.instr.Roles.{change_at}
 use Rattle.wasm_lines.specs.Rows.{offset_text, line_of}
 
 -- A name in angle brackets; nothing if it is empty.
@@ -19,26 +22,22 @@ shown_indices first number =
     then codes "local[" ++ (decimal first ++ codes "] type=")
     else codes "local[" ++ (decimal first ++ (codes ".." ++ (decimal (first + number - 1) ++ codes "] type=")))
 
--- The opcode of `else`, `catch`, `end`, `delegate` or `catch_all`, which is indented like its
--- opener.
-abbrev pub is_outside : ℕ → Bool
-is_outside opcode = opcode == 0x05 || (opcode == 0x07 || (opcode == 0x0b || (opcode == 0x18 || opcode == 0x19)))
+-- What the operator with these bytes does to the frames.
+abbrev pub change_in : List ℕ → FrameChange
+change_in bytes = change_at (slice_index bytes 0)
 
--- The opcode of `block`, `loop`, `if`, `try` or `try_table`.
-abbrev pub opens : ℕ → Bool
-opens opcode = opcode == 0x02 || (opcode == 0x03 || (opcode == 0x04 || (opcode == 0x06 || opcode == 0x1f)))
-
--- The opcode of `end` or `delegate`.
-abbrev pub closes : ℕ → Bool
-closes opcode = opcode == 0x0b || opcode == 0x18
-
--- How many levels a line is indented, if `depth` constructs are open before it.
-abbrev pub depth_of : ℕ → ℕ → ℕ
-depth_of opcode depth = if is_outside opcode then depth - 1 else depth
+-- How many levels a line is indented, if `depth` constructs are open before it. A line that turns or
+-- closes a construct is indented like its opener.
+abbrev pub depth_of : FrameChange → ℕ → ℕ
+depth_of (change.Turns kind) depth = depth - 1
+depth_of change.Closes depth = depth - 1
+depth_of _ depth = depth
 
 -- How many constructs are open after an operator, if `depth` are open before it.
-abbrev pub depth_after : ℕ → ℕ → ℕ
-depth_after opcode depth = if opens opcode then depth + 1 else (if closes opcode then depth - 1 else depth)
+abbrev pub depth_after : FrameChange → ℕ → ℕ
+depth_after (change.Opens kind) depth = depth + 1
+depth_after change.Closes depth = depth - 1
+depth_after _ depth = depth
 
 -- The bytes from one offset to another; the first byte is at `start`.
 abbrev pub between : ℕ → List ℕ → ℕ → ℕ → List ℕ
@@ -55,7 +54,7 @@ abbrev pub lines_from : {Op : Type 0} → (Op → List ℕ) → ℕ → List ℕ
 lines_from text start bytes end depth [] = []
 lines_from text start bytes end depth (p ∷ ps) =
     let shown = between start bytes p.1 (next_offset end ps) in
-    line_of (depth_of (slice_index shown 0) depth) p.1 shown (text p.0) ++ lines_from text start bytes end (depth_after (slice_index shown 0) depth) ps
+    line_of (depth_of (change_in shown) depth) p.1 shown (text p.0) ++ lines_from text start bytes end (depth_after (change_in shown) depth) ps
 
 abbrev pub lines_of : {Op : Type 0} → (Op → List ℕ) → ℕ → List ℕ → ℕ → List (Op × ℕ) → List ℕ
 lines_of text start bytes end placed = lines_from text start bytes end 0 placed

@@ -1,57 +1,34 @@
 ghost use Rattle.std.specs.Prelude.{◌≡◌, ◌++◌, ◌+◌, ◌^◌, ◌<◌, OnOk, IfOk, string_bytes, length, slice_index};
 ghost use Rattle.wasm_lines.specs.Rows.{line_of};
-ghost use Rattle.wasm_lines.specs.Lines.{shown_name, is_outside, opens, closes, depth_of, depth_after, between};
+ghost use Rattle.wasm_lines.specs.Lines.{shown_name, change_in, depth_of, depth_after, between};
 ghost use Rattle.wasm_text.specs.Operands.{text_of};
 
 use crate::function::write_name;
 use crate::rows::{begin_line, end_line};
 use std::alloc::AllocError;
 use wasm_text::instr::Operator;
+use wasm_text::instr::grammar::{FrameChange, frame_change_at};
 use wasm_text::write_operator;
 
-/// Returns whether this opcode is indented like its opener.
-fn is_outside(opcode: u8) -> bool
-    ensures { result ≡ is_outside opcode }
-{
-    opcode == 0x05 || opcode == 0x07 || opcode == 0x0b || opcode == 0x18 || opcode == 0x19
-}
-
-/// Returns whether this opcode opens a construct.
-fn opens(opcode: u8) -> bool
-    ensures { result ≡ opens opcode }
-{
-    opcode == 0x02 || opcode == 0x03 || opcode == 0x04 || opcode == 0x06 || opcode == 0x1f
-}
-
-/// Returns whether this opcode closes a construct.
-fn closes(opcode: u8) -> bool
-    ensures { result ≡ closes opcode }
-{
-    opcode == 0x0b || opcode == 0x18
-}
-
 /// Returns how deep an operator's line is indented.
-fn depth_of(opcode: u8, depth: usize) -> usize
-    ensures { result ≡ depth_of opcode depth }
+fn depth_of(change: FrameChange, depth: usize) -> usize
+    ensures { result ≡ depth_of change depth }
 {
-    if is_outside(opcode) {
-        depth.saturating_sub(1)
-    } else {
-        depth
+    match change {
+        FrameChange::Turns(_) | FrameChange::Closes => depth.saturating_sub(1),
+        FrameChange::Stays | FrameChange::Opens(_) => depth,
     }
 }
 
 /// Returns how many constructs are open after an operator.
-fn depth_after(opcode: u8, depth: usize) -> usize
+fn depth_after(change: FrameChange, depth: usize) -> usize
     requires { depth + 1 < 2 ^ 64 }
-    ensures { result ≡ depth_after opcode depth }
+    ensures { result ≡ depth_after change depth }
 {
-    if opens(opcode) {
-        depth + 1
-    } else if closes(opcode) {
-        depth.saturating_sub(1)
-    } else {
-        depth
+    match change {
+        FrameChange::Opens(_) => depth + 1,
+        FrameChange::Closes => depth.saturating_sub(1),
+        FrameChange::Stays | FrameChange::Turns(_) => depth,
     }
 }
 
@@ -95,13 +72,13 @@ pub fn write_line(
     requires fits { offset + length bytes.now < 2 ^ 64 }
     requires deep { depth + 1 < 2 ^ 64 }
     ensures lines { OnOk result (string_bytes out.new ≡ string_bytes out.old
-        ++ line_of (depth_of (slice_index bytes.now 0) depth) offset bytes.now (text_of op.now ++ shown_name callee.now)) }
-    ensures after { IfOk result (λ after. after ≡ depth_after (slice_index bytes.now 0) depth) }
+        ++ line_of (depth_of (change_in bytes.now) depth) offset bytes.now (text_of op.now ++ shown_name callee.now)) }
+    ensures after { IfOk result (λ after. after ≡ depth_after (change_in bytes.now) depth) }
 {
-    let opcode = opcode_of(bytes);
-    begin_line(out, depth_of(opcode, depth), offset, bytes)?;
+    let change = frame_change_at(opcode_of(bytes));
+    begin_line(out, depth_of(change, depth), offset, bytes)?;
     write_operator(out, op)?;
     write_name(out, callee)?;
     end_line(out, offset, bytes)?;
-    Ok(depth_after(opcode, depth))
+    Ok(depth_after(change, depth))
 }

@@ -6,7 +6,7 @@ use Rattle.wasm_operators_readers.specs.below.bytes.message.Message.TheVariants 
 use Rattle.wasm_operators_readers.specs.below.Source.{Reader, rest, offset_of, end_of, Takes, NoPrefix, IsAhead, BeginsWith}
 use Rattle.wasm_operators_readers.specs.grammar.declared.frame_kind.FrameKind.TheVariants as frame
 use Rattle.wasm_operators_readers.specs.grammar.Frames.{frames_after, frames_along, without_innermost}
-use Rattle.wasm_operators_readers.proofs.of_grammar.Innermost.{steps_ends}
+use Rattle.wasm_operators_readers.proofs.of_grammar.Innermost.{frames_follow}
 use Rattle.wasm_operators_readers.proofs.of_grammar.Runs.{IsSome_of, walk_runs_out}
 use Rattle.wasm_operators_readers.specs.instr.declared.operator.Operator.{Operator}
 use Rattle.wasm_operators_readers.specs.instr.declared.operator.Operator.TheVariants as operator
@@ -53,7 +53,7 @@ none_follows s t placed more fresh r no_end stuck text left x encodes eq =
 
 pub after_end : (t u : State) → TakesOperator EncodesAllowed operator.End t u → u.frames ≡ without_innermost t.frames
 after_end t u k =
-    go (sym k.frames ∙ steps_ends t.frames (role_of operator.End) refl (IsSome_of (frames_after t.frames (role_of operator.End)) u.frames k.frames))
+    go (sym k.frames ∙ frames_follow t.frames (role_of operator.End) (IsSome_of (frames_after t.frames (role_of operator.End)) u.frames k.frames))
   where
     go : Some u.frames ≡ Some (without_innermost t.frames) → u.frames ≡ without_innermost t.frames
     go e = cc e

@@ -3,7 +3,6 @@ pub use Rattle.wasm_operators_readers.specs.Flat
 pub use Rattle.wasm_operators_readers.specs.Openings
 pub use Rattle.wasm_operators_readers.specs.Visiting
 pub use Rattle.wasm_operators_readers.specs.Stack
-pub use Rattle.wasm_operators_readers.specs.Step
 pub use Rattle.wasm_operators_readers.specs.Reading
 pub use Rattle.wasm_operators_readers.specs.MainTheorem
 pub use Rattle.wasm_operators_readers.specs.Next

@@ -5,10 +5,10 @@ use Rattle.wasm_decode.specs.below.bytes.message.Message.TheVariants as message
 use Rattle.wasm_decode.specs.below.Source.{Reader, rest, at_position, BeginsWith, Reads, IsByte}
 use Rattle.wasm_decode.proofs.of_below.TakesLemmas.{first_byte_read}
 use Rattle.wasm_decode.specs.grammar.declared.frame_kind.FrameKind.{FrameKind}
-use Rattle.wasm_decode.specs.grammar.Frames.{innermost}
-use Rattle.wasm_operators_readers.specs.declared.step.FrameStep.{FrameStep}
+use Rattle.wasm_decode.specs.grammar.declared.frame_change.FrameChange.{FrameChange}
+use Rattle.wasm_decode.specs.grammar.Frames.{innermost, OpensFrame}
+use Rattle.wasm_decode.specs.instr.Roles.{change_at}
 use Rattle.wasm_operators_readers.specs.Stack.{OpenFrames, frame_memory}
-use Rattle.wasm_operators_readers.specs.Step.{step_at, Opens}
 use Rattle.wasm_operators_readers.proofs.FrameMemory.{memory_stays, as_little}
 use Rattle.wasm_operators_readers.specs.Reading.{Taking, Refusing}
 use Rattle.wasm_operators_readers.specs.Next.{StopsNext, state_of}
@@ -21,14 +21,14 @@ back_to old mid code start reads same =
     let f = first_byte_read old mid code reads in
     (h.1.begun, h.0, (rest mid, f.2.parts))
 
-pub begun_without_room : (Encodes : Taking) (Fault : Refusing) (old mid new : Reader) (s t : OpenFrames) (kind : FrameKind) (code start : ℕ) (f : FrameStep) (e : Error) →
-    innermost s.frames ≡ Some kind → Reads IsByte (Ok code) old mid → start ≡ old.position → f ≡ step_at code → Opens f → s.room ≡ 0 → t ≡ s → new ≡ at_position mid start →
+pub begun_without_room : (Encodes : Taking) (Fault : Refusing) (old mid new : Reader) (s t : OpenFrames) (kind : FrameKind) (code start : ℕ) (c : FrameChange) (e : Error) →
+    innermost s.frames ≡ Some kind → Reads IsByte (Ok code) old mid → start ≡ old.position → c ≡ change_at code → OpensFrame c → s.room ≡ 0 → t ≡ s → new ≡ at_position mid start →
     e.message ≡ message.OutOfMemory → e.offset ≡ mid.start + start → StopsNext Encodes Fault e (state_of old s) (state_of new t)
-begun_without_room Encodes Fault old mid new s t kind code start f e open_frame reads same step opens none stays went is at =
+begun_without_room Encodes Fault old mid new s t kind code start c e open_frame reads same changes opens none stays went is at =
     let b = back_to old mid code start reads same in
     let begin : mid.start ≡ old.start = ap (λ (r : Reader). r.start) b.1 in
     let room : s.room ≤ t.room = subst (λ (x : OpenFrames). s.room ≤ x.room) (sym stays) (omega arith) in
     room_refused Encodes Fault (state_of old s) (state_of new t) kind code e open_frame (went ∙ b.1) (ap (λ (x : OpenFrames). x.frames) stays) room
     (as_little (frame_memory s.frames s.room) (length s.frames) 10 (frame_memory s.frames s.room) (frame_memory t.frames t.room)
     (memory_stays (frame_memory s.frames s.room) (length s.frames) 10) (ap (λ (x : OpenFrames). frame_memory x.frames x.room) stays)) b.2
-    (subst Opens step opens) (ap (λ (x : OpenFrames). x.room) stays ∙ none) is (omega (arith, at, begin, same))
+    (subst OpensFrame changes opens) (ap (λ (x : OpenFrames). x.room) stays ∙ none) is (omega (arith, at, begin, same))

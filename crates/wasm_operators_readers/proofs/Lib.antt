@@ -8,8 +8,6 @@ pub mod VisitLemmas
 pub mod OpeningLemmas
 pub mod FrameMemory
 pub mod CollectedLemmas
-pub mod Roles
-pub mod Bytes
 pub mod Premises
 pub mod OneRead
 pub mod SameReads
@@ -17,7 +15,6 @@ pub mod Runs
 pub mod Ends
 pub mod Scalar
 pub mod Clauses
-pub mod StepLemmas
 pub mod Messages
 pub mod GuardedRefusals
 pub mod Offsets

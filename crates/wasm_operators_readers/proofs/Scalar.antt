@@ -24,7 +24,7 @@ use Rattle.wasm_operators_readers.specs.MainTheorem.{ReadSoFar, ClosesFrom}
 use Rattle.wasm_operators_readers.specs.Visiting.{is_vector, scalar_beginning, IsScalar}
 use Rattle.wasm_operators_readers.proofs.LayoutLemmas.{roles_of-append, operators-append, begins_walk, not_empty, laid_beginning, laid_goes_on, laid_no_longer, laid_same, one_longest, GoesOn, goes_allowed}
 use Rattle.wasm_operators_readers.proofs.OneRead.{is_memory}
-use Rattle.wasm_operators_readers.proofs.OpeningLemmas.{first_byte, begins_encoding}
+use Rattle.wasm_decode.proofs.of_instr.FirstBytes.{first_byte, begins_encoding}
 use Rattle.wasm_operators_readers.proofs.Premises.{AreEach, IsNoVector, Keeps, RefusesVectors}
 use Rattle.wasm_operators_readers.proofs.Runs.{features_stay, read_further, beginning_of_run, IsStuckFor, stuck_run}
 use Rattle.wasm_operators_readers.proofs.VisitLemmas.{no_vector_of, vector_of, scalar_begins, scalar_longest, scalar_none}

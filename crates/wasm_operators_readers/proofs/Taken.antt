@@ -1,57 +1,64 @@
 -- From the decoder's call after an opcode to one read of the reader of operators.
-use Rattle.std.proofs.Common.{◌≡◌, ℕ, ◌+◌, ◌≤◌, List, ◌++◌, length, Some, None, Ok, inl, inr, sym, subst, ap, ◌∙◌, arith}
+use Rattle.std.proofs.Common.{◌≡◌, ℕ, ◌+◌, ◌≤◌, List, ◌++◌, length, Some, None, Ok, inl, inr, refl, sym, subst, ap, ◌∙◌, arith}
 use Rattle.std.specs.Prelude.{IsSome}
 use Rattle.wasm_decode.specs.below.bytes.error.Error.{Error}
 use Rattle.wasm_decode.specs.below.bytes.features.WasmFeatures.{WasmFeatures}
 use Rattle.wasm_decode.specs.below.bytes.message.Message.TheVariants as message
 use Rattle.wasm_decode.specs.below.Source.{Reader, rest, offset_of, at_position, Takes, BeginsWith, Reads}
 use Rattle.wasm_decode.specs.grammar.declared.frame_kind.FrameKind.{FrameKind}
-use Rattle.wasm_decode.specs.grammar.Frames.{Allows, frames_after, innermost}
+use Rattle.wasm_decode.specs.grammar.Frames.{Allows, change_of, frames_changed, innermost, opened, OpensFrame}
+use Rattle.wasm_decode.proofs.of_grammar.Innermost.{may_follow}
 use Rattle.wasm_decode.specs.instr.declared.operator.Operator.{Operator}
 use Rattle.wasm_decode.specs.instr.Encoding.{EncodesOpcode}
-use Rattle.wasm_decode.specs.instr.Roles.{role_of}
+use Rattle.wasm_decode.specs.instr.Roles.{role_of, change_at}
+use Rattle.wasm_decode.proofs.of_instr.FirstBytes.{changes_there}
 use Rattle.wasm_decode.specs.opcodes.Decoding.{RefusesOperator, IsAfterCode}
 use Rattle.wasm_decode.specs.opcodes.Refused.{MayAllocate}
-use Rattle.wasm_operators_readers.specs.declared.step.FrameStep.{FrameStep}
-use Rattle.wasm_operators_readers.specs.Step.{step_of, role_of_step, step_at, Opens}
+use Rattle.wasm_operators_readers.specs.Openings.{opened_by}
 use Rattle.wasm_operators_readers.specs.Reading.{Taking, Refusing, State, GrowsLittle, IsUnchanged, TakesOperator, StopsRead}
 use Rattle.wasm_operators_readers.specs.Stack.{frame_memory}
 use Rattle.wasm_operators_readers.proofs.FrameMemory.{as_little}
 use Rattle.wasm_operators_readers.proofs.OneRead.{stops_read}
 use Rattle.wasm_operators_readers.proofs.Premises.{IsSound}
-use Rattle.wasm_operators_readers.proofs.StepLemmas.{step_allowed, step_there, took_operator, opens_leads}
 use Rattle.wasm_operators_readers.specs.Next.{NextMayAllocate, BeginsOperator}
 
-step_is : (Encodes : Taking) → IsSound Encodes → (f : WasmFeatures) (kind : FrameKind) (op : Operator) (text : List ℕ) (code start : ℕ) (mid new : Reader) →
-    IsAfterCode start None code mid → Encodes f kind text op → Takes (at_position mid start) new text → step_at code ≡ step_of (role_of op)
-step_is Encodes sound f kind op text code start mid new b encodes takes = go b.opcode
+abbrev pub TakesAllowed : Taking → Type 0
+TakesAllowed Encodes = (f : WasmFeatures) (kind : FrameKind) (text : List ℕ) (op : Operator) → Encodes f kind text op → Allows kind (role_of op)
+
+change_is : (Encodes : Taking) → IsSound Encodes → (f : WasmFeatures) (kind : FrameKind) (op : Operator) (text : List ℕ) (code start : ℕ) (mid new : Reader) →
+    IsAfterCode start None code mid → Encodes f kind text op → Takes (at_position mid start) new text → change_at code ≡ change_of (role_of op)
+change_is Encodes sound f kind op text code start mid new b encodes takes = go b.opcode
   where
-    go : Reads (λ text c. EncodesOpcode None c text) (Ok code) (at_position mid start) mid → step_at code ≡ step_of (role_of op)
+    go : Reads (λ text c. EncodesOpcode None c text) (Ok code) (at_position mid start) mid → change_at code ≡ change_of (role_of op)
     go (head, opcode, t) =
         let first : BeginsWith code (rest (at_position mid start)) = (rest mid, t.parts ∙ ap (λ z. z ++ rest mid) opcode) in
-        step_there f op text (rest new) (rest (at_position mid start)) code (sound f kind text op encodes) takes.parts first
+        changes_there f op text (rest new) (rest (at_position mid start)) code (sound f kind text op encodes) takes.parts first
 
-pub begun_allows : (Encodes : Taking) → IsSound Encodes → ((f : WasmFeatures) (kind : FrameKind) (text : List ℕ) (op : Operator) → Encodes f kind text op → Allows kind (role_of op)) →
-    (old mid : State) (kind : FrameKind) (code start : ℕ) (s : FrameStep) (op : Operator) (text : List ℕ) (new : Reader) → BeginsOperator old mid kind start code s →
-    Encodes mid.reader.features kind text op → Takes (at_position mid.reader start) new text → IsSome (frames_after mid.frames (role_of_step s))
-begun_allows Encodes sound allowed old mid kind code start s op text new b encodes takes =
-    step_allowed mid.frames kind op s (ap innermost b.frames ∙ b.open_frame) (allowed mid.reader.features kind text op encodes)
-    (b.step ∙ step_is Encodes sound mid.reader.features kind op text code start mid.reader new b.after encodes takes)
+pub begun_open : (old mid : State) (kind : FrameKind) (code start : ℕ) → BeginsOperator old mid kind start code → IsSome (innermost mid.frames)
+begun_open old mid kind code start b = subst IsSome (sym (ap innermost b.frames ∙ b.open_frame)) refl
 
-pub begun_took : (Encodes : Taking) → IsSound Encodes → (old mid new : State) (kind : FrameKind) (code start : ℕ) (s : FrameStep) (op : Operator) (text : List ℕ) →
-    BeginsOperator old mid kind start code s → Encodes mid.reader.features kind text op → Takes (at_position mid.reader start) new.reader text →
-    frames_after mid.frames (role_of_step s) ≡ Some new.frames → mid.room ≤ new.room + 1 → ((Opens s → ⊥) → mid.room ≤ new.room) →
+pub begun_took : (Encodes : Taking) → IsSound Encodes → TakesAllowed Encodes → (old mid new : State) (kind : FrameKind) (code start : ℕ) (op : Operator)
+    (text : List ℕ) → BeginsOperator old mid kind start code → Encodes mid.reader.features kind text op → Takes (at_position mid.reader start) new.reader text →
+    new.frames ≡ frames_changed mid.frames (change_at code) → mid.room ≤ new.room + opened (change_at code) →
     frame_memory new.frames new.room ≡ frame_memory mid.frames mid.room → TakesOperator Encodes op old new
-begun_took Encodes sound old mid new kind code start s op text b encodes takes frames used other same =
-    let is = b.step ∙ step_is Encodes sound mid.reader.features kind op text code start mid.reader new.reader b.after encodes takes in
+begun_took Encodes sound allowed old mid new kind code start op text b encodes takes frames used same =
+    let is = change_is Encodes sound mid.reader.features kind op text code start mid.reader new.reader b.after encodes takes in
     let kept = b.room in
     let here : Encodes old.reader.features kind text op = subst (λ (f : WasmFeatures). Encodes f kind text op) (ap (λ (r : Reader). r.features) b.back) encodes in
-    let taken : Takes old.reader new.reader text = subst (λ (r : Reader). Takes r new.reader text) b.back takes in
-    took_operator Encodes op old new kind text s b.open_frame here taken is
-    (ap (λ (fs : List FrameKind). frames_after fs (role_of_step s)) (sym b.frames) ∙ frames) (omega (arith, used, kept))
-    (λ none. let h = other none in omega (arith, h, kept))
-    (as_little (frame_memory old.frames old.room) (length old.frames) 10 (frame_memory mid.frames mid.room) (frame_memory new.frames new.room) b.memory same)
-    (let depth = ap length b.frames in omega (arith, kept, same, depth))
+    let changed : frames_changed old.frames (change_of (role_of op)) ≡ new.frames =
+    ap (frames_changed old.frames) (sym is) ∙ ap (λ (fs : List FrameKind). frames_changed fs (change_at code)) (sym b.frames) ∙ sym frames in
+    let opening : opened (change_at code) ≡ opened_by op = ap opened is in
+    record {
+      kind = kind;
+      open_frame = b.open_frame;
+      text = text;
+      encodes = here;
+      takes = subst (λ (r : Reader). Takes r new.reader text) b.back takes;
+      frames = may_follow old.frames kind (role_of op) b.open_frame (allowed old.reader.features kind text op here) ∙ ap Some changed;
+      room = omega (arith, used, kept, opening);
+      memory = as_little (frame_memory old.frames old.room) (length old.frames) 10 (frame_memory mid.frames mid.room) (frame_memory new.frames new.room) b.memory same;
+      kept = let depth = ap length b.frames in omega (arith, kept, same, depth);
+    }
 
 pub refused_unchanged : (Encodes : Taking) (Fault : Refusing) (old new : State) (kind : FrameKind) (e : Error) → innermost old.frames ≡ Some kind →
     RefusesOperator (Encodes old.reader.features kind) (Fault old.reader.features kind) e old.reader new.reader → new.frames ≡ old.frames → old.room ≤ new.room →
@@ -64,10 +71,10 @@ refused_unchanged Encodes Fault old new kind e open_frame (same, refused, fault)
           (λ m. let h = refused.memory m in (h.0, inr (kind, ap innermost frames ∙ open_frame, list h.1))),
     )
 
-pub begun_stopped : (Encodes : Taking) (Fault : Refusing) (old mid new : State) (kind : FrameKind) (code start : ℕ) (s : FrameStep) (e : Error) →
-    BeginsOperator old mid kind start code s → RefusesOperator (Encodes mid.reader.features kind) (Fault mid.reader.features kind) e (at_position mid.reader start) new.reader →
+pub begun_stopped : (Encodes : Taking) (Fault : Refusing) (old mid new : State) (kind : FrameKind) (code start : ℕ) (e : Error) →
+    BeginsOperator old mid kind start code → RefusesOperator (Encodes mid.reader.features kind) (Fault mid.reader.features kind) e (at_position mid.reader start) new.reader →
     new.frames ≡ mid.frames → new.room ≡ mid.room → IsUnchanged old new × StopsRead Encodes Fault (NextMayAllocate Encodes) e new
-begun_stopped Encodes Fault old mid new kind code start s e b refused frames room =
+begun_stopped Encodes Fault old mid new kind code start e b refused frames room =
     let features : mid.reader.features ≡ old.reader.features = ap (λ (r : Reader). r.features) b.back in
     refused_unchanged Encodes Fault old new kind e b.open_frame
     (subst (λ (f : WasmFeatures). RefusesOperator (Encodes f kind) (Fault f kind) e old.reader new.reader) features
@@ -77,13 +84,13 @@ begun_stopped Encodes Fault old mid new kind code start s e b refused frames roo
     (ap (λ (n : ℕ). frame_memory new.frames n) room ∙ ap (λ (fs : List FrameKind). frame_memory fs mid.room) frames))
 
 pub room_refused : (Encodes : Taking) (Fault : Refusing) (old new : State) (kind : FrameKind) (code : ℕ) (e : Error) → innermost old.frames ≡ Some kind →
-    new.reader ≡ old.reader → new.frames ≡ old.frames → old.room ≤ new.room → GrowsLittle 0 old new → BeginsWith code (rest old.reader) → Opens (step_at code) → new.room ≡ 0 → e.message ≡ message.OutOfMemory → e.offset ≡ offset_of old.reader →
+    new.reader ≡ old.reader → new.frames ≡ old.frames → old.room ≤ new.room → GrowsLittle 0 old new → BeginsWith code (rest old.reader) → OpensFrame (change_at code) → new.room ≡ 0 → e.message ≡ message.OutOfMemory → e.offset ≡ offset_of old.reader →
     IsUnchanged old new × StopsRead Encodes Fault (NextMayAllocate Encodes) e new
 room_refused Encodes Fault old new kind code e open_frame same frames room memory begins opens none is at = (
   (same, frames, room, memory),
   inr (inr (
     is,
     at ∙ ap offset_of (sym same),
-    inl (kind, ap innermost frames ∙ open_frame, code, subst (λ (r : Reader). BeginsWith code (rest r)) (sym same) begins, opens_leads code opens, none),
+    inl (kind, ap innermost frames ∙ open_frame, code, subst (λ (r : Reader). BeginsWith code (rest r)) (sym same) begins, opens, none),
   )),
 )

@@ -4,7 +4,6 @@ pub mod Flat
 pub mod Openings
 pub mod Visiting
 pub mod Collecting
-pub mod Step
 pub mod Stack
 pub mod Reading
 pub mod MainTheorem

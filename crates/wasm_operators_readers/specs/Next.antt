@@ -1,16 +1,15 @@
 use Rattle.std.specs.Prelude.{◌≡◌, ℕ, ◌<◌, ◌≤◌, [], Some, None, Result, ◌⊎◌}
 use Rattle.wasm_decode.specs.below.bytes.error.Error.{Error}
 use Rattle.wasm_decode.specs.grammar.declared.frame_kind.FrameKind.{FrameKind}
-use Rattle.wasm_decode.specs.grammar.Frames.{innermost}
+use Rattle.wasm_decode.specs.grammar.Frames.{innermost, OpensFrame}
 use Rattle.wasm_decode.specs.instr.declared.operator.Operator.{Operator}
+use Rattle.wasm_decode.specs.instr.Roles.{change_at}
 use Rattle.wasm_decode.specs.below.Source.{Reader, at_position}
 use Rattle.wasm_decode.specs.opcodes.Allowed.{EncodesAllowed, EncodesScalar}
 use Rattle.wasm_decode.specs.opcodes.Decoding.{IsAfterCode}
 use Rattle.wasm_decode.specs.opcodes.OperatorFaults.{OperatorFault, ScalarOperatorFault}
 use Rattle.wasm_decode.specs.opcodes.Refused.{MayAllocate}
-use Rattle.wasm_operators_readers.specs.declared.step.FrameStep.{FrameStep}
 use Rattle.wasm_operators_readers.specs.Stack.{OpenFrames}
-use Rattle.wasm_operators_readers.specs.Step.{step_at, Opens}
 use Rattle.wasm_operators_readers.specs.Reading.{Taking, Refusing, Allocating, State, GrowsLittle, FrameMayAllocate, IsUnchanged, StopsRead, ReadsOperator, VisitsOperator}
 
 -- The next operator may own a list.
@@ -42,13 +41,12 @@ state_of r s = record { reader = r; frames = s.frames; room = s.room }
 abbrev pub StopsNext : Taking → Refusing → Error → State → State → Type 0
 StopsNext Encodes Fault e old new = IsUnchanged old new × StopsRead Encodes Fault (NextMayAllocate Encodes) e new
 
--- The opcode was read from `start`, and there is capacity for its step.
-pub record BeginsOperator (old new : State) (kind : FrameKind) (start code : ℕ) (s : FrameStep) : Type 0 where
+-- The opcode was read from `start`, and there is capacity for the frame that it opens.
+pub record BeginsOperator (old new : State) (kind : FrameKind) (start code : ℕ) : Type 0 where
   pub open_frame : innermost old.frames ≡ Some kind
   pub after : IsAfterCode start None code new.reader
   pub back : at_position new.reader start ≡ old.reader
-  pub step : s ≡ step_at code
   pub frames : new.frames ≡ old.frames
   pub room : old.room ≤ new.room
   pub memory : GrowsLittle 0 old new
-  pub opens : Opens s → (new.frames ≡ []) ⊎ (0 < new.room)
+  pub opens : OpensFrame (change_at code) → (new.frames ≡ []) ⊎ (0 < new.room)

@@ -1,21 +1,14 @@
 -- Specification: Binary Format, Control Instructions. Proposal legacy exception handling.
-use Rattle.std.specs.Prelude.{◌≡◌, ℕ, ◌+◌, List, [], ◌∷◌, length, max, Option, Some, None, ◌⊎◌}
+use Rattle.std.specs.Prelude.{ℕ, ◌+◌, List, [], ◌∷◌, length, max, Option, Some, None}
 use Rattle.wasm_decode.specs.grammar.declared.frame_kind.FrameKind.{FrameKind}
-use Rattle.wasm_decode.specs.grammar.Frames.{frames_after}
-use Rattle.wasm_decode.specs.grammar.Role.{Role, opens, opens_if, opens_try}
+use Rattle.wasm_decode.specs.grammar.Frames.{change_of, frames_after, opened}
 use Rattle.wasm_decode.specs.instr.declared.operator.Operator.{Operator}
 use Rattle.wasm_decode.specs.instr.Roles.{role_of}
 use Rattle.wasm_operators_readers.specs.Expression.{Placed}
 
-abbrev pub opened_by_role : {A : Type 0} → Role A → ℕ
-opened_by_role (opens n a) = 1
-opened_by_role (opens_if a) = 1
-opened_by_role (opens_try a) = 1
-opened_by_role _ = 0
-
 -- How many frames an operator opens.
 abbrev pub opened_by : Operator → ℕ
-opened_by op = opened_by_role (role_of op)
+opened_by op = opened (change_of (role_of op))
 
 abbrev pub opened_along : Placed → ℕ
 opened_along [] = 0
@@ -27,7 +20,3 @@ abbrev pub most_open : Option (List FrameKind) → Placed → ℕ
 most_open None ps = 0
 most_open (Some frames) [] = length frames
 most_open (Some frames) (p ∷ ps) = max (length frames) (most_open (frames_after frames (role_of p.0)) ps)
-
--- The opcodes of block, loop, if, try and try_table.
-abbrev pub LeadsFrame : ℕ → Type 0
-LeadsFrame byte = (byte ≡ 0x02) ⊎ ((byte ≡ 0x03) ⊎ ((byte ≡ 0x04) ⊎ ((byte ≡ 0x06) ⊎ (byte ≡ 0x1f))))

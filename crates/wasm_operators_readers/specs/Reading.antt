@@ -8,11 +8,11 @@ use Rattle.wasm_decode.specs.below.bytes.message.Message.TheVariants as message
 use Rattle.wasm_decode.specs.below.Source.{Reader, rest, offset_of, Takes, Refuses, IsAhead, BeginsWith}
 use Rattle.wasm_decode.specs.grammar.declared.frame_kind.FrameKind.{FrameKind}
 use Rattle.wasm_decode.specs.grammar.declared.frame_kind.FrameKind.TheVariants as frame
-use Rattle.wasm_decode.specs.grammar.Frames.{frames_after, frames_along, innermost}
+use Rattle.wasm_decode.specs.grammar.Frames.{frames_after, frames_along, innermost, OpensFrame}
 use Rattle.wasm_decode.specs.instr.declared.operator.Operator.{Operator}
-use Rattle.wasm_decode.specs.instr.Roles.{role_of, roles_of}
+use Rattle.wasm_decode.specs.instr.Roles.{role_of, roles_of, change_at}
 use Rattle.wasm_operators_readers.specs.Expression.{Placed, OfPlaced, operators, LaidOut}
-use Rattle.wasm_operators_readers.specs.Openings.{opened_by, opened_along, most_open, LeadsFrame}
+use Rattle.wasm_operators_readers.specs.Openings.{opened_by, opened_along, most_open}
 use Rattle.wasm_operators_readers.specs.Stack.{frame_memory, IsLittleMemory}
 
 -- Which operators are read, in a frame of this kind.
@@ -94,7 +94,7 @@ Anywhere s = Unit {0}
 -- The next opcode opens a frame inside others, without capacity for it. What follows it may be in
 -- error.
 abbrev pub FrameMayAllocate : Allocating
-FrameMayAllocate s = (kind : FrameKind) × (innermost s.frames ≡ Some kind) × (byte : ℕ) × BeginsWith byte (rest s.reader) × LeadsFrame byte × (s.room ≡ 0)
+FrameMayAllocate s = (kind : FrameKind) × (innermost s.frames ≡ Some kind) × (byte : ℕ) × BeginsWith byte (rest s.reader) × OpensFrame (change_at byte) × (s.room ≡ 0)
 
 -- No frame is open, no operator can be read, or allocation fails.
 abbrev pub StopsRead : Taking → Refusing → Allocating → Error → State → Type 0

@@ -1,16 +1,15 @@
 //! What precedes and follows the immediates of an operator.
-ghost use Rattle.std.specs.Prelude.{◌≡◌, ◌+◌, ◌≤◌, Some, IsSome, IfOk, IfErr};
-ghost use Rattle.wasm_decode.specs.grammar.Frames.{frames_after};
+ghost use Rattle.std.specs.Prelude.{◌≡◌, ◌↔◌, ◌+◌, ◌≤◌, IsSome, IsTrue, IfOk, IfErr};
+ghost use Rattle.wasm_decode.specs.grammar.Frames.{frames_changed, innermost, opened, OpensFrame};
+ghost use Rattle.wasm_decode.specs.instr.Roles.{change_at};
 ghost use Rattle.wasm_decode.specs.opcodes.Allowed.{EncodesAllowed, EncodesScalar};
 ghost use Rattle.wasm_decode.specs.opcodes.OperatorFaults.{OperatorFault, ScalarOperatorFault};
 ghost use Rattle.wasm_operators_readers.specs.Stack.{HasRoom, IsSameMemory};
-ghost use Rattle.wasm_operators_readers.specs.Step.{Opens, role_of_step, step_at};
 ghost use Rattle.wasm_operators_readers.specs.Next.{BeginsOperator, StopsNext, state_of};
 
-use crate::step::keeps_frames;
-use crate::{ControlStack, FrameStep};
+use crate::ControlStack;
 use wasm_decode::below::{BinaryReader, Message, Result};
-use wasm_decode::grammar::FrameKind;
+use wasm_decode::grammar::{FrameKind, frame_change_at};
 use wasm_decode::no_frame;
 
 #[derive(Clone, Copy, Debug)]
@@ -26,7 +25,7 @@ pub struct OperatorStart {
 pub fn begin(reader: &mut BinaryReader<'_>, control: &mut ControlStack) -> Result<OperatorStart>
     ensures begun { IfOk result
         (λ at. BeginsOperator (state_of reader.old control.old) (state_of reader.new control.new)
-        at.frame at.start at.code (step_at at.code)) }
+        at.frame at.start at.code) }
     ensures refused { IfErr result
         (λ e. StopsNext EncodesAllowed OperatorFault e (state_of reader.old control.old)
         (state_of reader.new control.new)) }
@@ -43,7 +42,7 @@ pub fn begin(reader: &mut BinaryReader<'_>, control: &mut ControlStack) -> Resul
             if keeps_frames(code) {
                 return Ok(OperatorStart { frame, start, code });
             }
-            match control.make_room(FrameStep::at(code)) {
+            match control.make_room(frame_change_at(code)) {
                 Ok(()) => Ok(OperatorStart { frame, start, code }),
                 Err(_) => Err(reader.refuse(start, Message::OutOfMemory)),
             }
@@ -52,19 +51,26 @@ pub fn begin(reader: &mut BinaryReader<'_>, control: &mut ControlStack) -> Resul
     }
 }
 
-/// Makes the step of an operator that was read. It is found again from the opcode, which is a
-/// constant where the operator is decoded: a stored step would need a branch.
+/// Changes the frames after an operator was read. The change is found again from the opcode, which
+/// is a constant where the operator is decoded: a stored change would need a branch.
 #[inline(always)]
-pub fn make_step(control: &mut ControlStack, code: u8)
-    requires allowed { IsSome (frames_after control.old.frames (role_of_step (step_at code))) }
-    requires room { Opens (step_at code) → HasRoom control.old }
-    ensures frames { frames_after control.old.frames (role_of_step (step_at code)) ≡ Some control.new.frames }
-    ensures opened { control.old.room ≤ control.new.room + 1 }
-    ensures other { (Opens (step_at code) → ⊥) → control.old.room ≤ control.new.room }
+pub fn change_frames(control: &mut ControlStack, code: u8)
+    requires open { IsSome (innermost control.old.frames) }
+    requires room { OpensFrame (change_at code) → HasRoom control.old }
+    ensures frames { control.new.frames ≡ frames_changed control.old.frames (change_at code) }
+    ensures room { control.old.room ≤ control.new.room + opened (change_at code) }
     ensures memory { IsSameMemory control.old control.new }
 {
     if keeps_frames(code) {
         return;
     }
-    control.apply_step(FrameStep::at(code));
+    control.apply_change(frame_change_at(code));
+}
+
+/// Returns whether the opcode is at least 0x20: such operators keep the frames.
+#[inline(always)]
+pub fn keeps_frames(opcode: u8) -> bool
+    ensures { IsTrue result ↔ (0x20 ≤ opcode) }
+{
+    opcode >= 0x20
 }

@@ -1,14 +1,16 @@
 ghost use Rattle.std.specs.Prelude.{◌≡◌, ◌↔◌, ◌*◌, ◌<◌, ◌≤◌, ℕ, List, [], ◌∷◌, ◌++◌, ◌+◌, length};
 ghost use Rattle.wasm_decode.specs.below.Source.{Source, Reader, source_of, offset_of, Takes, BeginsWith};
 ghost use Rattle.wasm_decode.specs.grammar.declared.frame_kind.FrameKind.{FrameKind};
+ghost use Rattle.wasm_decode.specs.grammar.Frames.{OpensFrame};
 ghost use Rattle.wasm_decode.specs.instr.declared.operator.Operator.{Operator};
 ghost use Rattle.wasm_decode.specs.instr.Encoding.{EncodesOperator};
 ghost use Rattle.wasm_decode.specs.instr.Kinds.{IsVector};
+ghost use Rattle.wasm_decode.specs.instr.Roles.{change_at};
 ghost use Rattle.wasm_operators_readers.specs.Expression.{Placed, LaidOut, EndsAt, AreEncoded, EncodesRest, EncodesExpression, IsBeginningOf, IsPrefixAfter, IsLongestOf, IsLongestAfter, IsLongestBeginning};
 ghost use Rattle.wasm_operators_readers.specs.Flat.{IsFlatOf, IsFlatFrom, IsFlatBeginning};
 ghost use Rattle.wasm_operators_readers.specs.Laws.{IsNoLonger, HasEncodings, LaysOutBoth, BeginsLonger};
 ghost use Rattle.wasm_operators_readers.specs.MainTheorem.{ReadSoFar, ClosesFrom};
-ghost use Rattle.wasm_operators_readers.specs.Openings.{opened_by, LeadsFrame};
+ghost use Rattle.wasm_operators_readers.specs.Openings.{opened_by};
 ghost use Rattle.wasm_operators_readers.specs.Reading.{State};
 ghost use Rattle.wasm_operators_readers.specs.Visiting.{scalar_beginning, IsScalar};
 
@@ -109,7 +111,7 @@ pub fn scalar_longest()
 pub fn frames_opened(features: WasmFeatures)
     ensures half { (op : Operator) (text : List ℕ) → EncodesOperator features op text → 2 * opened_by op ≤ length text }
     ensures leads { (op : Operator) (text : List ℕ) → EncodesOperator features op text
-        → 0 < opened_by op → (byte : ℕ) × BeginsWith byte text × LeadsFrame byte }
+        → 0 < opened_by op → (byte : ℕ) × BeginsWith byte text × OpensFrame (change_at byte) }
     ensures opens { (op : Operator) (text : List ℕ) (byte : ℕ) → EncodesOperator features op text
-        → BeginsWith byte text → LeadsFrame byte → opened_by op ≡ 1 }
+        → BeginsWith byte text → OpensFrame (change_at byte) → opened_by op ≡ 1 }
 {}

@@ -11,7 +11,6 @@ mod collector;
 pub mod decoding_laws;
 mod drivers;
 pub mod expression_laws;
-pub mod frame_laws;
 mod iterators;
 pub mod laws;
 mod next;
@@ -19,13 +18,11 @@ mod operators;
 pub mod position_laws;
 pub mod run_laws;
 mod stack;
-mod step;
 
 pub use allocations::OperatorsReaderAllocations;
 pub use iterators::{OperatorsIterator, OperatorsIteratorWithOffsets};
 pub use operators::OperatorsReader;
 pub use stack::ControlStack;
-pub use step::FrameStep;
 pub use wasm_decode::{below, grammar, imm, instr, visitors};
 
 /// The decoder of one operator.

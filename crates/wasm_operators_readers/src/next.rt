@@ -11,9 +11,8 @@ ghost use Rattle.wasm_operators_readers.specs.Reading.{Anywhere, Finishes, RunsT
 ghost use Rattle.wasm_operators_readers.specs.Visiting.{Visited, VisitedScalar};
 
 use crate::ControlStack;
-use crate::begin::{begin, make_step};
+use crate::begin::{begin, change_frames, keeps_frames};
 use crate::collector::Collector;
-use crate::step::keeps_frames;
 use std::alloc::Global;
 use wasm_decode::below::{BinaryReader, Error, Message, Result};
 use wasm_decode::visitors::{HoldTable, VisitOperator};
@@ -38,7 +37,7 @@ where
             }
             match visit_below_0x20(alloc, v, reader, at.start, at.frame, at.code) {
                 Ok(outcome) => {
-                    make_step(control, at.code);
+                    change_frames(control, at.code);
                     Ok(outcome)
                 }
                 Err(e) => Err(e),
@@ -65,7 +64,7 @@ pub fn visit_next<'a, V: VisitOperator<'a>>(
             }
             match visit_below_0x20(alloc, v, reader, at.start, at.frame, at.code) {
                 Ok(outcome) => {
-                    make_step(control, at.code);
+                    change_frames(control, at.code);
                     Ok(outcome)
                 }
                 Err(e) => Err(e),

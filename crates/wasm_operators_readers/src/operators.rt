@@ -8,7 +8,7 @@ ghost use Rattle.wasm_operators_readers.specs.Next.{ReadsNext, VisitsNext, Visit
 mod stack;
 mod to_end;
 
-use crate::begin::{begin, make_step};
+use crate::begin::{begin, change_frames};
 use crate::next::{finish, visit_next, visit_next_simd};
 use crate::{ControlStack, OperatorsReaderAllocations};
 use std::alloc::Global;
@@ -124,7 +124,7 @@ impl<'a> OperatorsReader<'a> {
             Ok(at) => {
                 match read_after_opcode(self.alloc, &mut self.reader, at.start, at.frame, at.code) {
                     Ok(operator) => {
-                        make_step(&mut self.control, at.code);
+                        change_frames(&mut self.control, at.code);
                         Ok(operator)
                     }
                     Err(e) => Err(e),

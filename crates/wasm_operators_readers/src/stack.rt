@@ -1,16 +1,14 @@
-ghost use Rattle.std.specs.Prelude.{◌≡◌, ◌↔◌, ◌+◌, ◌≤◌, ◌<◌, [], ◌∷◌, ◌++◌, length, IsTrue, IsSome, IsOk, Some, OnOk, OnErr, IfOk, IfErr, max, vec_capacity, vec_len};
-ghost use Rattle.wasm_decode.specs.grammar.Frames.{frames_after, innermost, without_innermost};
+ghost use Rattle.std.specs.Prelude.{◌≡◌, ◌↔◌, ◌+◌, ◌≤◌, ◌<◌, [], ◌∷◌, ◌++◌, length, IsTrue, IsSome, IsOk, OnOk, OnErr, IfOk, IfErr, max, vec_capacity, vec_len};
+ghost use Rattle.wasm_decode.specs.grammar.Frames.{frames_changed, innermost, opened, OpensFrame, without_innermost};
 ghost use Rattle.wasm_decode.specs.imm.OutOfMemory.{IsOutOfMemoryAt};
 ghost use Rattle.wasm_operators_readers.specs.Stack.{HasRoom, GrowsByDoubling, IsSameMemory, frame_memory};
-ghost use Rattle.wasm_operators_readers.specs.Step.{Opens, role_of_step};
 
 use crate::allocations::OperatorsReaderAllocations;
-use crate::step::FrameStep;
 use std::alloc::{AllocError, Global};
 use std::marker::Model;
 use std::mem::replace;
 use wasm_decode::below::{Error, Message, Result};
-use wasm_decode::grammar::FrameKind;
+use wasm_decode::grammar::{FrameChange, FrameKind};
 
 const LEAST: usize = 8;
 
@@ -130,18 +128,18 @@ impl ControlStack {
         Ok(())
     }
 
-    /// Reserves capacity for the frame that this step opens, if any. Fails with `OutOfMemory` at
+    /// Reserves capacity for the frame that this change opens, if any. Fails with `OutOfMemory` at
     /// offset 0.
     #[inline(always)]
-    pub fn make_room(&mut self, step: FrameStep) -> Result<()>
+    pub fn make_room(&mut self, change: FrameChange) -> Result<()>
         ensures frames { self.new.frames ≡ self.old.frames }
-        ensures room { OnOk result (Opens step → HasRoom self.new) }
+        ensures room { OnOk result (OpensFrame change → HasRoom self.new) }
         ensures kept { self.old.room ≤ self.new.room }
         ensures memory { GrowsByDoubling 1 self.old self.new }
         ensures refused { IfErr result
-            (λ e. IsOutOfMemoryAt 0 e × Opens step × (self.old.room ≡ 0) × (self.new ≡ self.old)) }
+            (λ e. IsOutOfMemoryAt 0 e × OpensFrame change × (self.old.room ≡ 0) × (self.new ≡ self.old)) }
     {
-        if step.opens() {
+        if change.opens() {
             return self.reserve(1);
         }
         Ok(())
@@ -200,27 +198,20 @@ impl ControlStack {
         frame
     }
 
-    /// Makes a step that the innermost frame allows. Opening a frame needs reserved capacity.
+    /// Changes the frames, of which one must be open. Opening a frame needs reserved capacity.
     #[inline(always)]
-    pub fn apply_step(&mut self, step: FrameStep)
-        requires allowed { IsSome (frames_after self.old.frames (role_of_step step)) }
-        requires room { Opens step → HasRoom self.old }
-        ensures frames { frames_after self.old.frames (role_of_step step) ≡ Some self.new.frames }
-        ensures opened { self.old.room ≤ self.new.room + 1 }
-        ensures other { (Opens step → ⊥) → self.old.room ≤ self.new.room }
+    pub fn apply_change(&mut self, change: FrameChange)
+        requires open { IsSome (innermost self.old.frames) }
+        requires room { OpensFrame change → HasRoom self.old }
+        ensures frames { self.new.frames ≡ frames_changed self.old.frames change }
+        ensures room { self.old.room ≤ self.new.room + opened change }
         ensures memory { IsSameMemory self.old self.new }
     {
-        match step {
-            FrameStep::Stays => {}
-            FrameStep::OpensBlock => self.open(FrameKind::Block),
-            FrameStep::OpensLoop => self.open(FrameKind::Loop),
-            FrameStep::OpensTryTable => self.open(FrameKind::TryTable),
-            FrameStep::OpensIf => self.open(FrameKind::If),
-            FrameStep::OpensTry => self.open(FrameKind::LegacyTry),
-            FrameStep::TurnsElse => self.turn(FrameKind::Else),
-            FrameStep::TurnsCatch => self.turn(FrameKind::LegacyCatch),
-            FrameStep::TurnsCatchAll => self.turn(FrameKind::LegacyCatchAll),
-            FrameStep::Delegates | FrameStep::Ends => {
+        match change {
+            FrameChange::Stays => {}
+            FrameChange::Opens(frame) => self.open(frame),
+            FrameChange::Turns(frame) => self.turn(frame),
+            FrameChange::Closes => {
                 let _ = self.pop();
             }
         }

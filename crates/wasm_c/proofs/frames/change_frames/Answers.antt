@@ -1,13 +1,20 @@
-use Rattle.std.proofs.Common.{sym, ap, ◌∙◌}
-use Rattle.wasm_c.specs.Frames.{frames_changed}
-use Rattle.wasm_c.proofs.Stepped.{outer_kinds, turned}
+use Rattle.std.proofs.Common.{take, sym, subst, ap, ◌∙◌}
+use Rattle.wasm_operators.specs.grammar.Frames.{frames_changed, OpensFrame}
+use Rattle.wasm_c.specs.Frames.{kinds}
+use Rattle.wasm_c.proofs.Stepped.{opened_in, closed_in, turned_in}
 use Rattle.wasm_c.proofs.frames.change_frames.Goals as goal
 
+pub returns-in-Opens-clause-frames : goal.returns-in-Opens-clause-frames
+returns-in-Opens-clause-frames c =
+    opened_in c.args.frames.now c.in-Opens.kind c.args.depth c.byte_of.result (c.requires.room (subst OpensFrame (sym c.in-Opens.is) tt)) c.byte_of.ensures ∙
+    ap (frames_changed (kinds (take c.args.depth c.args.frames.now))) (sym c.in-Opens.is)
+
 pub returns-in-Turns-clause-frames : goal.returns-in-Turns-clause-frames
-returns-in-Turns-clause-frames c = λ outer kind is.
-    turned c.args.frames.now outer kind c.in-Turns.kind c.args.depth c.byte_of-in-Turns.result c.requires.some c.requires.within is c.byte_of-in-Turns.ensures ∙
-    ap (frames_changed outer kind) (sym c.in-Turns.is)
+returns-in-Turns-clause-frames c =
+    turned_in c.args.frames.now c.in-Turns.kind c.args.depth c.byte_of-in-Turns.result c.requires.some c.requires.within c.byte_of-in-Turns.ensures ∙
+    ap (frames_changed (kinds (take c.args.depth c.args.frames.now))) (sym c.in-Turns.is)
 
 pub returns-in-Closes-clause-frames : goal.returns-in-Closes-clause-frames
-returns-in-Closes-clause-frames c = λ outer kind is. outer_kinds c.args.frames.now outer kind c.args.depth c.requires.some c.requires.within is ∙
-    ap (frames_changed outer kind) (sym c.in-Closes.is)
+returns-in-Closes-clause-frames c =
+    closed_in c.args.frames.now c.args.depth c.requires.some c.requires.within ∙
+    ap (frames_changed (kinds (take c.args.depth c.args.frames.now))) (sym c.in-Closes.is)

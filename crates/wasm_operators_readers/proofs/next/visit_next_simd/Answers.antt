@@ -3,27 +3,24 @@ use Rattle.wasm_decode.specs.opcodes.Allowed.{EncodesAllowed}
 use Rattle.wasm_decode.specs.opcodes.OperatorFaults.{OperatorFault}
 use Rattle.wasm_operators_readers.specs.Next.{state_of}
 use Rattle.wasm_operators_readers.proofs.DecoderPremises.{sound}
-use Rattle.wasm_operators_readers.proofs.VisitSteps.{step_allowed_after, visited_with_step, refused_after, visited_from_20}
+use Rattle.wasm_operators_readers.proofs.VisitSteps.{visited_changing, refused_after, visited_from_20}
+use Rattle.wasm_operators_readers.proofs.Taken.{begun_open}
 use Rattle.wasm_operators_readers.proofs.next.visit_next_simd.Goals as goal
 
-pub make_step-requires-clause-allowed : goal.make_step-requires-clause-allowed
-make_step-requires-clause-allowed g c =
+pub change_frames-requires-clause-open : goal.change_frames-requires-clause-open
+change_frames-requires-clause-open g c =
     let at = c.in-Ok.at in
-    let old = state_of c.args.reader.now c.args.control.now in
-    let mid = state_of c.begin.new.reader c.begin.new.control in
-    let new = state_of c.visit_below_0x20.new.reader c.begin.new.control in
-    step_allowed_after g.V.Visitor.visits EncodesAllowed OperatorFault sound (λ f kind text op h. h.1) old mid new at.frame at.code at.start c.in-Ok-visit_below_0x20.outcome c.args.v.now
-    c.visit_below_0x20.new.v c.in-Ok.ensures.begun c.in-Ok-visit_below_0x20.ensures.allowed
+    begun_open (state_of c.args.reader.now c.args.control.now) (state_of c.begin.new.reader c.begin.new.control) at.frame at.code at.start c.in-Ok.ensures.begun
 
 pub returns-in-Ok-visit_below_0x20 : goal.returns-in-Ok-visit_below_0x20
 returns-in-Ok-visit_below_0x20 g c =
     let at = c.in-Ok.at in
     let old = state_of c.args.reader.now c.args.control.now in
     let mid = state_of c.begin.new.reader c.begin.new.control in
-    let new = state_of c.visit_below_0x20.new.reader c.make_step.new.control in
-    let step = c.make_step.ensures in
-    visited_with_step g.V.Visitor.visits EncodesAllowed OperatorFault sound old mid new at.frame at.code at.start c.in-Ok-visit_below_0x20.outcome c.args.v.now
-    c.visit_below_0x20.new.v c.in-Ok.ensures.begun c.in-Ok-visit_below_0x20.ensures.allowed step.frames step.opened step.other step.memory
+    let new = state_of c.visit_below_0x20.new.reader c.change_frames.new.control in
+    let changed = c.change_frames.ensures in
+    visited_changing g.V.Visitor.visits EncodesAllowed OperatorFault sound (λ f kind text op h. h.1) old mid new at.frame at.code at.start c.in-Ok-visit_below_0x20.outcome c.args.v.now
+    c.visit_below_0x20.new.v c.in-Ok.ensures.begun c.in-Ok-visit_below_0x20.ensures.allowed changed.frames changed.room changed.memory
 
 pub returns-in-Err-visit_below_0x20 : goal.returns-in-Err-visit_below_0x20
 returns-in-Err-visit_below_0x20 g c =
