@@ -117,7 +117,8 @@ def wanted(task, kinds):
     offsets = "".join(f" {offset}" for offset in cuts(task, kinds[name]))
     at = task.start + len(task.operator)
     plain = plain_answer(task, call)
-    return f"{task.answer}; at {at}; factory the same; visit {call}; {OTHERS}{half(task)}; plain {plain}; cut{offsets}"
+    visits = f"visit {call}; {OTHERS}{half(task)}; value same; plain {plain}"
+    return f"{task.answer}; at {at}; factory the same; {visits}; cut{offsets}"
 
 
 def samples():

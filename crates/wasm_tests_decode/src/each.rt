@@ -1,4 +1,5 @@
 use crate::half;
+use crate::own::Call;
 use crate::runs::{
     Reported, is_refused_again, run_both, run_boxed, run_factory, run_lent, run_plain, run_read,
     run_simd, write_outcome, write_refusal,
@@ -6,6 +7,8 @@ use crate::runs::{
 use crate::task::Task;
 use crate::teller::Teller;
 use std::alloc::{AllocError, Global};
+use wasm_decode::instr::Operator;
+use wasm_decode::visitors::visit_operator_with_simd;
 use wasm_tests_texts::Written;
 
 #[derive(Drop)]
@@ -47,10 +50,8 @@ fn write_reported(texts: &mut Texts, outcome: Reported) -> Written {
     let Texts { line, teller, .. } = texts;
     let visited = &teller.text;
     match outcome {
-        Ok(call) => {
-            let call = call?;
-            write!(line, "{visited} by {call:?}")
-        }
+        Ok(Call::OutOfMemory) => Err(AllocError),
+        Ok(call) => write!(line, "{visited} by {call:?}"),
         Err(e) => {
             write!(line, "{visited}")?;
             write_refusal(line, e)
@@ -74,6 +75,9 @@ pub fn write_each(alloc: Global, texts: &mut Texts, task: Task, bytes: &[u8]) ->
     compare_ways(alloc, texts, task, bytes, reported)?;
     if task.frame.is_some() {
         compare_halves(texts, task, bytes, reported)?;
+    }
+    if let Ok(op) = &outcome {
+        compare_value(alloc, texts, op, reported)?;
     }
     texts.line.push_str("; plain ")?;
     let reported = run_plain(alloc, &mut texts.teller, task, bytes);
@@ -121,7 +125,7 @@ fn compare_factory(
 fn compare_visit(texts: &mut Texts, reported: (Reported, usize), end: usize) -> Written {
     let is_same = texts.teller.text == texts.read && reported.1 == end;
     match reported.0 {
-        Ok(Ok(call)) if is_same => write!(texts.line, "by {call:?}")?,
+        Ok(call) if is_same => write!(texts.line, "by {call:?}")?,
         _ => write_visit(texts, reported)?,
     }
     texts.teller.text.clear();
@@ -181,9 +185,27 @@ fn compare_halves(
     write_half(line, direct, reported, other, &mut boxed.text)
 }
 
+/// Writes whether the operator that was read has the `direct` visit.
+fn compare_value(
+    alloc: Global,
+    texts: &mut Texts,
+    op: &Operator<'_>,
+    direct: (Reported, usize),
+) -> Written {
+    let Texts {
+        line,
+        other,
+        teller,
+        ..
+    } = texts;
+    line.push_str("; value")?;
+    let outcome = visit_operator_with_simd(alloc, teller, op);
+    write_way(line, direct, (outcome, direct.1), other, &mut teller.text)
+}
+
 fn is_same_visit(a: (Reported, usize), b: (Reported, usize)) -> bool {
     let is_same = match (a.0, b.0) {
-        (Ok(Ok(call)), Ok(Ok(other))) => call == other,
+        (Ok(call), Ok(other)) => call == other,
         (Err(e), Err(other)) => e == other,
         _ => false,
     };
