@@ -1,5 +1,6 @@
 use wasm_listing::features_of;
 use wasm_listing::operators::{BinaryReader, FrameKind, WasmFeatures};
+use wasm_tests_texts::frame_named;
 
 #[derive(Clone, Copy, Debug)]
 pub struct Row<'r> {
@@ -62,17 +63,6 @@ impl<'r> Row<'r> {
             | "section" => self.argument.parse::<u32>().is_ok(),
             _ => self.argument == "-" || frame_named(self.argument).is_some(),
         }
-    }
-}
-
-fn frame_named(name: &str) -> Option<FrameKind> {
-    match name {
-        "Block" => Some(FrameKind::Block),
-        "If" => Some(FrameKind::If),
-        "LegacyTry" => Some(FrameKind::LegacyTry),
-        "LegacyCatch" => Some(FrameKind::LegacyCatch),
-        "LegacyCatchAll" => Some(FrameKind::LegacyCatchAll),
-        _ => None,
     }
 }
 

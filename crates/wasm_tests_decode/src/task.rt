@@ -1,6 +1,7 @@
 use bitflags::Flags;
 use wasm_decode::below::WasmFeatures;
 use wasm_decode::instr::FrameKind;
+use wasm_tests_texts::frame_named;
 
 #[derive(Clone, Copy, Debug)]
 pub struct Task {
@@ -21,16 +22,8 @@ pub fn task_of(features: &str, frame: &str, before: &str) -> Option<Task> {
 /// Returns `Some(None)` for the word `None` (no frame is open), the frame kind of another name, or
 /// `None` for any other word.
 fn frame_of(word: &str) -> Option<Option<FrameKind>> {
-    Some(Some(match word {
-        "None" => return Some(None),
-        "Block" => FrameKind::Block,
-        "If" => FrameKind::If,
-        "Else" => FrameKind::Else,
-        "Loop" => FrameKind::Loop,
-        "TryTable" => FrameKind::TryTable,
-        "LegacyTry" => FrameKind::LegacyTry,
-        "LegacyCatch" => FrameKind::LegacyCatch,
-        "LegacyCatchAll" => FrameKind::LegacyCatchAll,
-        _ => return None,
-    }))
+    match word {
+        "None" => Some(None),
+        _ => Some(Some(frame_named(word)?)),
+    }
 }
