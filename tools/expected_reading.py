@@ -205,20 +205,21 @@ def files():
     }
 
 
-def main():
+def write_or_check(crate, wanted, doc):
+    """Writes files of a crate. With the option --check, fails if one is not as wanted."""
     check = sys.argv[1:] == ["--check"]
     if sys.argv[1:] and not check:
-        sys.exit(__doc__)
-    for name, text in files().items():
-        path = CRATE / name
+        sys.exit(doc)
+    for name, text in wanted.items():
+        path = crate / name
         if path.exists() and path.read_bytes() == text.encode():
             continue
         if check:
-            sys.exit(f"{path.relative_to(TOP)} is not what tools/original gives: run tools/expected_reading.py")
+            sys.exit(f"{path.relative_to(TOP)} is not what tools/original gives: run tools/{Path(sys.argv[0]).name}")
         path.write_bytes(text.encode())
         print(path.relative_to(TOP))
 
 
 if __name__ == "__main__":
     sys.dont_write_bytecode = True
-    main()
+    write_or_check(CRATE, files(), __doc__)

@@ -29,7 +29,6 @@ from original import differences
 from own_visits import own_visit_files
 from paths import by_listed
 from plain import plain_files, unshaped
-from printed import made_source, values_source
 from printed_fields import printed_field_files
 from proposals import proposal_files
 from routes import route_files
@@ -65,8 +64,6 @@ def files(ops):
     out |= arm_files(ops)
     out |= visit_files(ops)
     out |= route_files()
-    out["crates/wasm_tests_lists/src/values.rt"] = values_source(ops)
-    out["crates/wasm_tests_lists/src/made.rt"] = made_source(ops)
     out |= printed_field_files(ops)
     out |= text_files(ops)
     out |= plain_files(ops)

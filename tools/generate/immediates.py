@@ -13,8 +13,6 @@ class FieldType:
     exact: str  # the lemma that `==` of this type is exact
     home: str  # the file of that lemma
     printer: str  # the function of wasm_tests_texts (src/values.rt) that prints a value
-    value: str  # the value in the lists of wasm_tests_lists
-    is_made: bool = False  # whether this value is made at run time, by src/parts.rt. With `alloc` the call allocates.
     by_reference: bool = False  # whether wasm_view (src/shapes.rt) takes it by reference
     owns_list: bool = False
     cargo: str = ""  # the type in the cargo crate, if it has another name there. `{path}` is before names of that crate
@@ -39,63 +37,45 @@ TYPE_EQUALITY = "of_below.TypeEquality"
 TYPES = {
     ty.name: ty
     for ty in (
-        FieldType(name="u8", exact="Decides-eqb", home=DECIDES, printer="lane", value="9"),
-        FieldType(name="u32", exact="Decides-eqb", home=DECIDES, printer="number", value="9"),
-        FieldType(name="i32", exact="Decides-int_eq", home=DECIDES, printer="signed_32", value="-1"),
-        FieldType(name="i64", exact="Decides-int_eq", home=DECIDES, printer="signed_64", value="-2"),
-        FieldType(
-            name="Ieee32", crate="wasm_imm", exact="Decides-eqb", home=DECIDES, printer="float_32",
-            value="float_32()", is_made=True,
-        ),
-        FieldType(
-            name="Ieee64", crate="wasm_imm", exact="Decides-eqb", home=DECIDES, printer="float_64",
-            value="float_64()", is_made=True,
-        ),
-        FieldType(
-            name="HeapType", crate="wasm_below", exact="heap_exact", home=TYPE_EQUALITY, printer="heap_type",
-            value="HeapType::Concrete(7)",
-        ),
-        FieldType(
-            name="RefType", crate="wasm_below", exact="ref_exact", home=TYPE_EQUALITY, printer="reference_type",
-            value="nullable()?", is_made=True,
-        ),
+        FieldType(name="u8", exact="Decides-eqb", home=DECIDES, printer="lane"),
+        FieldType(name="u32", exact="Decides-eqb", home=DECIDES, printer="number"),
+        FieldType(name="i32", exact="Decides-int_eq", home=DECIDES, printer="signed_32"),
+        FieldType(name="i64", exact="Decides-int_eq", home=DECIDES, printer="signed_64"),
+        FieldType(name="Ieee32", crate="wasm_imm", exact="Decides-eqb", home=DECIDES, printer="float_32"),
+        FieldType(name="Ieee64", crate="wasm_imm", exact="Decides-eqb", home=DECIDES, printer="float_64"),
+        FieldType(name="HeapType", crate="wasm_below", exact="heap_exact", home=TYPE_EQUALITY, printer="heap_type"),
+        FieldType(name="RefType", crate="wasm_below", exact="ref_exact", home=TYPE_EQUALITY, printer="reference_type"),
         FieldType(
             name="ValType", crate="wasm_below", exact="value_exact", home=TYPE_EQUALITY, printer="value_type",
-            value="ValType::I64", by_reference=True,
+            by_reference=True,
         ),
         FieldType(
             name="BlockType", crate="wasm_imm", exact="block_exact", home="ControlEquality", printer="block_type",
-            value="BlockType::FuncType(0)", by_reference=True,
+            by_reference=True,
         ),
         FieldType(
             name="BrTable<'a>", crate="wasm_imm", exact="table_exact", home="ControlEquality", printer="branch_table",
-            value="branch_table()?", is_made=True, by_reference=True,
+            by_reference=True,
         ),
         FieldType(
             name="SelectTypes", crate="wasm_imm", exact="types_exact", home="ControlEquality", printer="select_types",
-            value="select(alloc)?", is_made=True, by_reference=True, owns_list=True, cargo="Vec<{path}ValType>",
+            by_reference=True, owns_list=True, cargo="Vec<{path}ValType>",
         ),
         FieldType(
             name="TryTable", crate="wasm_imm", exact="try_exact", home="ControlEquality", printer="try_table",
-            value="try_table(alloc)?", is_made=True, by_reference=True, owns_list=True,
+            by_reference=True, owns_list=True,
         ),
         FieldType(
             name="ResumeTable", crate="wasm_imm", exact="resume_exact", home="ControlEquality", printer="resume_table",
-            value="resume_table(alloc)?", is_made=True, by_reference=True, owns_list=True,
+            by_reference=True, owns_list=True,
         ),
-        FieldType(name="[u8; 16]", exact="lanes_exact", home="ImmediateEquality", printer="lanes", value="LANES"),
-        FieldType(
-            name="V128", crate="wasm_imm", exact="vector_exact", home="ImmediateEquality", printer="vector",
-            value="vector()", is_made=True,
-        ),
+        FieldType(name="[u8; 16]", exact="lanes_exact", home="ImmediateEquality", printer="lanes"),
+        FieldType(name="V128", crate="wasm_imm", exact="vector_exact", home="ImmediateEquality", printer="vector"),
         FieldType(
             name="MemArg", crate="wasm_imm", exact="argument_exact", home="ImmediateEquality",
-            printer="memory_argument", value="MEMARG",
+            printer="memory_argument",
         ),
-        FieldType(
-            name="Ordering", crate="wasm_imm", exact="order_exact", home="ImmediateEquality", printer="ordering",
-            value="Ordering::AcqRel",
-        ),
+        FieldType(name="Ordering", crate="wasm_imm", exact="order_exact", home="ImmediateEquality", printer="ordering"),
     )
 }
 OWNING = {name for name, ty in TYPES.items() if ty.owns_list}

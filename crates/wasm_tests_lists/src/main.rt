@@ -1,73 +1,51 @@
-//! Prints each operator: its row, its arity in one module, whether it is a SIMD operator, whether
-//! its clone is equal, whether a visitor takes it for an `end`, whether `OperatorFactory` returns
-//! it, and its `Debug` text. Then prints the calls that several visitors receive.
+//! Reads one operator for each line of its input, and prints its row, its arity in one module,
+//! whether it is a SIMD operator, whether its clone is equal, whether a visitor takes it for an
+//! `end`, whether `OperatorFactory` returns it, and its `Debug` text. Then prints arities in edge
+//! cases, and the calls that several visitors receive.
 #![tactic(auto)]
 
-mod made;
 mod module;
-mod parts;
 mod rows;
 mod uniform;
-mod values;
 mod visitors;
 
-use crate::made::{COUNT, made};
 use crate::module::Module;
 use crate::rows::print_rows;
-use crate::values::{
-    atomic, fifth_own, first_own, fourth_own, gc, misc, numeric, second_own, simd, sixth_own,
-    third_own,
-};
 use crate::visitors::print_visitors;
 use std::alloc::Global;
 use std::io::{self, Print};
-use wasm_visit::instr::Operator;
-use wasm_visit::{
+use wasm_decode::below::BinaryReader;
+use wasm_decode::instr::Operator;
+use wasm_decode::read_operator;
+use wasm_decode::visitors::{
     IsEndOperatorVisitor, OperatorFactory, visit_operator_with_simd, visit_owned_simd,
 };
+use wasm_tests_texts::{frame_named, read_hex, read_input};
 
 fn main(rt: HostRuntime) -> io::Result<()> {
-    for op in &first_own() {
-        print(&rt, rt.alloc(), op)?;
-    }
-    for op in &second_own() {
-        print(&rt, rt.alloc(), op)?;
-    }
-    for op in &third_own() {
-        print(&rt, rt.alloc(), op)?;
-    }
-    for op in &fourth_own() {
-        print(&rt, rt.alloc(), op)?;
-    }
-    for op in &fifth_own() {
-        print(&rt, rt.alloc(), op)?;
-    }
-    for op in &sixth_own() {
-        print(&rt, rt.alloc(), op)?;
-    }
-    for op in &numeric() {
-        print(&rt, rt.alloc(), &Operator::from(*op))?;
-    }
-    for op in &gc() {
-        print(&rt, rt.alloc(), &Operator::from(*op))?;
-    }
-    for op in &misc() {
-        print(&rt, rt.alloc(), &Operator::from(*op))?;
-    }
-    for op in &simd() {
-        print(&rt, rt.alloc(), &Operator::from(*op))?;
-    }
-    for op in &atomic() {
-        print(&rt, rt.alloc(), &Operator::from(*op))?;
-    }
-    for number in 0..COUNT {
-        match made(rt.alloc(), number) {
-            Some(op) => print(&rt, rt.alloc(), &op)?,
-            None => println!(rt; "not made")?,
-        }
+    let alloc = rt.alloc();
+    let input = read_input(alloc, &mut rt.reader())?;
+    let Ok(text) = str::from_utf8(input.as_slice()) else {
+        return println!(rt; "the input is no text");
+    };
+    let mut bytes = Vec::new(alloc);
+    for line in text.lines() {
+        print_line(&rt, alloc, &mut bytes, line)?;
     }
     print_rows(&rt)?;
-    print_visitors(&rt, rt.alloc())
+    print_visitors(&rt, alloc)
+}
+
+/// Prints the operator of a line: the innermost frame, and the bytes in hexadecimal.
+fn print_line<R: Print>(rt: &R, alloc: Global, bytes: &mut Vec<u8>, line: &str) -> io::Result<()> {
+    let mut words = line.split_whitespace();
+    let frame = frame_named(words.next().unwrap_or(""));
+    read_hex(bytes, words.next().unwrap_or(""))?;
+    let mut reader = BinaryReader::new(bytes.as_slice(), 0);
+    match read_operator(alloc, &mut reader, frame) {
+        Ok(op) if reader.eof() => print(rt, alloc, &op),
+        _ => println!(rt; "not one operator: {line}"),
+    }
 }
 
 fn print<R: Print>(rt: &R, alloc: Global, op: &Operator<'_>) -> io::Result<()> {

@@ -1,5 +1,5 @@
-use wasm_visit::imm::BlockType;
-use wasm_visit::instr::{FrameKind, ModuleArity};
+use wasm_decode::imm::BlockType;
+use wasm_decode::instr::{FrameKind, ModuleArity};
 
 /// A module whose methods return `Some` only for the index 0, or for the indices listed here.
 ///

@@ -1,8 +1,8 @@
 use crate::module::Module;
 use crate::uniform::Uniform;
 use std::io::{self, Print};
-use wasm_visit::imm::{BlockType, MemArg, MemArgTarget};
-use wasm_visit::instr::{AtomicOperator, GcOperator, ModuleArity, Operator, SimdOperator};
+use wasm_decode::imm::{BlockType, MemArg, MemArgTarget};
+use wasm_decode::instr::{AtomicOperator, GcOperator, ModuleArity, Operator, SimdOperator};
 
 /// Prints arities in edge cases: queries without a result, numbers out of range, and targets that
 /// are arrays.

@@ -1,5 +1,5 @@
-use wasm_visit::imm::BlockType;
-use wasm_visit::instr::{FrameKind, ModuleArity};
+use wasm_decode::imm::BlockType;
+use wasm_decode::instr::{FrameKind, ModuleArity};
 
 #[derive(Drop)]
 pub struct Uniform {

@@ -4,7 +4,6 @@ mod counter;
 mod hand_over;
 mod interp;
 mod large;
-mod made;
 mod printer;
 mod reports;
 
@@ -12,14 +11,13 @@ use crate::visitors::counter::Counter;
 use crate::visitors::hand_over::{hand_over, table};
 use crate::visitors::interp::{Interp, Module};
 use crate::visitors::large::Large;
-use crate::visitors::made::made;
 use crate::visitors::printer::Printer;
 use crate::visitors::reports::Reports;
 use std::alloc::Global;
 use std::io::{self, Print};
-use wasm_visit::below::ValType;
-use wasm_visit::instr::{Operator, SelectTypes};
-use wasm_visit::{
+use wasm_decode::below::ValType;
+use wasm_decode::instr::{Operator, SelectTypes};
+use wasm_decode::visitors::{
     OperatorFactory, OperatorMaker, visit_operator, visit_operator_with_simd, visit_owned_simd,
 };
 
@@ -29,7 +27,6 @@ pub fn print_visitors<R: Print>(rt: &R, alloc: Global) -> io::Result<()> {
     print_printer(rt, alloc)?;
     print_interp(rt, alloc)?;
     print_factory(rt)?;
-    println!(rt; "factory of the layers: {:?}", made())?;
     let Large { bytes } = visit_owned_simd(&mut OperatorMaker::new(), Operator::Nop);
     println!(rt;
         "large: {} bytes, {} and {}",

@@ -1,6 +1,6 @@
 use std::alloc::Global;
-use wasm_visit::instr::{BrTable, Operator};
-use wasm_visit::{ByAny, OwnMisc, VisitMisc, VisitOperator, Visitor};
+use wasm_decode::instr::{BrTable, Operator};
+use wasm_decode::visitors::{ByAny, OwnMisc, VisitMisc, VisitOperator, Visitor};
 
 /// Counts its visits, and overrides the visit of `DataDrop` to keep the index.
 #[derive(Debug, Drop)]

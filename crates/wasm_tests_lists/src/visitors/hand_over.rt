@@ -1,8 +1,8 @@
-use wasm_visit::below::BinaryReader;
-use wasm_visit::instr::{
+use wasm_decode::below::BinaryReader;
+use wasm_decode::instr::{
     BrTable, GcOperator, MiscOperator, NumericOperator, Operator, SimdOperator,
 };
-use wasm_visit::{VisitOperator, visit_owned_simd};
+use wasm_decode::visitors::{VisitOperator, visit_owned_simd};
 
 /// The target 1 and the default target 0.
 static TABLE: [u8; 3] = [1, 1, 0];

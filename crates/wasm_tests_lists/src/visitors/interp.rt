@@ -1,8 +1,8 @@
 //! A visitor with a lifetime and a type parameter, which overrides visits.
 ghost use Rattle.std.specs.Prelude.{◌≤◌};
 
-use wasm_visit::instr::{BrTable, Operator};
-use wasm_visit::{ByAny, OwnGc, VisitGc, VisitOperator, Visitor};
+use wasm_decode::instr::{BrTable, Operator};
+use wasm_decode::visitors::{ByAny, OwnGc, VisitGc, VisitOperator, Visitor};
 
 #[derive(Drop)]
 pub struct Interp<'m, M> {

@@ -1,5 +1,5 @@
-use wasm_visit::instr::{BrTable, Operator};
-use wasm_visit::{HoldOperator, HoldTable};
+use wasm_decode::instr::{BrTable, Operator};
+use wasm_decode::visitors::{HoldOperator, HoldTable};
 
 #[derive(Drop)]
 pub struct Large {

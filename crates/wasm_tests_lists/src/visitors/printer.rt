@@ -1,9 +1,11 @@
 ghost use Rattle.std.specs.Prelude.{◌≤◌};
 
 use std::alloc::AllocError;
-use wasm_visit::below::{self, BinaryReader};
-use wasm_visit::instr::{BrTable, MiscOperator, Operator};
-use wasm_visit::{ByAny, CallMisc, OnceMisc, VisitMisc, VisitOperator, Visitor, decode, dispatch};
+use wasm_decode::below::{self, BinaryReader};
+use wasm_decode::instr::{BrTable, MiscOperator, Operator};
+use wasm_decode::visitors::{
+    ByAny, CallMisc, OnceMisc, VisitMisc, VisitOperator, Visitor, decode, dispatch,
+};
 
 /// Writes the names of two operators, and counts the visits of all others.
 #[derive(Drop)]

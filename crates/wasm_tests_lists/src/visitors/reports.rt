@@ -1,5 +1,5 @@
-use wasm_visit::instr::{BrTable, Operator};
-use wasm_visit::{ByAny, OwnMisc, VisitMisc, VisitOperator, Visitor};
+use wasm_decode::instr::{BrTable, Operator};
+use wasm_decode::visitors::{ByAny, OwnMisc, VisitMisc, VisitOperator, Visitor};
 
 #[derive(Clone, Copy, Debug)]
 pub enum Call {
