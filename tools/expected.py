@@ -72,10 +72,10 @@ def value(op, name, ty):
     """Returns how a field is encoded, and how it prints."""
     if ty == "MemArg":
         return MEMARG, memarg(op)
-    if name in OTHERS or ty in OTHERS:
-        return OTHERS[name if name in OTHERS else ty]
-    number = NUMBERS.get(name, 9)
-    return f"{number:02x}", str(number)
+    if ty in ("u8", "u32"):
+        number = NUMBERS.get(name, 9)
+        return f"{number:02x}", str(number)
+    return OTHERS[name if name in OTHERS else ty]
 
 
 def values(op):
