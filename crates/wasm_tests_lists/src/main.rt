@@ -42,8 +42,10 @@ fn print_line<R: Print>(rt: &R, alloc: Global, bytes: &mut Vec<u8>, line: &str) 
     let frame = frame_named(words.next().unwrap_or(""));
     read_hex(bytes, words.next().unwrap_or(""))?;
     let mut reader = BinaryReader::new(bytes.as_slice(), 0);
-    match read_operator(alloc, &mut reader, frame) {
-        Ok(op) if reader.eof() => print(rt, alloc, &op),
+    let outcome = read_operator(alloc, &mut reader, frame);
+    let is_whole = reader.eof();
+    match &outcome {
+        Ok(op) if is_whole => print(rt, alloc, op),
         _ => println!(rt; "not one operator: {line}"),
     }
 }
