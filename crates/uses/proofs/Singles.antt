@@ -12,7 +12,7 @@ use Rattle.wasm_operators.specs.instr.Roles.{role_of}
 use Rattle.wasm_operators.specs.Single.{PeeksOperator}
 
 pub peeked : (kind : FrameKind) (r : Reader) (result : Result Operator Error) → PeeksOperator (Some kind) result r →
-    IfOk result (λ op. (text more : List ℕ) × (rest r ≡ text ++ more) × EncodesOperator r.features op text × Allows kind (role_of op))
+    IfOk result (λ op. (text more : List ℕ) × (rest r ≡ text ++ more) × EncodesOperator r.features text op × Allows kind (role_of op))
 peeked kind r (Ok op) (after, (text, encodes, takes)) = (text, rest after, takes.parts, encodes.0, encodes.1)
 peeked kind r (Err e) h = tt
 
@@ -23,7 +23,7 @@ may_follow _ other = tt
 
 pub none_peeked : (kind : FrameKind) (r : Reader) (result : Result Operator Error) → PeeksOperator (Some kind) result r →
     IfErr result (λ e. e.message ≢ message.OutOfMemory → (op : Operator) (text more : List ℕ) → rest r ≡ text ++ more →
-    EncodesOperator r.features op text → Allows kind (role_of op) → ⊥)
+    EncodesOperator r.features text op → Allows kind (role_of op) → ⊥)
 none_peeked kind r (Ok op) h = tt
 none_peeked kind r (Err e) (after, (same, refused, fault)) = λ other op text more parts encodes allowed.
     refused.refuses [] (may_follow e.message other) text more op (encodes, allowed) (append-nil (rest r) ∙ parts)

@@ -32,9 +32,9 @@ pub fn operator_inside<'a>(
     kind: FrameKind,
 ) -> Result<Operator<'a>>
     ensures found { IfOk result (λ op. (text more : List ℕ) × (rest reader.now ≡ text ++ more)
-        × EncodesOperator reader.now.features op text × Allows kind (role_of op)) }
+        × EncodesOperator reader.now.features text op × Allows kind (role_of op)) }
     ensures none { IfErr result (λ e. e.message ≢ Message.OutOfMemory → (op : Operator) (text more : List ℕ)
-        → rest reader.now ≡ text ++ more → EncodesOperator reader.now.features op text → Allows kind (role_of op) → ⊥) }
+        → rest reader.now ≡ text ++ more → EncodesOperator reader.now.features text op → Allows kind (role_of op) → ⊥) }
 {
     reader.peek_operator(alloc, &Inside { kind })
 }

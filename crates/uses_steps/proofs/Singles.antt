@@ -50,7 +50,7 @@ pub first_then : (features : WasmFeatures) (bytes : List ℕ) (old mid : State) 
     EncodesExpression (input features bytes) ((op, 0) ∷ placed)
 first_then features bytes old mid op placed fresh taken (laid, walk) =
     let takes : Takes (reader_of features 0 bytes) mid.reader taken.text = subst (λ r. Takes r mid.reader taken.text) fresh taken.takes in
-    let encodes : EncodesOperator features op taken.text = subst (λ (r : Reader). EncodesOperator r.features op taken.text) fresh taken.encodes.0 in
+    let encodes : EncodesOperator features taken.text op = subst (λ (r : Reader). EncodesOperator r.features taken.text op) fresh taken.encodes.0 in
     let same : mid.reader.features ≡ features = ap (λ (r : Reader). r.features) takes.moved in
     let place : offset_of mid.reader ≡ 0 + length taken.text = ap offset_of takes.moved ∙ omega arith in
     let there = subst (λ o. LaidOut features o placed (rest mid.reader)) place (subst (λ f. LaidOut f (offset_of mid.reader) placed (rest mid.reader)) same laid) in

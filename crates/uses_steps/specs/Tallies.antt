@@ -8,4 +8,4 @@ abbrev pub CountsOne : ℕ → ℕ → Type 0
 CountsOne before after = before < 2 ^ 64 - 1 → after ≡ before + 1
 
 abbrev pub TakesOne : Reader → Reader → Type 0
-TakesOne old new = (op : Operator) × (text : List ℕ) × EncodesOperator old.features op text × Takes old new text
+TakesOne old new = (op : Operator) × (text : List ℕ) × EncodesOperator old.features text op × Takes old new text

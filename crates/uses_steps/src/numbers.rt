@@ -169,7 +169,7 @@ pub fn peek_fence(reader: &BinaryReader<'_>, start: u64) -> Result<Ordering>
 /// others are encoded there (law `immediates`).
 pub fn peek_array_access(reader: &BinaryReader<'_>) -> Result<(Ordering, u32)>
     ensures { (immediates : List Immediate) (text more : List ℕ) → rest reader.now ≡ text ++ more
-        → AreAccess immediates → EncodesImmediates reader.now.features immediates text
+        → AreAccess immediates → EncodesImmediates reader.now.features text immediates
         → IfOk result (λ read. immediates ≡ access read.0 read.1) }
 {
     immediate_laws::immediates(reader.features());

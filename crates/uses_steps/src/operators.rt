@@ -9,8 +9,8 @@ use wasm_operators::Operator;
 /// Returns the prefix byte, if there is one, and the opcode or subopcode, with which each encoding
 /// starts.
 pub fn opcode(op: &Operator<'_>) -> (Option<u8>, u32)
-    ensures { (features : WasmFeatures) (text : List ℕ) → EncodesOperator features op.now text
-        → (head after : List ℕ) × (text ≡ head ++ after) × EncodesOpcode result.0 result.1 head }
+    ensures { (features : WasmFeatures) (text : List ℕ) → EncodesOperator features text op.now
+        → (head after : List ℕ) × (text ≡ head ++ after) × EncodesOpcode result.0 head result.1 }
 {
     let row = op.info();
     (row.prefix, row.code)

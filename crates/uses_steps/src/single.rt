@@ -165,7 +165,7 @@ pub fn first_operator<'a>(
 /// (law `operators`).
 pub fn operator_size(operators: &mut OperatorsReader<'_>) -> Result<usize>
     ensures { (op : Operator) (text more : List ℕ) → rest operators.old.reader ≡ text ++ more
-        → EncodesOperator operators.old.reader.features op text → IfOk result (λ size. size ≡ length text) }
+        → EncodesOperator operators.old.reader.features text op → IfOk result (λ size. size ≡ length text) }
 {
     let before = operators.get_binary_reader();
     operator_laws::operators(before.features());

@@ -16,7 +16,7 @@ use Rattle.wasm_c.proofs.Steps.{kinds_length}
 
 -- The statement of the law `frames_opened` about the half.
 abbrev pub OpensHalf : WasmFeatures → Type 0
-OpensHalf f = (op : Operator) (text : List ℕ) → EncodesOperator f op text → 2 * opened_by op ≤ length text
+OpensHalf f = (op : Operator) (text : List ℕ) → EncodesOperator f text op → 2 * opened_by op ≤ length text
 
 depth_along : AddsFewFrames → (old new : State) (placed : Placed) → ReadsEach old placed new → IsWithinDepth old new
 depth_along law old new [] same = subst (λ s. IsWithinDepth old s) (sym same) (omega arith)
@@ -33,6 +33,6 @@ room_along law features opens bytes opened now frames_opened frames_now placed f
     let depth = kinds_length frames_now now.depth was.depth in
     let along = depth_along law (state_at bytes opened frames_opened) (state_at bytes now frames_now) placed reads in
     let one = ap length fresh in
-    let half = opens none.op none.text (subst (λ f. EncodesOperator f none.op none.text) same none.encodes.0) in
+    let half = opens none.op none.text (subst (λ f. EncodesOperator f none.text none.op) same none.encodes.0) in
     let left : length (rest (reader_at bytes now)) ≡ length none.text + length none.more = ap length none.there ∙ length-append none.text none.more in
     omega (arith, depth, along, one, half, none.opens, left, length-drop now.position bytes, none.full, was.position, enough)

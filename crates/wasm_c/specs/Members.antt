@@ -20,7 +20,7 @@ bytes_at bytes offset features at = at_position (reader_of (features_of features
 
 -- The operator is encoded here.
 abbrev pub OccursThere : Reader → Operator → Type 0
-OccursThere input op = (text more : List ℕ) × (rest input ≡ text ++ more) × EncodesOperator input.features op text
+OccursThere input op = (text more : List ℕ) × (rest input ≡ text ++ more) × EncodesOperator input.features text op
 
 -- Reading an operator here, inside a block, fails.
 abbrev pub RefusesThere : WasmRefusal → Reader → Type 0

@@ -86,7 +86,7 @@ is_after_code start p code mid now b (number, u, t) = go b.opcode
     start_same : at_position mid start ≡ at_position now start
     start_same = sym (ap (λ (z : Reader). at_position z start) t.moved)
 
-    go : Reads (λ text it. EncodesOpcode None it text) (Ok p) (at_position mid start) mid → (now ≡ at_position mid now.position) × IsAfterCode start (Some p) code now
+    go : Reads (λ text it. EncodesOpcode None text it) (Ok p) (at_position mid start) mid → (now ≡ at_position mid now.position) × IsAfterCode start (Some p) code now
     go (head, opcode, taken) =
         let both : Takes (at_position mid start) now (head ++ number) = takes_then (at_position mid start) mid now head number taken t in
         let whole : Takes (at_position mid start) now (p ∷ number) = subst (λ z. Takes (at_position mid start) now (z ++ number)) opcode both in
@@ -97,14 +97,14 @@ is_after_code start p code mid now b (number, u, t) = go b.opcode
         )
 
 -- an operator that begins with a prefix byte has it
-pub begins_prefix : (f : WasmFeatures) (op : Operator) (p : ℕ) (text after left : List ℕ) → entry_at None p ≡ prefixes → EncodesOperator f op text → p ∷ after ≡ text ++ left →
+pub begins_prefix : (f : WasmFeatures) (op : Operator) (p : ℕ) (text after left : List ℕ) → entry_at None p ≡ prefixes → EncodesOperator f text op → p ∷ after ≡ text ++ left →
     (number later : List ℕ) × (prefix_of op ≡ Some p) × EncodesUnsigned 32 number (opcode_of op) × (after ≡ number ++ (later ++ left))
 begins_prefix f op p text after left is s eq = go (prefix_of op) refl s.code
   where
     whole : p ∷ after ≡ s.head ++ (s.after ++ left)
     whole = eq ∙ ap (λ z. z ++ left) s.parts ∙ append_assoc s.head s.after left
 
-    go : (q : Option ℕ) → prefix_of op ≡ q → EncodesOpcode q (opcode_of op) s.head →
+    go : (q : Option ℕ) → prefix_of op ≡ q → EncodesOpcode q s.head (opcode_of op) →
         (number later : List ℕ) × (prefix_of op ≡ Some p) × EncodesUnsigned 32 number (opcode_of op) × (after ≡ number ++ (later ++ left))
     go None e h =
         let first : p ∷ after ≡ opcode_of op ∷ (s.after ++ left) = whole ∙ ap (λ z. z ++ (s.after ++ left)) h in
@@ -122,7 +122,7 @@ pub refuses_subopcode : (k : FrameKind) (start p : ℕ) (e : Error) (mid now new
     RefusesOperator (EncodesAllowed mid.features k) (OperatorFault mid.features k) e (at_position mid start) new
 refuses_subopcode k start p e mid now new small is b (same, h) fault went = go b.opcode
   where
-    go : Reads (λ text it. EncodesOpcode None it text) (Ok p) (at_position mid start) mid →
+    go : Reads (λ text it. EncodesOpcode None text it) (Ok p) (at_position mid start) mid →
         RefusesOperator (EncodesAllowed mid.features k) (OperatorFault mid.features k) e (at_position mid start) new
     go (head, opcode, t) =
         let parts : rest (at_position mid start) ≡ p ∷ rest mid = t.parts ∙ ap (λ z. z ++ rest mid) opcode in
@@ -151,10 +151,10 @@ vector_prefix (operator.Simd op) h = refl
 vector_prefix op h = absurd h
 
 -- an operator that does not start with the byte 0xfd is not a SIMD operator
-scalar_after : (f : WasmFeatures) (op : Operator) (code : ℕ) (text after left : List ℕ) → code ≢ 0xfd → EncodesOperator f op text → code ∷ after ≡ text ++ left → ¬ IsVector op
+scalar_after : (f : WasmFeatures) (op : Operator) (code : ℕ) (text after left : List ℕ) → code ≢ 0xfd → EncodesOperator f text op → code ∷ after ≡ text ++ left → ¬ IsVector op
 scalar_after f op code text after left other s eq h = go (prefix_of op) refl s.code
   where
-    go : (q : Option ℕ) → prefix_of op ≡ q → EncodesOpcode q (opcode_of op) s.head → ⊥
+    go : (q : Option ℕ) → prefix_of op ≡ q → EncodesOpcode q s.head (opcode_of op) → ⊥
     go None e code_is = cc (sym e ∙ vector_prefix op h)
     go (Some q) e (number, head, u) =
         let first : code ∷ after ≡ q ∷ (number ++ (s.after ++ left)) = eq ∙ ap (λ z. z ++ left) s.parts ∙ append_assoc s.head s.after left ∙
@@ -183,7 +183,7 @@ pub to_scalar : {V A : Type 0} (visits : V → Operator → A → V → Type 0) 
     Decodes visits (EncodesScalar mid.features k) (ScalarOperatorFault mid.features k) result (at_position mid start) new v w
 to_scalar {V} {A} visits k start code mid new v w result other b h = go b.opcode result h
   where
-    go : Reads (λ text it. EncodesOpcode None it text) (Ok code) (at_position mid start) mid → (result : Result A Error) →
+    go : Reads (λ text it. EncodesOpcode None text it) (Ok code) (at_position mid start) mid → (result : Result A Error) →
         Decodes visits (EncodesAllowed mid.features k) (OperatorFault mid.features k) result (at_position mid start) new v w →
         Decodes visits (EncodesScalar mid.features k) (ScalarOperatorFault mid.features k) result (at_position mid start) new v w
     go (head, opcode, t) (Ok a) (text, op, s, taken, vis) =

@@ -100,12 +100,12 @@ guard_of_code op code g ks prefix opcode e = guard_in (guard_of (role_of op)) g 
 
 -- an error after the operator's start, if no bytes after this opcode make it an operator
 pub refuses_opcode : (k : FrameKind) (p : Option ℕ) (code start : ℕ) (e : Error) (mid new : Reader) → IsCode p code → IsAfterCode start p code mid →
-    ((head after : List ℕ) → EncodesOpcode p code head → NoPrefix (EncodesAllowed mid.features k) (head ++ after)) → new ≡ at_position mid start →
+    ((head after : List ℕ) → EncodesOpcode p head code → NoPrefix (EncodesAllowed mid.features k) (head ++ after)) → new ≡ at_position mid start →
     IsReadFault e.message → mid.start + start ≤ e.offset → e.offset ≤ offset_of mid → (HasFault (OperatorFault mid.features k) e (at_position mid start)) →
     RefusesOperator (EncodesAllowed mid.features k) (OperatorFault mid.features k) e (at_position mid start) new
 refuses_opcode k p code start e mid new c b none went readable from to fault = go b.opcode
   where
-    go : Reads (λ text it. EncodesOpcode p it text) (Ok code) (at_position mid start) mid →
+    go : Reads (λ text it. EncodesOpcode p text it) (Ok code) (at_position mid start) mid →
         RefusesOperator (EncodesAllowed mid.features k) (OperatorFault mid.features k) e (at_position mid start) new
     go (head, opcode, t) = (
       went,
@@ -123,14 +123,14 @@ not_prefix code g ks e h = cc (sym e ∙ h)
 
 -- without its feature, no operator with this opcode has an encoding
 pub none_enabled : (f : WasmFeatures) (k : FrameKind) (code : ℕ) (g : Guard) (ks : List Kind) (head after : List ℕ) → IsCode None code → entry_at None code ≡ guarded g ks →
-    LacksFeature f g → EncodesOpcode None code head → NoPrefix (EncodesAllowed f k) (head ++ after)
+    LacksFeature f g → EncodesOpcode None head code → NoPrefix (EncodesAllowed f k) (head ++ after)
 none_enabled f k code g ks head after c is (needs, without) h text left op s eq =
     let o = own f None code head after text left op c h s.0 eq in
     without (enabled_needs f op g (guard_of_code op code g ks o.same_prefix o.same_code is) needs s.0.enabled)
 
 -- no operator with this opcode is allowed in another frame
 pub none_allowed : (f : WasmFeatures) (k : FrameKind) (code : ℕ) (g : Guard) (ks : List Kind) (head after : List ℕ) → IsCode None code → entry_at None code ≡ guarded g ks →
-    (Allows k (guarded_role g) → ⊥) → EncodesOpcode None code head → NoPrefix (EncodesAllowed f k) (head ++ after)
+    (Allows k (guarded_role g) → ⊥) → EncodesOpcode None head code → NoPrefix (EncodesAllowed f k) (head ++ after)
 none_allowed f k code g ks head after c is without h text left op s eq =
     let o = own f None code head after text left op c h s.0 eq in
     without (allows_guard k op g (guard_of_code op code g ks o.same_prefix o.same_code is) s.1)

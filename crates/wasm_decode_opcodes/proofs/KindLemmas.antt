@@ -35,7 +35,7 @@ use Rattle.wasm_decode_opcodes.specs.OperatorFaults.{KindFault, KindsFault}
 -- A reader reads the texts of the immediates of a kind.
 pub record OfKind {X : Type 0} (P : List ℕ → X → Type 0) (f : WasmFeatures) (k : Kind) (immediate : X → Immediate) : Type 0 where
   pub kind : (x : X) → kind_of (immediate x) ≡ k
-  pub encodes : (text : List ℕ) (x : X) → P text x → EncodesImmediate f (immediate x) text
+  pub encodes : (text : List ℕ) (x : X) → P text x → EncodesImmediate f text (immediate x)
   pub through : (text : List ℕ) (i : Immediate) → EncodesKind f k text i → (x : X) × P text x
 
 pub of_unsigned : (f : WasmFeatures) → OfKind (EncodesUnsigned 32) f is_unsigned_32 unsigned_32

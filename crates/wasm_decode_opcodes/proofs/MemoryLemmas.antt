@@ -29,11 +29,11 @@ list_start code ks old mid head is h parts (text, more, count, p, eq) =
 -- no operator that owns no list begins there
 pub needs_memory : (k : FrameKind) (code start : ℕ) (ks : List Kind) (mid : Reader) → IsCode None code → entry_at None code ≡ free ks → LeadsList code →
     IsAfterCode start None code mid → SomePrefix (EncodesToCount ks) (rest mid) →
-    ((op : Operator) (text left : List ℕ) → prefix_of op ≡ None → kinds_of op ≡ ks → (HoldsList op → ⊥) → EncodesImmediates mid.features (immediates_of op) text →
+    ((op : Operator) (text left : List ℕ) → prefix_of op ≡ None → kinds_of op ≡ ks → (HoldsList op → ⊥) → EncodesImmediates mid.features text (immediates_of op) →
     rest mid ≡ text ++ left → ⊥) → MayAllocate (EncodesAllowed mid.features k) (at_position mid start)
 needs_memory k code start ks mid c is leads b sized none = go b.opcode
   where
-    go : Reads (λ text it. EncodesOpcode None it text) (Ok code) (at_position mid start) mid → MayAllocate (EncodesAllowed mid.features k) (at_position mid start)
+    go : Reads (λ text it. EncodesOpcode None text it) (Ok code) (at_position mid start) mid → MayAllocate (EncodesAllowed mid.features k) (at_position mid start)
     go (head, h, t) =
         record {
           leads = (code, leads, (rest mid, t.parts ∙ ap (λ z. z ++ rest mid) h));

@@ -39,8 +39,8 @@ no_prefixes None ks e = cc e
 no_prefixes (Some g) ks e = cc e
 
 -- an operator whose encoding begins with this opcode, or this prefix byte and subopcode, has it
-agrees : (p q : Option ℕ) (op : Operator) (code : ℕ) (head other x y : List ℕ) → prefix_of op ≡ q → IsCode p code → EncodesOpcode p code head →
-    EncodesOpcode q (opcode_of op) other → head ++ x ≡ other ++ y → (q ≡ p) × (opcode_of op ≡ code) × (head ≡ other)
+agrees : (p q : Option ℕ) (op : Operator) (code : ℕ) (head other x y : List ℕ) → prefix_of op ≡ q → IsCode p code → EncodesOpcode p head code →
+    EncodesOpcode q other (opcode_of op) → head ++ x ≡ other ++ y → (q ≡ p) × (opcode_of op ≡ code) × (head ≡ other)
 agrees None None op code head other x y e c h k eq =
     let whole : code ∷ x ≡ opcode_of op ∷ y = ap (λ z. z ++ x) (sym h) ∙ eq ∙ ap (λ z. z ++ y) k in
     let same : code ≡ opcode_of op = cc whole in
@@ -67,10 +67,10 @@ pub record Own (f : WasmFeatures) (p : Option ℕ) (code : ℕ) (head later text
   pub after : List ℕ
   pub parts : text ≡ head ++ after
   pub goes_on : later ≡ after ++ left
-  pub immediates : EncodesImmediates f (immediates_of op) after
+  pub immediates : EncodesImmediates f after (immediates_of op)
 
-pub own : (f : WasmFeatures) (p : Option ℕ) (code : ℕ) (head after text left : List ℕ) (op : Operator) → IsCode p code → EncodesOpcode p code head →
-    EncodesOperator f op text → head ++ after ≡ text ++ left → Own f p code head after text left op
+pub own : (f : WasmFeatures) (p : Option ℕ) (code : ℕ) (head after text left : List ℕ) (op : Operator) → IsCode p code → EncodesOpcode p head code →
+    EncodesOperator f text op → head ++ after ≡ text ++ left → Own f p code head after text left op
 own f p code head after text left op c h s eq =
     let whole : head ++ after ≡ s.head ++ (s.after ++ left) = eq ∙ ap (λ z. z ++ left) s.parts ∙ append_assoc s.head s.after left in
     let a = agrees p (prefix_of op) op code head s.head after (s.after ++ left) refl c h s.code whole in
@@ -120,7 +120,7 @@ enabled_free f op e = tt
 
 -- ---- errors
 
-some_head : (p : Option ℕ) (code : ℕ) (head : List ℕ) → EncodesOpcode p code head → 0 < length head
+some_head : (p : Option ℕ) (code : ℕ) (head : List ℕ) → EncodesOpcode p head code → 0 < length head
 some_head None code head h = let n : length head ≡ 1 = ap length h in omega arith
 some_head (Some p) code head (number, h, u) = let n : length head ≡ suc (length number) = ap length h in omega arith
 
@@ -128,7 +128,7 @@ some_head (Some p) code head (number, h, u) = let n : length head ≡ suc (lengt
 pub within_after_code : (start : ℕ) (p : Option ℕ) (code : ℕ) (mid : Reader) → IsAfterCode start p code mid → offset_of mid ≤ end_of mid
 within_after_code start p code mid b = go b.opcode
   where
-    go : Reads (λ text it. EncodesOpcode p it text) (Ok code) (at_position mid start) mid → offset_of mid ≤ end_of mid
+    go : Reads (λ text it. EncodesOpcode p text it) (Ok code) (at_position mid start) mid → offset_of mid ≤ end_of mid
     go (head, h, t) =
         let some = some_head p code head h in
         let at : mid.position ≡ start + length head = ap (λ (r : Reader). r.position) t.moved in
@@ -137,7 +137,7 @@ within_after_code start p code mid b = go b.opcode
 
 -- if no immediates of the kinds follow the opcode, no operator begins at its start
 pub none_after : (f : WasmFeatures) (k : FrameKind) (p : Option ℕ) (code : ℕ) (ks : List Kind) (head after : List ℕ) → IsCode p code → HasKinds (entry_at p code) ks →
-    EncodesOpcode p code head → NoPrefix (EncodesKinds f ks) after → NoPrefix (EncodesAllowed f k) (head ++ after)
+    EncodesOpcode p head code → NoPrefix (EncodesKinds f ks) after → NoPrefix (EncodesAllowed f k) (head ++ after)
 none_after f k p code ks head after c has h none text left op s eq =
     let o = own f p code head after text left op c h s.0 eq in
     none o.after left (immediates_of op) (kinds_of_code op p code ks o.same_prefix o.same_code has, o.immediates) o.goes_on
@@ -148,7 +148,7 @@ pub refused_operator : (k : FrameKind) (p : Option ℕ) (code : ℕ) (ks : List 
     IsRefusedOperator (EncodesAllowed mid.features k) e (at_position mid start)
 refused_operator k p code ks takes start e mid c has b h memory = go b.opcode
   where
-    go : Reads (λ text it. EncodesOpcode p it text) (Ok code) (at_position mid start) mid → IsRefusedOperator (EncodesAllowed mid.features k) e (at_position mid start)
+    go : Reads (λ text it. EncodesOpcode p text it) (Ok code) (at_position mid start) mid → IsRefusedOperator (EncodesAllowed mid.features k) e (at_position mid start)
     go (head, opcode, t) =
         record {
           refuses = λ more follow. subst (NoPrefix (EncodesAllowed mid.features k)) (sym (ap (λ z. z ++ more) t.parts ∙ append_assoc head (rest mid) more))
@@ -171,14 +171,14 @@ pub opcode_fault : (k : FrameKind) (code start : ℕ) (m : Message) (mid : Reade
     OpcodeFault mid.features k (mid.start + start) code m mid offset → OperatorFault mid.features k m (at_position mid start) offset
 opcode_fault k code start m mid offset small b fault = go b.opcode
   where
-    go : Reads (λ text it. EncodesOpcode None it text) (Ok code) (at_position mid start) mid → OperatorFault mid.features k m (at_position mid start) offset
+    go : Reads (λ text it. EncodesOpcode None text it) (Ok code) (at_position mid start) mid → OperatorFault mid.features k m (at_position mid start) offset
     go (head, opcode, t) = inr (code, mid, (head, (opcode, small), t), fault)
 
 pub subopcode_fault : (k : FrameKind) (p code start : ℕ) (m : Message) (mid : Reader) (offset : ℕ) → p < 256 → entry_at None p ≡ prefixes →
     IsAfterCode start (Some p) code mid → SubopcodeFault mid.features (mid.start + start) p code m mid offset → OperatorFault mid.features k m (at_position mid start) offset
 subopcode_fault k p code start m mid offset small is b fault = go b.opcode
   where
-    go : Reads (λ text it. EncodesOpcode (Some p) it text) (Ok code) (at_position mid start) mid → OperatorFault mid.features k m (at_position mid start) offset
+    go : Reads (λ text it. EncodesOpcode (Some p) text it) (Ok code) (at_position mid start) mid → OperatorFault mid.features k m (at_position mid start) offset
     go (head, (number, parts, u), t) =
         let s = byte_before (at_position mid start) mid p number (subst (Takes (at_position mid start) mid) parts t) in
         inr (
@@ -217,15 +217,15 @@ refuses_free visits k p code ks start e mid new v c is b (went, h, fault) = (
 )
 
 -- the operator whose parts were read
-pub encodes_read : (f : WasmFeatures) (op : Operator) (p : Option ℕ) (code : ℕ) (is : List Immediate) (head text : List ℕ) → EncodesOpcode p code head →
-    EncodesImmediates f is text → prefix_of op ≡ p → opcode_of op ≡ code → immediates_of op ≡ is → IsEnabled f op → EncodesOperator f op (head ++ text)
+pub encodes_read : (f : WasmFeatures) (op : Operator) (p : Option ℕ) (code : ℕ) (is : List Immediate) (head text : List ℕ) → EncodesOpcode p head code →
+    EncodesImmediates f text is → prefix_of op ≡ p → opcode_of op ≡ code → immediates_of op ≡ is → IsEnabled f op → EncodesOperator f (head ++ text) op
 encodes_read f op p code is head text h i prefix opcode immediates enabled =
     record {
       head = head;
       after = text;
       parts = refl;
-      code = subst (λ z. EncodesOpcode z (opcode_of op) head) (sym prefix) (subst (λ z. EncodesOpcode p z head) (sym opcode) h);
-      immediates = subst (λ z. EncodesImmediates f z text) (sym immediates) i;
+      code = subst (λ z. EncodesOpcode z head (opcode_of op)) (sym prefix) (subst (λ z. EncodesOpcode p head z) (sym opcode) h);
+      immediates = subst (λ z. EncodesImmediates f text z) (sym immediates) i;
       enabled = enabled;
     }
 
@@ -237,7 +237,7 @@ pub reads_visited : {V A : Type 0} (visits : V → Operator → A → V → Type
     Decodes visits (EncodesAllowed mid.features k) Fault (Ok a) (at_position mid start) new v w
 reads_visited visits Fault k p code ks is start mid new v w a b (op, prefix, opcode, immediates, vis) (text, i, taken) allowed = go b.opcode
   where
-    go : Reads (λ text it. EncodesOpcode p it text) (Ok code) (at_position mid start) mid →
+    go : Reads (λ text it. EncodesOpcode p text it) (Ok code) (at_position mid start) mid →
         Decodes visits (EncodesAllowed mid.features k) Fault (Ok a) (at_position mid start) new v w
     go (head, h, t) =
         let g = allowed op prefix opcode in (
@@ -270,7 +270,7 @@ no_entry None ks e = cc e
 no_entry (Some g) ks e = cc e
 
 pub none_unknown : (f : WasmFeatures) (k : FrameKind) (p : Option ℕ) (code : ℕ) (head after : List ℕ) → IsCode p code → entry_at p code ≡ unknown →
-    EncodesOpcode p code head → NoPrefix (EncodesAllowed f k) (head ++ after)
+    EncodesOpcode p head code → NoPrefix (EncodesAllowed f k) (head ++ after)
 none_unknown f k p code head after c is h text left op s eq =
     let o = own f p code head after text left op c h s.0 eq in
     no_entry (guard_of (role_of op)) (kinds_of op) (sym (same_entry op p code o.same_prefix o.same_code) ∙ is)

@@ -20,8 +20,8 @@ map_append : (is js : List Immediate) → map kind_of (is ++ js) ≡ map kind_of
 map_append [] js = refl
 map_append (i ∷ is) js = ap (λ z. kind_of i ∷ z) (map_append is js)
 
-encoded_then : (f : WasmFeatures) (is js : List Immediate) (t u : List ℕ) → EncodesImmediates f is t → EncodesImmediates f js u → EncodesImmediates f (is ++ js) (t ++ u)
-encoded_then f [] js t u e h = subst (EncodesImmediates f js) (sym (ap (λ z. z ++ u) e)) h
+encoded_then : (f : WasmFeatures) (is js : List Immediate) (t u : List ℕ) → EncodesImmediates f t is → EncodesImmediates f u js → EncodesImmediates f (t ++ u) (is ++ js)
+encoded_then f [] js t u e h = subst (λ z. EncodesImmediates f z js) (sym (ap (λ z. z ++ u) e)) h
 encoded_then f (i ∷ is) js t u (a, b, parts, one, more) h =
     (a, b ++ u, ap (λ z. z ++ u) parts ∙ append_assoc a b u, one, encoded_then f is js b u more h)
 

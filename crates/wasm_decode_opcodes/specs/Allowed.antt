@@ -10,7 +10,7 @@ use Rattle.wasm_instr.specs.Roles.{role_of}
 
 -- The text encodes the operator, and a frame of this kind allows it.
 abbrev pub EncodesAllowed : WasmFeatures → FrameKind → List ℕ → Operator → Type 0
-EncodesAllowed f k text op = EncodesOperator f op text × Allows k (role_of op)
+EncodesAllowed f k text op = EncodesOperator f text op × Allows k (role_of op)
 
 -- As `EncodesAllowed`, and the operator is no SIMD operator.
 abbrev pub EncodesScalar : WasmFeatures → FrameKind → List ℕ → Operator → Type 0

@@ -5,8 +5,8 @@ use Rattle.wasm_instr.specs.Immediate.{Immediate, Kind, kind_of, EncodesImmediat
 
 -- The bytes `text` encode the immediate `i`, whose kind is `k`.
 abbrev pub EncodesKind : WasmFeatures → Kind → List ℕ → Immediate → Type 0
-EncodesKind f k text i = (kind_of i ≡ k) × EncodesImmediate f i text
+EncodesKind f k text i = (kind_of i ≡ k) × EncodesImmediate f text i
 
 -- The bytes `text` encode the immediates `is` in order, whose kinds are `ks`.
 abbrev pub EncodesKinds : WasmFeatures → List Kind → List ℕ → List Immediate → Type 0
-EncodesKinds f ks text is = (map kind_of is ≡ ks) × EncodesImmediates f is text
+EncodesKinds f ks text is = (map kind_of is ≡ ks) × EncodesImmediates f text is

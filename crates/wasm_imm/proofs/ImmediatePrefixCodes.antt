@@ -16,7 +16,7 @@ use Rattle.wasm_imm.proofs.VectorPrefixCodes.{sixteen_prefix_code, vector_prefix
 use Rattle.wasm_imm_control.proofs.BranchTables.{table_prefix_code}
 use Rattle.wasm_imm.specs.Immediate.{Immediate, unsigned_32, signed_32, signed_64, float_32, float_64, vector, one_lane, sixteen_lanes, memory_argument, memory_index, table_index_32, order, fence_order, heap_type, cast, block_type, branch_table, select_types, try_clauses, resume_clauses, kind_of, EncodesImmediate, EncodesImmediates}
 
-pub immediate_prefix_code : (f : WasmFeatures) (i j : Immediate) (a b x y : List ℕ) → kind_of i ≡ kind_of j → EncodesImmediate f i a → EncodesImmediate f j b →
+pub immediate_prefix_code : (f : WasmFeatures) (i j : Immediate) (a b x y : List ℕ) → kind_of i ≡ kind_of j → EncodesImmediate f a i → EncodesImmediate f b j →
     a ++ x ≡ b ++ y → (i ≡ j) × (a ≡ b)
 immediate_prefix_code f (unsigned_32 m) (unsigned_32 n) a b x y k p q e = let u = unsigned_prefix_code a b 32 x y m n p q e in (ap unsigned_32 u.1, u.0)
 immediate_prefix_code f (signed_32 m) (signed_32 n) a b x y k p q e = let u = signed_prefix_code a b 32 x y m n p q e in (ap signed_32 u.1, u.0)
@@ -46,8 +46,8 @@ immediate_prefix_code f (try_clauses m) (try_clauses n) a b x y k p q e = let u 
 immediate_prefix_code f (resume_clauses m) (resume_clauses n) a b x y k p q e = let u = resume_prefix_code a b x y m n p q e in (ap resume_clauses u.1, u.0)
 immediate_prefix_code f _ _ a b x y k p q e = absurd (cc k)
 
-pub immediates_prefix_code : (f : WasmFeatures) (is js : List Immediate) (a b x y : List ℕ) → map kind_of is ≡ map kind_of js → EncodesImmediates f is a →
-    EncodesImmediates f js b → a ++ x ≡ b ++ y → (is ≡ js) × (a ≡ b)
+pub immediates_prefix_code : (f : WasmFeatures) (is js : List Immediate) (a b x y : List ℕ) → map kind_of is ≡ map kind_of js → EncodesImmediates f a is →
+    EncodesImmediates f b js → a ++ x ≡ b ++ y → (is ≡ js) × (a ≡ b)
 immediates_prefix_code f [] [] a b x y k p q e = (refl, p ∙ sym q)
 immediates_prefix_code f [] (j ∷ js) a b x y k p q e = absurd (cc k)
 immediates_prefix_code f (i ∷ is) [] a b x y k p q e = absurd (cc k)

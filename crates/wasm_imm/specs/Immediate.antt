@@ -76,29 +76,29 @@ kind_of (select_types _) = is_select_types
 kind_of (try_clauses _) = is_try_clauses
 kind_of (resume_clauses _) = is_resume_clauses
 
-abbrev pub EncodesImmediate : WasmFeatures → Immediate → List ℕ → Type 0
-EncodesImmediate f (unsigned_32 n) bytes = EncodesUnsigned 32 bytes n
-EncodesImmediate f (signed_32 n) bytes = EncodesSigned 32 bytes n
-EncodesImmediate f (signed_64 n) bytes = EncodesSigned 64 bytes n
-EncodesImmediate f (float_32 n) bytes = EncodesFixed w32 bytes n
-EncodesImmediate f (float_64 n) bytes = EncodesFixed w64 bytes n
-EncodesImmediate f (vector v) bytes = EncodesVector bytes v
-EncodesImmediate f (one_lane n) bytes = IsByte bytes n
-EncodesImmediate f (sixteen_lanes v) bytes = EncodesSixteen bytes v
-EncodesImmediate f (memory_argument kind max m) bytes = EncodesMemArg f kind max bytes m
-EncodesImmediate f (memory_index n) bytes = EncodesMemoryIndex f bytes n
-EncodesImmediate f (table_index_32 n) bytes = EncodesTableIndex f bytes n
-EncodesImmediate f (order o) bytes = EncodesOrderingByte bytes o
-EncodesImmediate f (fence_order o) bytes = EncodesFence f bytes o
-EncodesImmediate f (heap_type t) bytes = EncodesHeapType bytes t
-EncodesImmediate f (cast c) bytes = EncodesCast bytes c
-EncodesImmediate f (block_type t) bytes = EncodesBlockType bytes t
-EncodesImmediate f (branch_table t) bytes = EncodesBranchTable bytes t
-EncodesImmediate f (select_types types) bytes = EncodesSelect bytes types
-EncodesImmediate f (try_clauses t) bytes = EncodesTryTable bytes t
-EncodesImmediate f (resume_clauses t) bytes = EncodesResumeTable bytes t
+abbrev pub EncodesImmediate : WasmFeatures → List ℕ → Immediate → Type 0
+EncodesImmediate f bytes (unsigned_32 n) = EncodesUnsigned 32 bytes n
+EncodesImmediate f bytes (signed_32 n) = EncodesSigned 32 bytes n
+EncodesImmediate f bytes (signed_64 n) = EncodesSigned 64 bytes n
+EncodesImmediate f bytes (float_32 n) = EncodesFixed w32 bytes n
+EncodesImmediate f bytes (float_64 n) = EncodesFixed w64 bytes n
+EncodesImmediate f bytes (vector v) = EncodesVector bytes v
+EncodesImmediate f bytes (one_lane n) = IsByte bytes n
+EncodesImmediate f bytes (sixteen_lanes v) = EncodesSixteen bytes v
+EncodesImmediate f bytes (memory_argument kind max m) = EncodesMemArg f kind max bytes m
+EncodesImmediate f bytes (memory_index n) = EncodesMemoryIndex f bytes n
+EncodesImmediate f bytes (table_index_32 n) = EncodesTableIndex f bytes n
+EncodesImmediate f bytes (order o) = EncodesOrderingByte bytes o
+EncodesImmediate f bytes (fence_order o) = EncodesFence f bytes o
+EncodesImmediate f bytes (heap_type t) = EncodesHeapType bytes t
+EncodesImmediate f bytes (cast c) = EncodesCast bytes c
+EncodesImmediate f bytes (block_type t) = EncodesBlockType bytes t
+EncodesImmediate f bytes (branch_table t) = EncodesBranchTable bytes t
+EncodesImmediate f bytes (select_types types) = EncodesSelect bytes types
+EncodesImmediate f bytes (try_clauses t) = EncodesTryTable bytes t
+EncodesImmediate f bytes (resume_clauses t) = EncodesResumeTable bytes t
 
 -- The encodings of the immediates, in sequence.
-abbrev pub EncodesImmediates : WasmFeatures → List Immediate → List ℕ → Type 0
-EncodesImmediates f [] bytes = bytes ≡ []
-EncodesImmediates f (i ∷ is) bytes = (first more : List ℕ) × (bytes ≡ first ++ more) × EncodesImmediate f i first × EncodesImmediates f is more
+abbrev pub EncodesImmediates : WasmFeatures → List ℕ → List Immediate → Type 0
+EncodesImmediates f bytes [] = bytes ≡ []
+EncodesImmediates f bytes (i ∷ is) = (first more : List ℕ) × (bytes ≡ first ++ more) × EncodesImmediate f first i × EncodesImmediates f more is

@@ -10,8 +10,8 @@ use wasm_imm_control::below::WasmFeatures;
 pub fn immediates(features: WasmFeatures)
     ensures { (is js : List Immediate) (a b x y : List ℕ)
         → map kind_of is ≡ map kind_of js
-        → EncodesImmediates features is a
-        → EncodesImmediates features js b
+        → EncodesImmediates features a is
+        → EncodesImmediates features b js
         → a ++ x ≡ b ++ y
         → (is ≡ js) × (a ≡ b) }
 {}

@@ -17,11 +17,11 @@ abbrev pub first_byte : Option ℕ → ℕ → ℕ
 first_byte None code = code
 first_byte (Some prefix) code = prefix
 
-first_of_opcode : (prefix : Option ℕ) (code : ℕ) (head : List ℕ) → EncodesOpcode prefix code head → BeginsWith (first_byte prefix code) head
+first_of_opcode : (prefix : Option ℕ) (code : ℕ) (head : List ℕ) → EncodesOpcode prefix head code → BeginsWith (first_byte prefix code) head
 first_of_opcode None code head h = ([], h)
 first_of_opcode (Some prefix) code head h = (h.0, h.1)
 
-pub begins_encoding : (f : WasmFeatures) (op : Operator) (text : List ℕ) → EncodesOperator f op text → BeginsWith (first_byte (prefix_of op)
+pub begins_encoding : (f : WasmFeatures) (op : Operator) (text : List ℕ) → EncodesOperator f text op → BeginsWith (first_byte (prefix_of op)
     (opcode_of op)) text
 begins_encoding f op text s =
     let h = first_of_opcode (prefix_of op) (opcode_of op) s.head s.code in
@@ -36,7 +36,7 @@ change_by_first (operator.Numeric op) = numeric_stays op
 change_by_first operator.Unreachable = refl
 change_by_first _ = refl
 
-pub changes_there : (f : WasmFeatures) (op : Operator) (text more left : List ℕ) (byte : ℕ) → EncodesOperator f op text → left ≡ text ++ more →
+pub changes_there : (f : WasmFeatures) (op : Operator) (text more left : List ℕ) (byte : ℕ) → EncodesOperator f text op → left ≡ text ++ more →
     BeginsWith byte left → change_at byte ≡ change_of (role_of op)
 changes_there f op text more left byte s e (others, d) =
     let h = begins_encoding f op text s in
@@ -44,7 +44,7 @@ changes_there f op text more left byte s e (others, d) =
     let same : byte ≡ first_byte (prefix_of op) (opcode_of op) = cc whole in
     ap change_at same ∙ change_by_first op
 
-pub changes_first : (f : WasmFeatures) (op : Operator) (text : List ℕ) (byte : ℕ) → EncodesOperator f op text → BeginsWith byte text →
+pub changes_first : (f : WasmFeatures) (op : Operator) (text : List ℕ) (byte : ℕ) → EncodesOperator f text op → BeginsWith byte text →
     change_at byte ≡ change_of (role_of op)
 changes_first f op text byte s (others, d) =
     let h = begins_encoding f op text s in

@@ -54,7 +54,7 @@ in_range : (op : Operator) → IsInRange (prefix_of op) (opcode_of op)
 in_range (operator.Numeric op) = numeric_short op
 in_range op = refl
 
-opcode_prefix_code : (p q : Option ℕ) (c d : ℕ) (a b x y : List ℕ) → IsInRange p c → IsInRange q d → EncodesOpcode p c a → EncodesOpcode q d b → a ++ x ≡ b ++ y →
+opcode_prefix_code : (p q : Option ℕ) (c d : ℕ) (a b x y : List ℕ) → IsInRange p c → IsInRange q d → EncodesOpcode p a c → EncodesOpcode q b d → a ++ x ≡ b ++ y →
     (p ≡ q) × (c ≡ d) × (a ≡ b)
 opcode_prefix_code None None c d a b x y s t h k e =
     let whole : c ∷ x ≡ d ∷ y = ap (λ z. z ++ x) (sym h) ∙ e ∙ ap (λ z. z ++ y) k in
@@ -74,7 +74,7 @@ opcode_prefix_code (Some p) (Some q) c d a b x y s t (number, h, u) (other, k, v
     let n = unsigned_prefix_code number other 32 x y c d u v (cc whole) in
     (ap Some same, n.1, h ∙ cc (same, n.0) ∙ sym k)
 
-pub operator_prefix_code : (f : WasmFeatures) (op po : Operator) (a b x y : List ℕ) → EncodesOperator f op a → EncodesOperator f po b → a ++ x ≡ b ++ y →
+pub operator_prefix_code : (f : WasmFeatures) (op po : Operator) (a b x y : List ℕ) → EncodesOperator f a op → EncodesOperator f b po → a ++ x ≡ b ++ y →
     (op ≡ po) × (a ≡ b)
 operator_prefix_code f op po a b x y p q e =
     let whole : p.head ++ (p.after ++ x) ≡ q.head ++ (q.after ++ y) = sym (append_assoc p.head p.after x) ∙ ap (λ z. z ++ x) (sym p.parts) ∙ e ∙

@@ -9,9 +9,9 @@ use Rattle.wasm_instr.specs.Row.{prefix_of, opcode_of, immediates_of}
 use Rattle.wasm_instr_ops.specs.imm.Immediate.{EncodesImmediates}
 
 -- The opcode, or the prefix byte and the subopcode (u32).
-abbrev pub EncodesOpcode : Option ℕ → ℕ → List ℕ → Type 0
-EncodesOpcode None code bytes = bytes ≡ code ∷ []
-EncodesOpcode (Some prefix) code bytes = (number : List ℕ) × (bytes ≡ prefix ∷ number) × EncodesUnsigned 32 number code
+abbrev pub EncodesOpcode : Option ℕ → List ℕ → ℕ → Type 0
+EncodesOpcode None bytes code = bytes ≡ code ∷ []
+EncodesOpcode (Some prefix) bytes code = (number : List ℕ) × (bytes ≡ prefix ∷ number) × EncodesUnsigned 32 number code
 
 -- `try`, `catch` and `catch_all` need legacy_exceptions.
 abbrev pub IsEnabled : WasmFeatures → Operator → Type 0
@@ -21,10 +21,10 @@ IsEnabled f operator.CatchAll = HasFeature legacy_exceptions f
 IsEnabled f _ = Unit {0}
 
 -- With these features, the bytes encode opcode and immediates.
-pub record EncodesOperator (f : WasmFeatures) (op : Operator) (bytes : List ℕ) : Type 0 where
+pub record EncodesOperator (f : WasmFeatures) (bytes : List ℕ) (op : Operator) : Type 0 where
   pub head : List ℕ
   pub after : List ℕ
   pub parts : bytes ≡ head ++ after
-  pub code : EncodesOpcode (prefix_of op) (opcode_of op) head
-  pub immediates : EncodesImmediates f (immediates_of op) after
+  pub code : EncodesOpcode (prefix_of op) head (opcode_of op)
+  pub immediates : EncodesImmediates f after (immediates_of op)
   pub enabled : IsEnabled f op

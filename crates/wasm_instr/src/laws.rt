@@ -17,8 +17,8 @@ use wasm_instr_ops::below::WasmFeatures;
 /// States that the encodings of operators are a prefix code, under one set of features.
 pub fn operators(features: WasmFeatures)
     ensures { (op other : Operator) (a b x y : List ℕ)
-        → EncodesOperator features op a
-        → EncodesOperator features other b
+        → EncodesOperator features a op
+        → EncodesOperator features b other
         → a ++ x ≡ b ++ y
         → (op ≡ other) × (a ≡ b) }
 {}
@@ -34,7 +34,7 @@ pub fn shared_opcodes()
 /// States that the first byte of an operator determines what it does to the frames, which follow if
 /// the innermost allows the operator. Operators with first bytes from 0x20 on keep the frames.
 pub fn frame_changes()
-    ensures bytes { (f : WasmFeatures) (op : Operator) (text : List ℕ) (byte : ℕ) → EncodesOperator f op text
+    ensures bytes { (f : WasmFeatures) (op : Operator) (text : List ℕ) (byte : ℕ) → EncodesOperator f text op
         → BeginsWith byte text → change_at byte ≡ change_of (role_of op) }
     ensures frames { (op : Operator) (frames : List FrameKind) (kind : FrameKind)
         → innermost frames ≡ Some kind → Allows kind (role_of op)

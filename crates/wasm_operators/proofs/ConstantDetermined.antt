@@ -35,14 +35,14 @@ constant_prefix_code f a b x y m n first second e =
     let buffers = first.0.1 ∙ same.1 ∙ sym second.0.1 in
     (same.1, (first.0.0 ∙ sym second.0.0, buffers, first.0.2 ∙ sym second.0.2))
 
-end_encodes : (f : WasmFeatures) → EncodesOperator f operator.End (0x0b ∷ [])
+end_encodes : (f : WasmFeatures) → EncodesOperator f (0x0b ∷ []) operator.End
 end_encodes f = record { head = 0x0b ∷ []; after = []; parts = refl; code = refl; immediates = refl; enabled = tt }
 
 Ended : Message → Reader → List FrameKind → ℕ → Type 0
 Ended m r frames offset = IsNoOperator m r frames offset ⊎ EndsInside m r frames offset
 
 no_other : (m : Message) (r : Reader) (frames : List FrameKind) (offset : ℕ) → Ended m r frames offset → (text more : List ℕ) (op : Operator) →
-    EncodesOperator r.features op text → rest r ≡ text ++ more → (op ≡ operator.End → ⊥) → frames_after frames (role_of op) ≡ None
+    EncodesOperator r.features text op → rest r ≡ text ++ more → (op ≡ operator.End → ⊥) → frames_after frames (role_of op) ≡ None
 unfolding Ended
 no_other m r frames offset (inl (kind, innermost_is, none, fault)) text more op encodes e other = go (replacement kind (role_of op)) refl
   where
@@ -69,7 +69,7 @@ not_shorter m r a b xs ys offset p q ended =
   where
     goes : GoesOn r.features p.placed q.placed (rest a) → ⊥
     goes g =
-        let encodes = subst (λ f. EncodesOperator f g.next.0 g.text) (sym (features_stay r a p.text p.takes)) g.encodes in
+        let encodes = subst (λ f. EncodesOperator f g.text g.next.0) (sym (features_stay r a p.text p.takes)) g.encodes in
         let ops = ap operators g.parts ∙ operators-append p.placed (g.next ∷ g.others) in
         let other = no_end_there (operators p.placed) g.next.0 (operators g.others) (subst HasNoEnd ops q.no_end) in
         next_allowed r.features (frame.Block ∷ []) xs ys p.placed q.placed (rest a) p.along q.along g

@@ -108,5 +108,5 @@ open_along (op ∷ ops) inside frames h e =
 pub stays_open : (ops : List Operator) (frames : List FrameKind) → HasNoEnd ops → frames_along (frame.Block ∷ []) (roles_of ops) ≡ Some frames → frames ≡ [] → ⊥
 stays_open ops frames h e none = let o = open_along ops [] frames h e in cc (none, o.1)
 
-pub end_byte : (f : WasmFeatures) (text : List ℕ) → EncodesOperator f operator.End text → text ≡ 0x0b ∷ []
+pub end_byte : (f : WasmFeatures) (text : List ℕ) → EncodesOperator f text operator.End → text ≡ 0x0b ∷ []
 end_byte f text s = s.parts ∙ ap (λ head. head ++ s.after) s.code ∙ ap (λ (after : List ℕ). 0x0b ∷ after) s.immediates

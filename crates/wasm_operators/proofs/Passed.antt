@@ -34,7 +34,7 @@ parts_of : (s t : State) (placed : Placed) (r : TakesOperators s t placed) (more
 parts_of s t placed r more text left e = sym (append_assoc r.text (rest t.reader) more) ∙ ap (λ z. z ++ more) (sym r.takes.parts) ∙ e
 
 pub none_follows : (s t : State) (placed : Placed) (more : List ℕ) → IsFresh s → TakesOperators s t placed → HasNoEnd (operators placed) →
-    ((text after : List ℕ) (op : Operator) → EncodesOperator t.reader.features op text → rest t.reader ++ more ≡ text ++ after →
+    ((text after : List ℕ) (op : Operator) → EncodesOperator t.reader.features text op → rest t.reader ++ more ≡ text ++ after →
     frames_after t.frames (role_of op) ≡ None) → NoPrefix (EncodesConstantReader s.reader.features) (rest s.reader ++ more)
 none_follows s t placed more fresh r no_end stuck text left x encodes eq =
     let f = s.reader.features in
@@ -44,7 +44,7 @@ none_follows s t placed more fresh r no_end stuck text left x encodes eq =
     elim (cases_lt (length placed) (length c.0)) [
       | inl lt ↦ (
           let g = laid_goes_on f o placed c.0 r.text text (rest t.reader ++ more) left r.laid c.1 whole lt in
-          let there = subst (λ f. EncodesOperator f g.next.0 g.text) (sym (features_stay s.reader t.reader r.text r.takes)) g.encodes in
+          let there = subst (λ f. EncodesOperator f g.text g.next.0) (sym (features_stay s.reader t.reader r.text r.takes)) g.encodes in
           next_allowed f (frame.Block ∷ []) t.frames [] placed c.0 (rest t.reader ++ more) (from_block s t placed fresh r)
           (walk_runs_out (roles_of (operators c.0)) c.2.0 c.2.1) g (stuck g.text g.more g.next.0 there g.bytes)
           )

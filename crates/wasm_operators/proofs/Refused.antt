@@ -30,7 +30,7 @@ abbrev pub Stops : Error → State → Type 0
 Stops e t = StopsRead EncodesAllowed OperatorFault (NextMayAllocate EncodesAllowed) e t
 
 stuck : (e : Error) (t : State) (more : List ℕ) → Stops e t → MayFollow e.message more → (text after : List ℕ) (op : Operator) →
-    EncodesOperator t.reader.features op text → rest t.reader ++ more ≡ text ++ after → frames_after t.frames (role_of op) ≡ None
+    EncodesOperator t.reader.features text op → rest t.reader ++ more ≡ text ++ after → frames_after t.frames (role_of op) ≡ None
 stuck e t more (inl none) follow text after op encodes eq = ap (λ frames. frames_after frames (role_of op)) none.0
 stuck e t more (inr (inl there)) follow text after op encodes eq =
     refused_none EncodesAllowed OperatorFault e t there more follow text after op

@@ -77,7 +77,7 @@ record NextOccurs (Sort : Operator → Type 0) (s : State) (left : List ℕ) : T
   sort : Sort op
   text : List ℕ
   after : List ℕ
-  encodes : EncodesOperator s.reader.features op text
+  encodes : EncodesOperator s.reader.features text op
   bytes : left ≡ text ++ after
   allowed : frames_after s.frames (role_of op) ≡ None → ⊥
 
@@ -120,7 +120,7 @@ run_cut Sort Kept Encodes Fault Allocates keeps e before old new placed h r stop
           sort = keeps.each cut.whole cut.kept placed g.others g.next g.parts;
           text = g.text;
           after = g.more;
-          encodes = subst (λ f. EncodesOperator f g.next.0 g.text) (sym (features_stay old.reader new.reader r.text r.takes)) g.encodes;
+          encodes = subst (λ f. EncodesOperator f g.text g.next.0) (sym (features_stay old.reader new.reader r.text r.takes)) g.encodes;
           bytes = g.bytes;
           allowed = goes_allowed before old.reader.features placed cut.whole (rest new.reader ++ cut.more) new.frames (read_further before old new placed h r).path
               ([], cut.encodes.1.0, append-nil (roles_of (before ++ operators cut.whole)) ∙ cut.encodes.1.1) g;
@@ -231,7 +231,7 @@ not_shorter Kept reader frames new end placed others r q each none =
   where
     goes : GoesOn reader.features placed others (rest new.reader) → ⊥
     goes g =
-        let encodes = subst (λ f. EncodesOperator f g.next.0 g.text) (sym (features_stay reader new.reader r.text r.takes)) g.encodes in
+        let encodes = subst (λ f. EncodesOperator f g.text g.next.0) (sym (features_stay reader new.reader r.text r.takes)) g.encodes in
         next_allowed reader.features frames new.frames end.frames placed others (rest new.reader) r.along q.along g
         (none g.text g.more g.next.0 encodes (each placed g.others g.next g.parts) g.bytes)
 

@@ -63,7 +63,7 @@ pub record GoesOn (f : WasmFeatures) (ps qs : Placed) (after : List ℕ) : Type 
   pub more : List ℕ
   pub parts : qs ≡ ps ++ next ∷ others
   pub bytes : after ≡ text ++ more
-  pub encodes : EncodesOperator f next.0 text
+  pub encodes : EncodesOperator f text next.0
 
 pub same_place : (p q : Operator × ℕ) → p.0 ≡ q.0 → p.1 ≡ q.1 → p ≡ q
 same_place p q e d = ap (λ (o : Operator). let r : Operator × ℕ = (o, p.1) in r) e ∙ ap (λ (n : ℕ). let r : Operator × ℕ = (q.0, n) in r) d
@@ -92,11 +92,11 @@ laid_goes_on f offset (p ∷ ps) (q ∷ qs) a b x y (eo, t, r, ea, s, l) (eo2, t
     let g = laid_goes_on f (offset + length t) ps qs r r2 x y l m2 tail (omega arith) in
     record { next = g.next; others = g.others; text = g.text; more = g.more; parts = cc (same, g.parts); bytes = g.bytes; encodes = g.encodes }
 
-opcode_some : (prefix : Option ℕ) (code : ℕ) (head : List ℕ) → EncodesOpcode prefix code head → 1 ≤ length head
+opcode_some : (prefix : Option ℕ) (code : ℕ) (head : List ℕ) → EncodesOpcode prefix head code → 1 ≤ length head
 opcode_some None code head h = let n : length head ≡ 1 = ap length h in omega (arith, n)
 opcode_some (Some prefix) code head h = let n : length head ≡ length (prefix ∷ h.0) = ap length h.1 in omega (arith, n)
 
-pub encoded_some : (f : WasmFeatures) (op : Operator) (text : List ℕ) → EncodesOperator f op text → 1 ≤ length text
+pub encoded_some : (f : WasmFeatures) (op : Operator) (text : List ℕ) → EncodesOperator f text op → 1 ≤ length text
 encoded_some f op text s =
     let c = opcode_some (prefix_of op) (opcode_of op) s.head s.code in
     let n : length text ≡ length s.head + length s.after = ap length s.parts ∙ length-append s.head s.after in
@@ -106,7 +106,7 @@ none_some : (text more : List ℕ) → [] ≡ text ++ more → 1 ≤ length text
 none_some [] more e some = omega (arith, some)
 none_some (b ∷ text) more e some = absurd (cc e)
 
-pub not_empty : (f : WasmFeatures) (op : Operator) (text more : List ℕ) → EncodesOperator f op text → [] ≡ text ++ more → ⊥
+pub not_empty : (f : WasmFeatures) (op : Operator) (text more : List ℕ) → EncodesOperator f text op → [] ≡ text ++ more → ⊥
 not_empty f op text more s e = none_some text more e (encoded_some f op text s)
 
 pub laid_no_longer : (f : WasmFeatures) (offset : ℕ) (ps qs : Placed) (a b y : List ℕ) → LaidOut f offset ps a → LaidOut f offset qs b → a ++ [] ≡ b ++ y →

@@ -38,7 +38,7 @@ two_bytes code text head after first more e h b some =
 none_opened : (n : ℕ) → 2 * 0 ≤ n
 none_opened n = omega arith
 
-pub twice_opened : (f : WasmFeatures) (op : Operator) (text : List ℕ) → EncodesOperator f op text → 2 * opened_by op ≤ length text
+pub twice_opened : (f : WasmFeatures) (op : Operator) (text : List ℕ) → EncodesOperator f text op → 2 * opened_by op ≤ length text
 twice_opened f (operator.Block ty) text s =
     two_bytes 0x02 text s.head s.after s.immediates.0 s.immediates.1 s.parts s.code s.immediates.2 (block_some s.immediates.0 ty s.immediates.3)
 twice_opened f (operator.Loop ty) text s =
@@ -111,13 +111,13 @@ opened_some change.Stays h = absurd (omega (arith, h))
 opened_some (change.Turns kind) h = absurd (omega (arith, h))
 opened_some change.Closes h = absurd (omega (arith, h))
 
-pub opener_leads : (f : WasmFeatures) (op : Operator) (text : List ℕ) → EncodesOperator f op text → 0 < opened_by op →
+pub opener_leads : (f : WasmFeatures) (op : Operator) (text : List ℕ) → EncodesOperator f text op → 0 < opened_by op →
     (byte : ℕ) × BeginsWith byte text × OpensFrame (change_at byte)
 opener_leads f op text s some =
     let byte = first_byte (prefix_of op) (opcode_of op) in
     let begins = begins_encoding f op text s in
     (byte, begins, subst OpensFrame (sym (changes_first f op text byte s begins)) (opened_some (change_of (role_of op)) some))
 
-pub leads_opener : (f : WasmFeatures) (op : Operator) (text : List ℕ) (byte : ℕ) → EncodesOperator f op text → BeginsWith byte text →
+pub leads_opener : (f : WasmFeatures) (op : Operator) (text : List ℕ) (byte : ℕ) → EncodesOperator f text op → BeginsWith byte text →
     OpensFrame (change_at byte) → opened_by op ≡ 1
 leads_opener f op text byte s begins opens = opened_one (change_of (role_of op)) (subst OpensFrame (changes_first f op text byte s begins) opens)

@@ -17,11 +17,11 @@ use Rattle.wasm_operators_readers.specs.Reading.{Taking, Refusing}
 
 -- What is read is an encoding.
 abbrev pub IsSound : Taking → Type 0
-IsSound Encodes = (f : WasmFeatures) (kind : FrameKind) (text : List ℕ) (op : Operator) → Encodes f kind text op → EncodesOperator f op text
+IsSound Encodes = (f : WasmFeatures) (kind : FrameKind) (text : List ℕ) (op : Operator) → Encodes f kind text op → EncodesOperator f text op
 
 -- Each operator of this sort that is encoded and allowed is read.
 abbrev pub TakesEach : (Operator → Type 0) → Taking → Type 0
-TakesEach Kept Encodes = (f : WasmFeatures) (kind : FrameKind) (text : List ℕ) (op : Operator) → EncodesOperator f op text → Allows kind (role_of op) →
+TakesEach Kept Encodes = (f : WasmFeatures) (kind : FrameKind) (text : List ℕ) (op : Operator) → EncodesOperator f text op → Allows kind (role_of op) →
     Kept op → Encodes f kind text op
 
 abbrev pub Everything : Operator → Type 0

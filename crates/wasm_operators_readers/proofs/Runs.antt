@@ -180,7 +180,7 @@ run_tree before old new placed h r closed all =
 
 -- No operator of this sort that is encoded after the run may follow.
 abbrev pub IsStuckFor : (Operator → Type 0) → State → Type 0
-IsStuckFor Kept s = (text more : List ℕ) (op : Operator) → EncodesOperator s.reader.features op text → Kept op → rest s.reader ≡ text ++ more →
+IsStuckFor Kept s = (text more : List ℕ) (op : Operator) → EncodesOperator s.reader.features text op → Kept op → rest s.reader ≡ text ++ more →
     frames_after s.frames (role_of op) ≡ None
 
 pub stuck_run : (Encodes : Taking) (Fault : Refusing) (Allocates : Allocating) (Kept : Operator → Type 0) → TakesEach Kept Encodes → (e : Error) (s : State) →
@@ -219,7 +219,7 @@ run_flat Sort Kept each old new placed r kept none = record { beginning = ran_al
         GoesOn old.reader.features placed others (rest new.reader) → ⊥
     goes_on others other too g =
         let some = some_of (frames_along old.frames (roles_of (operators others))) other.allowed in
-        let encodes = subst (λ f. EncodesOperator f g.next.0 g.text) (sym (features_stay old.reader new.reader r.text r.takes)) g.encodes in
+        let encodes = subst (λ f. EncodesOperator f g.text g.next.0) (sym (features_stay old.reader new.reader r.text r.takes)) g.encodes in
         next_allowed old.reader.features old.frames new.frames some.0 placed others (rest new.reader) r.frames some.1 g
         (none g.text g.more g.next.0 encodes (each others too placed g.others g.next g.parts) g.bytes)
 

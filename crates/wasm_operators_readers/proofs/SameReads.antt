@@ -18,9 +18,9 @@ pub taken_same : (Encodes : Taking) → IsSound Encodes → (op other : Operator
     TakesOperator Encodes op old new → TakesOperator Encodes other start end → (op ≡ other) × SameReaderAndFrames new end
 taken_same Encodes sound op other old new start end agree a b =
     let features : start.reader.features ≡ old.reader.features = ap (λ (r : Reader). r.features) agree.0 in
-    let first : EncodesOperator old.reader.features op a.text = sound old.reader.features a.kind a.text op a.encodes in
-    let second : EncodesOperator old.reader.features other b.text =
-    subst (λ f. EncodesOperator f other b.text) features (sound start.reader.features b.kind b.text other b.encodes) in
+    let first : EncodesOperator old.reader.features a.text op = sound old.reader.features a.kind a.text op a.encodes in
+    let second : EncodesOperator old.reader.features b.text other =
+    subst (λ f. EncodesOperator f b.text other) features (sound start.reader.features b.kind b.text other b.encodes) in
     let whole : a.text ++ rest new.reader ≡ b.text ++ rest end.reader = sym a.takes.parts ∙ ap rest (sym agree.0) ∙ b.takes.parts in
     let same = operator_prefix_code old.reader.features op other a.text b.text (rest new.reader) (rest end.reader) first second whole in
     let there : at_position start.reader (start.reader.position + length b.text) ≡ at_position old.reader (old.reader.position + length b.text) =

@@ -39,7 +39,7 @@ next_vector before old new placed longest h r l none g =
     elim (cases_Bool (is_vector g.next.0)) [
       | inl is ↦ is
       | inr not ↦ (
-          let encodes = subst (λ f. EncodesOperator f g.next.0 g.text) (sym (features_stay old.reader new.reader r.text r.takes)) g.encodes in
+          let encodes = subst (λ f. EncodesOperator f g.text g.next.0) (sym (features_stay old.reader new.reader r.text r.takes)) g.encodes in
           absurd (goes_allowed before old.reader.features placed longest (rest new.reader) new.frames (read_further before old new placed h r).path
           (begins_walk old.reader.features (before ++ operators longest) l.beginning.begins) g
           (none g.text g.more g.next.0 encodes (no_vector_of g.next.0 not) g.bytes))

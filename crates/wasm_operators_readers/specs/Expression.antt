@@ -25,12 +25,12 @@ IsAny placed = Unit {0}
 -- The bytes encode the operators one after another, each at its offset.
 abbrev pub LaidOut : WasmFeatures → ℕ → Placed → List ℕ → Type 0
 LaidOut f offset [] bytes = bytes ≡ []
-LaidOut f offset (p ∷ ps) bytes = (p.1 ≡ offset) × (text more : List ℕ) × (bytes ≡ text ++ more) × EncodesOperator f p.0 text ×
+LaidOut f offset (p ∷ ps) bytes = (p.1 ≡ offset) × (text more : List ℕ) × (bytes ≡ text ++ more) × EncodesOperator f text p.0 ×
     LaidOut f (offset + length text) ps more
 
 -- The operator's encoding ends before this offset.
 abbrev pub EndsAt : WasmFeatures → Operator × ℕ → ℕ → Type 0
-EndsAt f p end = (text : List ℕ) × EncodesOperator f p.0 text × (end ≡ p.1 + length text)
+EndsAt f p end = (text : List ℕ) × EncodesOperator f text p.0 × (end ≡ p.1 + length text)
 
 -- The operators are the walk of an expression.
 abbrev pub AreWalk : List Operator → Type 0
@@ -39,7 +39,7 @@ AreWalk ops = IsWalk (roles_of ops)
 -- Each operator has an encoding.
 abbrev pub AreEncoded : WasmFeatures → List Operator → Type 0
 AreEncoded f [] = Unit {0}
-AreEncoded f (op ∷ ops) = ((text : List ℕ) × EncodesOperator f op text) × AreEncoded f ops
+AreEncoded f (op ∷ ops) = ((text : List ℕ) × EncodesOperator f text op) × AreEncoded f ops
 
 -- The operators begin an expression, and have encodings.
 abbrev pub Begins : WasmFeatures → List Operator → Type 0

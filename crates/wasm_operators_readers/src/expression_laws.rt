@@ -109,9 +109,9 @@ pub fn scalar_longest()
 /// States that an operator that opens a frame has at least two bytes, and the opcode of `block`,
 /// `loop`, `if`, `try` or `try_table`.
 pub fn frames_opened(features: WasmFeatures)
-    ensures half { (op : Operator) (text : List ℕ) → EncodesOperator features op text → 2 * opened_by op ≤ length text }
-    ensures leads { (op : Operator) (text : List ℕ) → EncodesOperator features op text
+    ensures half { (op : Operator) (text : List ℕ) → EncodesOperator features text op → 2 * opened_by op ≤ length text }
+    ensures leads { (op : Operator) (text : List ℕ) → EncodesOperator features text op
         → 0 < opened_by op → (byte : ℕ) × BeginsWith byte text × OpensFrame (change_at byte) }
-    ensures opens { (op : Operator) (text : List ℕ) (byte : ℕ) → EncodesOperator features op text
+    ensures opens { (op : Operator) (text : List ℕ) (byte : ℕ) → EncodesOperator features text op
         → BeginsWith byte text → OpensFrame (change_at byte) → opened_by op ≡ 1 }
 {}
