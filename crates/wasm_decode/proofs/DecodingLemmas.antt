@@ -86,7 +86,7 @@ is_after_code start p code mid now b (number, u, t) = go b.opcode
     start_same : at_position mid start ≡ at_position now start
     start_same = sym (ap (λ (z : Reader). at_position z start) t.moved)
 
-    go : Reads (λ text it. EncodesOpcode None text it) (Ok p) (at_position mid start) mid → (now ≡ at_position mid now.position) × IsAfterCode start (Some p) code now
+    go : Reads (EncodesOpcode None) (Ok p) (at_position mid start) mid → (now ≡ at_position mid now.position) × IsAfterCode start (Some p) code now
     go (head, opcode, taken) =
         let both : Takes (at_position mid start) now (head ++ number) = takes_then (at_position mid start) mid now head number taken t in
         let whole : Takes (at_position mid start) now (p ∷ number) = subst (λ z. Takes (at_position mid start) now (z ++ number)) opcode both in
@@ -122,7 +122,7 @@ pub refuses_subopcode : (k : FrameKind) (start p : ℕ) (e : Error) (mid now new
     RefusesOperator (EncodesAllowed mid.features k) (OperatorFault mid.features k) e (at_position mid start) new
 refuses_subopcode k start p e mid now new small is b (same, h) fault went = go b.opcode
   where
-    go : Reads (λ text it. EncodesOpcode None text it) (Ok p) (at_position mid start) mid →
+    go : Reads (EncodesOpcode None) (Ok p) (at_position mid start) mid →
         RefusesOperator (EncodesAllowed mid.features k) (OperatorFault mid.features k) e (at_position mid start) new
     go (head, opcode, t) =
         let parts : rest (at_position mid start) ≡ p ∷ rest mid = t.parts ∙ ap (λ z. z ++ rest mid) opcode in
@@ -183,7 +183,7 @@ pub to_scalar : {V A : Type 0} (visits : V → Operator → A → V → Type 0) 
     Decodes visits (EncodesScalar mid.features k) (ScalarOperatorFault mid.features k) result (at_position mid start) new v w
 to_scalar {V} {A} visits k start code mid new v w result other b h = go b.opcode result h
   where
-    go : Reads (λ text it. EncodesOpcode None text it) (Ok code) (at_position mid start) mid → (result : Result A Error) →
+    go : Reads (EncodesOpcode None) (Ok code) (at_position mid start) mid → (result : Result A Error) →
         Decodes visits (EncodesAllowed mid.features k) (OperatorFault mid.features k) result (at_position mid start) new v w →
         Decodes visits (EncodesScalar mid.features k) (ScalarOperatorFault mid.features k) result (at_position mid start) new v w
     go (head, opcode, t) (Ok a) (text, op, s, taken, vis) =

@@ -105,7 +105,7 @@ pub refuses_opcode : (k : FrameKind) (p : Option ℕ) (code start : ℕ) (e : Er
     RefusesOperator (EncodesAllowed mid.features k) (OperatorFault mid.features k) e (at_position mid start) new
 refuses_opcode k p code start e mid new c b none went readable from to fault = go b.opcode
   where
-    go : Reads (λ text it. EncodesOpcode p text it) (Ok code) (at_position mid start) mid →
+    go : Reads (EncodesOpcode p) (Ok code) (at_position mid start) mid →
         RefusesOperator (EncodesAllowed mid.features k) (OperatorFault mid.features k) e (at_position mid start) new
     go (head, opcode, t) = (
       went,

@@ -33,7 +33,7 @@ pub needs_memory : (k : FrameKind) (code start : ℕ) (ks : List Kind) (mid : Re
     rest mid ≡ text ++ left → ⊥) → MayAllocate (EncodesAllowed mid.features k) (at_position mid start)
 needs_memory k code start ks mid c is leads b sized none = go b.opcode
   where
-    go : Reads (λ text it. EncodesOpcode None text it) (Ok code) (at_position mid start) mid → MayAllocate (EncodesAllowed mid.features k) (at_position mid start)
+    go : Reads (EncodesOpcode None) (Ok code) (at_position mid start) mid → MayAllocate (EncodesAllowed mid.features k) (at_position mid start)
     go (head, h, t) =
         record {
           leads = (code, leads, (rest mid, t.parts ∙ ap (λ z. z ++ rest mid) h));

@@ -55,7 +55,7 @@ RefusesScalarAt frame start e old new = RefusesOperator (EncodesScalar old.featu
 -- The reader is after this opcode, or this prefix byte and subopcode, which began at `start`.
 pub record IsAfterCode (start : ℕ) (prefix : Option ℕ) (code : ℕ) (r : Reader) : Type 0 where
   pub begun : start ≤ r.position
-  pub opcode : Reads (λ text c. EncodesOpcode prefix text c) (Ok code) (at_position r start) r
+  pub opcode : Reads (EncodesOpcode prefix) (Ok code) (at_position r start) r
 
 -- The result of a visit of an operator with this code, prefix byte (if any) and immediates.
 abbrev pub VisitsRow : {V A : Type 0} → (V → Operator → A → V → Type 0) → Option ℕ → ℕ → List Immediate → V → A → V → Type 0

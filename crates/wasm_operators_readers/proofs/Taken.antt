@@ -29,7 +29,7 @@ change_is : (Encodes : Taking) → IsSound Encodes → (f : WasmFeatures) (kind 
     IsAfterCode start None code mid → Encodes f kind text op → Takes (at_position mid start) new text → change_at code ≡ change_of (role_of op)
 change_is Encodes sound f kind op text code start mid new b encodes takes = go b.opcode
   where
-    go : Reads (λ text c. EncodesOpcode None text c) (Ok code) (at_position mid start) mid → change_at code ≡ change_of (role_of op)
+    go : Reads (EncodesOpcode None) (Ok code) (at_position mid start) mid → change_at code ≡ change_of (role_of op)
     go (head, opcode, t) =
         let first : BeginsWith code (rest (at_position mid start)) = (rest mid, t.parts ∙ ap (λ z. z ++ rest mid) opcode) in
         changes_there f op text (rest new) (rest (at_position mid start)) code (sound f kind text op encodes) takes.parts first
