@@ -1,7 +1,7 @@
-use Rattle.std.proofs.Common.{◌≡◌, ℕ, List, [], ◌∷◌, ◌++◌, map, Ok, refl, sym, ap, ◌∙◌, append_assoc, append-nil}
+use Rattle.std.proofs.Common.{◌≡◌, ℕ, List, [], ◌∷◌, ◌++◌, map, refl, sym, ap, ◌∙◌, append_assoc, append-nil}
 use Rattle.wasm_operators.specs.below.bytes.features.WasmFeatures.{WasmFeatures}
 use Rattle.wasm_operators.specs.below.Number.{EncodesUnsigned}
-use Rattle.wasm_operators.specs.below.Source.{Reader, rest, Reads}
+use Rattle.wasm_operators.specs.below.Source.{Reader, rest, HasRead}
 use Rattle.wasm_operators.specs.imm.declared.ordering.Ordering.{Ordering}
 use Rattle.wasm_operators.specs.imm.Immediate.{Immediate, kind_of, EncodesImmediates, unsigned_32}
 use Rattle.wasm_operators.specs.imm.Orderings.{EncodesOrderingByte}
@@ -13,7 +13,7 @@ AreOne f = (is js : List Immediate) (a b x y : List ℕ) → map kind_of is ≡ 
     a ++ x ≡ b ++ y → (is ≡ js) × (a ≡ b)
 
 pub access_known : (old mid new : Reader) (o : Ordering) (n : ℕ) (is : List Immediate) (text more : List ℕ) → AreOne old.features →
-    Reads EncodesOrderingByte (Ok o) old mid → Reads (EncodesUnsigned 32) (Ok n) mid new → rest old ≡ text ++ more →
+    HasRead EncodesOrderingByte o old mid → HasRead (EncodesUnsigned 32) n mid new → rest old ≡ text ++ more →
     AreAccess is → EncodesImmediates old.features text is → is ≡ access o n
 access_known old mid new o n is text more one (byte, orders, begins) (number, counts, ends) parts kinds known =
     let taken = begins.parts ∙ ap (λ left. byte ++ left) ends.parts ∙ sym (append_assoc byte number (rest new)) in

@@ -1,4 +1,4 @@
-use Rattle.std.proofs.Common.{◌≡◌, ℕ, ◌+◌, ◌≤◌, Bool, List, [], ◌∷◌, ◌++◌, length, false, inl, inr, refl, sym, ap, subst, ◌∙◌, arith, append_assoc, append-nil, length-append}
+use Rattle.std.proofs.Common.{◌≡◌, ℕ, ◌+◌, ◌≤◌, List, [], ◌∷◌, ◌++◌, length, false, inl, inr, refl, sym, ap, subst, ◌∙◌, arith, append_assoc, append-nil, length-append}
 use Rattle.std.proofs.lemmas.Bool.{false≢true}
 use Rattle.std.proofs.lemmas.List.{append_cancel_left}
 use Rattle.wasm_operators.specs.below.bytes.error.Error.{Error}
@@ -12,7 +12,7 @@ use Rattle.wasm_operators.specs.Section.{Section, SectionItems, items_of, IsDone
 use Rattle.uses_steps.proofs.Codes.{refused_there}
 
 -- The items read follow the count, which exceeds them by the number of items left.
-pub record HasRead {X : Type 0} (Encodes : List ℕ → X → Type 0) (r : Reader) (items : SectionItems) (found : List X) : Type 0 where
+pub record HasFound {X : Type 0} (Encodes : List ℕ → X → Type 0) (r : Reader) (items : SectionItems) (found : List X) : Type 0 where
   pub count : ℕ
   pub number : List ℕ
   pub text : List ℕ
@@ -29,7 +29,7 @@ each_more Encodes text t (y ∷ ys) x (first, after, parts, one, others) encodes
     (first, after ++ t, ap (λ s. s ++ t) parts ∙ append_assoc first after t, one, each_more Encodes after t ys x others encodes)
 
 pub reads_first : {X : Type 0} (Encodes : List ℕ → X → Type 0) (r : Reader) (s : Section) (number : List ℕ) → EncodesUnsigned 32 number s.count →
-    rest r ≡ number ++ rest s.reader → HasRead Encodes r (items_of s) []
+    rest r ≡ number ++ rest s.reader → HasFound Encodes r (items_of s) []
 reads_first Encodes r s number announces parts = record {
   count = s.count;
   number = number;
@@ -42,8 +42,8 @@ reads_first Encodes r s number announces parts = record {
 }
 
 pub reads_on : {X : Type 0} (Encodes : List ℕ → X → Type 0) (r : Reader) (old new : SectionItems) (found : List X) (x : X) (t : List ℕ) →
-    HasRead Encodes r old found → new.refused ≡ false → old.remaining ≡ new.remaining + 1 → Encodes t x → rest old.reader ≡ t ++ rest new.reader →
-    HasRead Encodes r new (found ++ x ∷ [])
+    HasFound Encodes r old found → new.refused ≡ false → old.remaining ≡ new.remaining + 1 → Encodes t x → rest old.reader ≡ t ++ rest new.reader →
+    HasFound Encodes r new (found ++ x ∷ [])
 reads_on Encodes r old new found x t h goes_on less encodes takes = record {
   count = h.count;
   number = h.number;
@@ -55,7 +55,7 @@ reads_on Encodes r old new found x t h goes_on less encodes takes = record {
   goes_on = goes_on;
 }
 
-pub reads_all : {X : Type 0} (Encodes : List ℕ → X → Type 0) (r : Reader) (items : SectionItems) (found : List X) → HasRead Encodes r items found →
+pub reads_all : {X : Type 0} (Encodes : List ℕ → X → Type 0) (r : Reader) (items : SectionItems) (found : List X) → HasFound Encodes r items found →
     IsDone items → Then (EncodesUnsigned 32) (EncodesMany Encodes) (rest r) found
 reads_all Encodes r items found h (inl refused) = absurd (false≢true (sym h.goes_on ∙ refused))
 reads_all Encodes r items found h (inr (none, nothing)) = (
@@ -91,7 +91,7 @@ others_there Encodes (x ∷ xs) (y ∷ ys) text whole left code (first, later, i
     (h.0, omega (arith, h.1), h.2)
 
 pub left_there : {X : Type 0} (Encodes : List ℕ → X → Type 0) (r : Reader) (items : SectionItems) (found all : List X) → PrefixCode (EncodesUnsigned 32) →
-    PrefixCode Encodes → HasRead Encodes r items found → Then (EncodesUnsigned 32) (EncodesMany Encodes) (rest r) all → IsLeft Encodes items
+    PrefixCode Encodes → HasFound Encodes r items found → Then (EncodesUnsigned 32) (EncodesMany Encodes) (rest r) all → IsLeft Encodes items
 left_there Encodes r items found all numbers code h (number, text, count, parts, announces, (size, each)) =
     let same = numbers h.number number (h.text ++ rest items.reader) text h.count count h.announces announces (sym h.parts ∙ parts) in
     let there : h.text ++ rest items.reader ≡ text =
@@ -99,10 +99,10 @@ left_there Encodes r items found all numbers code h (number, text, count, parts,
     let others = others_there Encodes found all h.text text (rest items.reader) code h.each each there (omega (arith, h.all, same.1, size)) in
     (others.0, omega (arith, others.1, h.all, same.1, size), others.2)
 
-pub stops_memory : {X : Type 0} (Encodes : List ℕ → X → Type 0) (Fault : Message → Reader → ℕ → Type 0) (takes_memory : Bool) (e : Error) (items : SectionItems) →
-    IsLeft Encodes items → StopsSection Encodes Fault takes_memory e items → e.message ≡ message.OutOfMemory
-stops_memory Encodes Fault takes_memory e items ([], size, nothing) (inl (some, refused, fault)) = absurd (omega (arith, size, some))
-stops_memory Encodes Fault takes_memory e items (x ∷ xs, size, (first, after, parts, one, others)) (inl (some, refused, fault)) =
+pub stops_memory : {X : Type 0} (Encodes : List ℕ → X → Type 0) (Fault : Message → Reader → ℕ → Type 0) (Memory : Reader → Type 0) (e : Error) (items : SectionItems) →
+    IsLeft Encodes items → StopsSection Encodes Fault Memory e items → e.message ≡ message.OutOfMemory
+stops_memory Encodes Fault Memory e items ([], size, nothing) (inl (some, refused)) = absurd (omega (arith, size, some))
+stops_memory Encodes Fault Memory e items (x ∷ xs, size, (first, after, parts, one, others)) (inl (some, refused)) =
     refused_there Encodes e.message items.reader first after x refused.refuses one parts
-stops_memory Encodes Fault takes_memory e items ([], size, nothing) (inr (none, left)) = absurd (left.0 nothing)
-stops_memory Encodes Fault takes_memory e items (x ∷ xs, size, each) (inr (none, left)) = absurd (omega (arith, size, none))
+stops_memory Encodes Fault Memory e items ([], size, nothing) (inr (none, left)) = absurd (left.0 nothing)
+stops_memory Encodes Fault Memory e items (x ∷ xs, size, each) (inr (none, left)) = absurd (omega (arith, size, none))

@@ -1,5 +1,5 @@
 -- The first byte of a type, and the errors of its parts.
-use Rattle.std.proofs.Common.{◌≡◌, ◌≢◌, ℕ, ◌<◌, ◌≤◌, inl, inr, Bool, true, false, List, [], ◌∷◌, ◌++◌, Result, Ok, Err, IfErr, refl, sym, subst, ap, ◌∙◌, append_assoc, arith, lit≤, ℤ, pos}
+use Rattle.std.proofs.Common.{◌≡◌, ◌≢◌, ℕ, ◌<◌, ◌≤◌, inl, inr, Bool, true, false, List, [], ◌∷◌, ◌++◌, refl, sym, subst, ap, ◌∙◌, append_assoc, arith, lit≤, ℤ, pos}
 use Rattle.std.proofs.lemmas.Bool.{le-ltb}
 use Rattle.std.proofs.lemmas.Int.{ints}
 use Rattle.wasm_below.specs.declared.types.AbstractHeapType.{AbstractHeapType}
@@ -10,9 +10,10 @@ use Rattle.wasm_below.specs.declared.types.ValType.{ValType}
 use Rattle.wasm_below.specs.declared.types.ValType.TheVariants as value
 use Rattle.wasm_below_bytes.specs.Number.{EncodesUnsigned, EncodesSigned, last_value, with_sign}
 use Rattle.wasm_below.specs.Reference.{Reference, max_type_index}
-use Rattle.wasm_below_bytes.specs.declared.error.Error.{Error}
+use Rattle.wasm_below_bytes.specs.declared.message.Message.{Message}
+use Rattle.wasm_below_bytes.specs.declared.message.TypeName.TheVariants as type_name
 use Rattle.wasm_below_bytes.specs.Source.{Reader, rest, NoPrefix, BeginsWith}
-use Rattle.wasm_below.specs.TypeEncoding.{HeapTypeFault, RefTypeFault, after_byte, heap_type_byte, ref_byte, LeadsShort, LeadsRefType, EncodesShort, EncodesConcrete, EncodesExact, EncodesHeapType, EncodesShortRef, EncodesLongRef, EncodesRefType, EncodesNumberType, EncodesValType}
+use Rattle.wasm_below.specs.TypeEncoding.{ShortFault, ByteFault, RefTypeFault, ValTypeFault, heap_type_byte, ref_byte, LeadsShort, LeadsRefType, EncodesShort, EncodesConcrete, EncodesExact, EncodesHeapType, EncodesShortRef, EncodesLongRef, EncodesRefType, EncodesNumberType, EncodesValType}
 use Rattle.wasm_below_bytes.proofs.PrefixCode.{unsigned_prefix_code, signed_prefix_code}
 
 pub heap_byte_within : (t : AbstractHeapType) → (104 ≤ heap_type_byte t) × (heap_type_byte t ≤ 117)
@@ -190,7 +191,15 @@ value_is_ref b l tail (value.Ref r) p = (r, refl, p)
 pub value_ref : (b : ℕ) → LeadsRefType b → (tail : List ℕ) (v : ValType) → EncodesValType (b ∷ tail) v → (r : Reference) × EncodesRefType (b ∷ tail) r
 value_ref b l tail v p = (let s = value_is_ref b l tail v p in (s.0, s.2))
 
-pub long_fault : (result : Result Reference Error) (n : Bool) (r : Reader) → BeginsWith (ref_byte n) (rest r) →
-    IfErr result (λ e. HeapTypeFault e.message (after_byte r) e.offset) → IfErr result (λ e. RefTypeFault e.message r e.offset)
-long_fault (Ok x) n r prefix h = tt
-long_fault (Err e) n r prefix h = inl (n, prefix, h)
+pub short_ref_fault : (b : ℕ) (r : Reader) → BeginsWith b (rest r) → b ≢ 99 → b ≢ 100 → (m : Message) (offset : ℕ) →
+    ShortFault type_name.ReferenceType m r offset → RefTypeFault m r offset
+short_ref_fault b r prefix x y m offset h = inr (λ n f. no_ref_byte b x y n (let g : b ≡ ref_byte n = cc (prefix.1, f.1) in g), h)
+
+pub byte_fault : (b : ℕ) (r : Reader) → BeginsWith b (rest r) → (LeadsRefType b → ⊥) → (m : Message) (offset : ℕ) →
+    ByteFault type_name.ValueType m r offset → ValTypeFault m r offset
+byte_fault b r prefix x m offset h = inr (λ c l f. x (subst LeadsRefType (let g : c ≡ b = cc (prefix.1, f.1) in g) l), h)
+
+pub concrete_number : (text : List ℕ) (h : HeapType) → EncodesConcrete text h → (n : ℤ) × EncodesSigned 33 text n
+concrete_number text (heap.Abstract shared t) p = absurd p
+concrete_number text (heap.Concrete i) p = (pos i, p.0)
+concrete_number text (heap.Exact i) p = absurd p

@@ -1,4 +1,4 @@
-use Rattle.std.proofs.Common.{◌≡◌, ℕ, ◌+◌, ◌-◌, ◌<◌, ◌≤◌, List, [], ◌++◌, length, take, drop, Ok, refl, sym, subst, ap, ◌∙◌, append_assoc, length-append, length-drop, arith}
+use Rattle.std.proofs.Common.{◌≡◌, ℕ, ◌+◌, ◌-◌, ◌<◌, ◌≤◌, List, [], ◌++◌, length, take, drop, Err, refl, sym, subst, ap, ◌∙◌, append_assoc, length-append, length-drop, arith}
 use Rattle.std.proofs.lemmas.List.{take-append-drop, drop-drop, length-take-le, append-nil}
 use Rattle.wasm_below_bytes.specs.declared.error.Error.{Error}
 use Rattle.wasm_below_bytes.specs.declared.message.Message.{Message}
@@ -6,7 +6,7 @@ use Rattle.wasm_below_bytes.specs.declared.message.Message.TheVariants as messag
 use Rattle.wasm_below_bytes.specs.declared.message.SizeName.{SizeName}
 use Rattle.wasm_below_bytes.specs.Refusal.{IsReadFault}
 use Rattle.wasm_below_bytes.specs.Number.{EncodesUnsigned, EncodesSize}
-use Rattle.wasm_below_bytes.specs.Source.{Reader, rest, offset_of, at_position, Takes, NoPrefix, MayFollow, IsRefusal, Reads, IsShort, U32Fault, CountFault}
+use Rattle.wasm_below_bytes.specs.Source.{Reader, rest, offset_of, at_position, Takes, NoPrefix, MayFollow, IsRefusal, HasRead, Reads, IsShort, U32Fault, CountFault}
 use Rattle.wasm_below_bytes.proofs.TakesLemmas.{back}
 use Rattle.wasm_below_bytes.proofs.PrefixCode.{unsigned_prefix_code}
 
@@ -45,17 +45,18 @@ no_size text after more limit n p over t2 more2 k q e =
     let same : n ≡ k = (unsigned_prefix_code text t2 32 (after ++ more) more2 n k p q.0 (sym (append_assoc text after more) ∙ e)).1 in
     omega (arith, q.1)
 
-pub size_refused : (limit n : ℕ) (e : Error) (old mid new : Reader) (position : ℕ) → Reads (EncodesUnsigned 32) (Ok n) old mid → limit < n →
-    position ≡ old.position → position ≤ length old.buffer → new ≡ at_position mid position → e.offset ≡ mid.start + position → IsReadFault e.message →
-    (new ≡ old) × IsRefusal (EncodesSize limit) e old
-size_refused limit n e old mid new position (text, p, takes) over same le went offset fault =
+pub size_refused : (name : SizeName) (limit n : ℕ) (e : Error) (old mid new : Reader) (position : ℕ) → HasRead (EncodesUnsigned 32) n old mid → limit < n →
+    position ≡ old.position → position ≤ length old.buffer → new ≡ at_position mid position → e.offset ≡ mid.start + position →
+    e.message ≡ message.SizeOutOfBounds name → Reads (EncodesSize limit) (CountFault name limit) (Err e) old new
+size_refused name limit n e old mid new position (text, p, takes) over same le went offset is =
     let start : mid.start ≡ old.start = ap (λ (r : Reader). r.start) takes.moved in (
       back old mid new text position takes same went,
       record {
         refuses = λ more _. subst (λ z. NoPrefix (EncodesSize limit) (z ++ more)) (sym takes.parts) (no_size text (rest mid) more limit n p over);
-        fault = fault;
+        fault = subst IsReadFault (sym is) tt;
         ahead = (omega (arith, offset, same, start), omega (arith, offset, same, start));
       },
+      subst (λ m. CountFault name limit m old e.offset) (sym is) ((omega (arith, offset, same, start), (text, rest mid, n, p, over, takes.parts)), refl, tt),
     )
 
 pub count_fault : (m : Message) (name : SizeName) (limit : ℕ) (r : Reader) (offset : ℕ) → U32Fault m r offset →
@@ -70,3 +71,11 @@ ends_here m h = tt
 
 pub refused_now : {X : Type 0} (Encodes : List ℕ → X → Type 0) (e : Error) (r : Reader) → IsRefusal Encodes e r → NoPrefix Encodes (rest r)
 refused_now Encodes e r h = subst (NoPrefix Encodes) (append-nil (rest r)) (h.refuses [] (ends_here e.message h.fault))
+
+pub count_refused : (name : SizeName) (limit : ℕ) (e : Error) (old new : Reader) → Reads (EncodesUnsigned 32) U32Fault (Err e) old new →
+    Reads (EncodesSize limit) (CountFault name limit) (Err e) old new
+count_refused name limit e old new (same, h, f) = (
+  same,
+  record { refuses = λ more follow text after n p. h.refuses more follow text after n p.0; fault = h.fault; ahead = h.ahead },
+  count_fault e.message name limit old e.offset f (refused_now (EncodesUnsigned 32) e old h),
+)

@@ -1,4 +1,4 @@
-use Rattle.std.proofs.Common.{◌≡◌, ℕ, ◌+◌, ◌<◌, ◌≤◌, inl, inr, List, length, Ok, refl, sym, subst, ap, ◌∙◌, arith, ◌≢◌, ◌⊎◌}
+use Rattle.std.proofs.Common.{◌≡◌, ℕ, ◌+◌, ◌<◌, ◌≤◌, inl, inr, List, length, refl, sym, subst, ap, ◌∙◌, arith, ◌≢◌, ◌⊎◌}
 use Rattle.wasm_below_bytes.specs.declared.message.Message.{Message}
 use Rattle.wasm_below_bytes.specs.declared.message.Message.TheVariants as message
 use Rattle.wasm_below_bytes.specs.declared.message.NumberName.{NumberName}
@@ -9,7 +9,7 @@ use Rattle.wasm_below_bytes.specs.Sequence.{PrefixCode}
 use Rattle.wasm_below_bytes.specs.Fault.{ThenFault, DeterminesRefusal}
 use Rattle.wasm_below_bytes.specs.Number.{EncodesUnsigned}
 use Rattle.wasm_below_bytes.specs.FromReader.{ReaderFault}
-use Rattle.wasm_below_bytes.specs.Source.{Reader, rest, at_position, byte_at, BeginsWith, Reads, NoPrefix, BeginsAbove, NumberFault, U32Fault, S33Fault, SizeFault, CountFault, EndFault, EndsWithin}
+use Rattle.wasm_below_bytes.specs.Source.{Reader, rest, at_position, byte_at, BeginsWith, HasRead, NoPrefix, BeginsAbove, NumberFault, U32Fault, S33Fault, SizeFault, CountFault, EndFault, EndsWithin}
 use Rattle.wasm_below_bytes.proofs.PrefixCode.{unsigned_prefix_code}
 use Rattle.wasm_below_bytes.specs.PartFaults.{CheckedByteFault, ZeroFault}
 use Rattle.wasm_below_bytes.proofs.Faults.{no_byte}
@@ -55,8 +55,8 @@ size_determines limit name (message.SizeOutOfBounds u) k r a b h q = absurd (abo
 size_determines limit name m (message.SizeOutOfBounds v) r a b h q = absurd (above_none limit (rest r) q.0.1 h.0.1)
 size_determines limit name m k r a b h q = number_determines 32 number_name.VarU32 m k r a b (h.0.0, h.2) (q.0.0, q.2)
 
-first_prefix_code : {X : Type 0} (First : List ℕ → X → Type 0) → PrefixCode First → (r s t : Reader) (x y : X) → Reads First (Ok x) r s →
-    Reads First (Ok y) r t → (x ≡ y) × (s ≡ t)
+first_prefix_code : {X : Type 0} (First : List ℕ → X → Type 0) → PrefixCode First → (r s t : Reader) (x y : X) → HasRead First x r s →
+    HasRead First y r t → (x ≡ y) × (s ≡ t)
 first_prefix_code First prefix_code r s t x y (text, p, h) (other, q, k) =
     let o = prefix_code text other (rest s) (rest t) x y p q (sym h.parts ∙ k.parts) in
     (o.1, h.moved ∙ ap (λ (z : List ℕ). at_position r (r.position + length z)) o.0 ∙ sym k.moved)

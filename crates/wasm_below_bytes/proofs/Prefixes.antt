@@ -2,6 +2,7 @@
 use Rattle.std.proofs.Common.{◌≡◌, ℕ, ◌+◌, ◌-◌, ◌<◌, List, [], ◌∷◌, ◌++◌, length, drop, Result, Ok, Err, refl, sym, subst, ap, ◌∙◌, length-append, length-drop, arith}
 use Rattle.std.proofs.lemmas.List.{drop-drop}
 use Rattle.wasm_below_bytes.specs.declared.error.Error.{Error}
+use Rattle.wasm_below_bytes.specs.declared.message.Message.{Message}
 use Rattle.wasm_below_bytes.specs.Refusal.{IsReadFault}
 use Rattle.wasm_below_bytes.specs.Source.{Reader, rest, offset_of, end_of, at_position, Takes, NoPrefix, MayFollow, IsAhead, IsRefusal, Reads, BeginsWith, IsEndHere}
 use Rattle.wasm_below_bytes.proofs.TakesLemmas.{back, ahead_before}
@@ -66,11 +67,13 @@ led_refused {X} {Y} P Q e r b (after, prefix) empty strip h =
         let p = strip tail y (subst (λ z. Q (z ∷ tail) y) same q) in
         none (b ∷ tail) later p.0 p.1 (eq ∙ ap (λ z. z ∷ (tail ++ later)) same)
 
-pub led_reads : {X : Type 0} (P Q : List ℕ → X → Type 0) (result : Result X Error) (old new : Reader) (b : ℕ) → BeginsWith b (rest old) →
-    ((text : List ℕ) (x : X) → P text x → Q text x) → ((x : X) → Q [] x → ⊥) → ((tail : List ℕ) (x : X) → Q (b ∷ tail) x → P (b ∷ tail) x) →
-    Reads P result old new → Reads Q result old new
-led_reads P Q (Ok x) old new b prefix into empty strip (text, p, takes) = (text, into text x p, takes)
-led_reads P Q (Err e) old new b prefix into empty strip (same, h) = (same, led_refused P Q e old b prefix empty (λ tail x q. (x, strip tail x q)) h)
+pub led_reads : {X : Type 0} (P Q : List ℕ → X → Type 0) (F G : Message → Reader → ℕ → Type 0) (result : Result X Error) (old new : Reader) (b : ℕ) →
+    BeginsWith b (rest old) → ((text : List ℕ) (x : X) → P text x → Q text x) → ((x : X) → Q [] x → ⊥) →
+    ((tail : List ℕ) (x : X) → Q (b ∷ tail) x → P (b ∷ tail) x) → ((m : Message) (offset : ℕ) → F m old offset → G m old offset) →
+    Reads P F result old new → Reads Q G result old new
+led_reads P Q F G (Ok x) old new b prefix into empty strip faults (text, p, takes) = (text, into text x p, takes)
+led_reads P Q F G (Err e) old new b prefix into empty strip faults (same, h, f) =
+    (same, led_refused P Q e old b prefix empty (λ tail x q. (x, strip tail x q)) h, faults e.message e.offset f)
 
 pub after_refused : {X Y : Type 0} (P : List ℕ → X → Type 0) (Q : List ℕ → Y → Type 0) (e : Error) (old mid : Reader) (b : ℕ) → Takes old mid (b ∷ []) →
     ((y : Y) → Q [] y → ⊥) → ((tail : List ℕ) (y : Y) → Q (b ∷ tail) y → (x : X) × P tail x) → IsRefusal P e mid → IsRefusal Q e old

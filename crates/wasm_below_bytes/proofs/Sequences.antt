@@ -1,6 +1,6 @@
-use Rattle.std.proofs.Common.{◌≡◌, ℕ, List, ◌++◌, Ok, sym, subst, ap, ◌∙◌, append_assoc}
+use Rattle.std.proofs.Common.{◌≡◌, ℕ, List, ◌++◌, sym, subst, ap, ◌∙◌, append_assoc}
 use Rattle.wasm_below_bytes.specs.declared.error.Error.{Error}
-use Rattle.wasm_below_bytes.specs.Source.{Reader, rest, NoPrefix, IsRefusal, Reads}
+use Rattle.wasm_below_bytes.specs.Source.{Reader, rest, NoPrefix, IsRefusal, HasRead}
 use Rattle.wasm_below_bytes.specs.Sequence.{Then, PrefixCode}
 use Rattle.wasm_below_bytes.proofs.TakesLemmas.{ahead_before, same_rest}
 
@@ -22,7 +22,7 @@ then_first P Q e old h =
     record { refuses = λ more follow. then_no_first P Q (rest old ++ more) (h.refuses more follow); fault = h.fault; ahead = h.ahead }
 
 pub then_second : {X Y : Type 0} (P : List ℕ → X → Type 0) (Q : X → List ℕ → Y → Type 0) (e : Error) (old mid : Reader) (x : X) → PrefixCode P →
-    Reads P (Ok x) old mid → IsRefusal (Q x) e mid → IsRefusal (Then P Q) e old
+    HasRead P x old mid → IsRefusal (Q x) e mid → IsRefusal (Then P Q) e old
 then_second P Q e old mid x prefix_code (text, p, takes) h =
     record {
       refuses = λ more follow. subst (λ z. NoPrefix (Then P Q) (z ++ more)) (sym takes.parts)

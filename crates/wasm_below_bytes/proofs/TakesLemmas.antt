@@ -1,10 +1,11 @@
 -- Calls in sequence, and how a reader goes back.
-use Rattle.std.proofs.Common.{◌≡◌, ℕ, ◌+◌, ◌-◌, ◌≤◌, ◌<◌, List, [], ◌∷◌, ◌++◌, length, drop, leb, Ok, refl, sym, subst, ap, ◌∙◌, append_assoc, length-append, length-drop, arith}
+use Rattle.std.proofs.Common.{◌≡◌, ℕ, ◌+◌, ◌-◌, ◌≤◌, ◌<◌, List, [], ◌∷◌, ◌++◌, length, drop, leb, Result, Ok, Err, refl, sym, subst, ap, ◌∙◌, append_assoc, length-append, length-drop, arith}
 use Rattle.std.specs.Prelude.{IsTrue, ◌↔◌}
 use Rattle.std.proofs.lemmas.Bool.{le-leb, leb-true}
 use Rattle.std.proofs.lemmas.List.{drop_all}
 use Rattle.wasm_below_bytes.specs.declared.error.Error.{Error}
-use Rattle.wasm_below_bytes.specs.Source.{Reader, rest, at_position, Takes, IsAhead, Reads, IsByte, IsEndHere, S33Fault}
+use Rattle.wasm_below_bytes.specs.declared.message.Message.{Message}
+use Rattle.wasm_below_bytes.specs.Source.{Reader, rest, at_position, Takes, IsAhead, HasRead, Reads, IsByte, IsEndHere, S33Fault}
 
 pub rewound : (old new : Reader) (text : List ℕ) → Takes old new text → at_position new old.position ≡ old
 rewound old new text t = ap (λ r. at_position r old.position) t.moved
@@ -20,7 +21,7 @@ takes_then a b c x y p q =
 pub takes_none : (r : Reader) → Takes r r []
 takes_none r = record { moved = ap (at_position r) (omega arith); parts = refl }
 
-pub first_byte_read : (old mid : Reader) (b : ℕ) → Reads IsByte (Ok b) old mid → (rest old ≡ b ∷ rest mid) × (b < 256) × Takes old mid (b ∷ [])
+pub first_byte_read : (old mid : Reader) (b : ℕ) → HasRead IsByte b old mid → (rest old ≡ b ∷ rest mid) × (b < 256) × Takes old mid (b ∷ [])
 first_byte_read old mid b (text, is, takes) =
     let t : Takes old mid (b ∷ []) = subst (Takes old mid) is.0 takes in
     (t.parts, is.1, t)
@@ -56,3 +57,18 @@ end_too_long e r h = subst (λ m. S33Fault m r e.offset) (sym h.0) ((h.1 ∙ h.2
 
 pub back : (old mid new : Reader) (text : List ℕ) (position : ℕ) → Takes old mid text → position ≡ old.position → new ≡ at_position mid position → new ≡ old
 back old mid new text position t same e = e ∙ ap (at_position mid) same ∙ rewound old mid text t
+
+-- A copy read from position `start`, and the reader goes to the copy's position.
+pub read_to_copy : {X : Type 0} (P : List ℕ → X → Type 0) (F : Message → Reader → ℕ → Type 0) (result : Result X Error) (old begun after new : Reader)
+    (start : ℕ) → begun ≡ at_position old start → Reads P F result begun after → new ≡ at_position old after.position → Reads P F result begun new
+read_to_copy P F (Ok x) old begun after new start e (text, p, t) went =
+    let position : after.position ≡ begun.position + length text = ap (λ (r : Reader). r.position) t.moved in
+    let same : new ≡ after = went ∙ sym (ap (λ (r : Reader). at_position r after.position) e) ∙ ap (at_position begun) position ∙ sym t.moved in
+    (text, p, subst (λ r. Takes begun r text) (sym same) t)
+read_to_copy P F (Err e) old begun after new start is h went =
+    (went ∙ ap (λ (r : Reader). at_position old r.position) (h.0 ∙ is) ∙ sym is, h.1, h.2)
+
+pub read_by_copy : {X : Type 0} (P : List ℕ → X → Type 0) (F : Message → Reader → ℕ → Type 0) (result : Result X Error) (old lent after new : Reader) →
+    lent ≡ old → Reads P F result lent after → new ≡ at_position old after.position → Reads P F result old new
+read_by_copy P F result old lent after new same h went =
+    read_to_copy P F result old old after new old.position refl (subst (λ r. Reads P F result r after) same h) went

@@ -1,20 +1,16 @@
 -- A fault relates the message of a failed read, the reader before the read, and the error's offset.
-use Rattle.std.specs.Prelude.{◌≡◌, ◌≢◌, ℕ, zero, suc, ◌⊎◌, List, Ok}
+use Rattle.std.specs.Prelude.{◌≡◌, ◌≢◌, ℕ, zero, suc, ◌⊎◌, List}
 use Rattle.wasm_below_bytes.specs.declared.error.Error.{Error}
 use Rattle.wasm_below_bytes.specs.declared.message.Message.{Message}
 use Rattle.wasm_below_bytes.specs.declared.message.Message.TheVariants as message
-use Rattle.wasm_below_bytes.specs.Source.{Reader, rest, NoPrefix, Reads}
+use Rattle.wasm_below_bytes.specs.Source.{Reader, rest, NoPrefix, HasRead}
 
 -- The error has this fault, unless it is `OutOfMemory`.
 abbrev pub HasFault : (Message → Reader → ℕ → Type 0) → Error → Reader → Type 0
 HasFault Fault e r = e.message ≢ message.OutOfMemory → Fault e.message r e.offset
 
--- If the error is `OutOfMemory`, a read at this reader may allocate.
-abbrev pub NeedsMemory : (Reader → Type 0) → Error → Reader → Type 0
-NeedsMemory Allocates e r = e.message ≡ message.OutOfMemory → Allocates r
-
 abbrev pub FaultAfter : {X : Type 0} → (List ℕ → X → Type 0) → (X → Message → Reader → ℕ → Type 0) → Message → Reader → ℕ → Type 0
-FaultAfter {X} First After m r offset = (x : X) × (new : Reader) × Reads First (Ok x) r new × After x m new offset
+FaultAfter {X} First After m r offset = (x : X) × (new : Reader) × HasRead First x r new × After x m new offset
 
 -- The fault of the first of two parts; or, if that is read, `After` of its value.
 abbrev pub ThenFault : {X : Type 0} → (List ℕ → X → Type 0) → (Message → Reader → ℕ → Type 0) → (X → Message → Reader → ℕ → Type 0) → Message → Reader → ℕ → Type 0

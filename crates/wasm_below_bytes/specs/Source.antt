@@ -90,11 +90,15 @@ pub record IsRefusal {X : Type 0} (Encodes : List ℕ → X → Type 0) (e : Err
   pub fault : IsReadFault e.message
   pub ahead : IsAhead old e.offset
 
+-- A prefix of the rest encodes the value, and is consumed.
+abbrev pub HasRead : {X : Type 0} → (List ℕ → X → Type 0) → X → Reader → Reader → Type 0
+HasRead Encodes x old new = (text : List ℕ) × Encodes text x × Takes old new text
+
 -- `Ok` if and only if a prefix of the rest encodes a value, which is returned and consumed. On
--- `Err`, the reader is unchanged.
-abbrev pub Reads : {X : Type 0} → (List ℕ → X → Type 0) → Result X Error → Reader → Reader → Type 0
-Reads Encodes (Ok x) old new = (text : List ℕ) × Encodes text x × Takes old new text
-Reads Encodes (Err e) old new = (new ≡ old) × IsRefusal Encodes e old
+-- `Err`, the reader is unchanged, and the error has this fault.
+abbrev pub Reads : {X : Type 0} → (List ℕ → X → Type 0) → (Message → Reader → ℕ → Type 0) → Result X Error → Reader → Reader → Type 0
+Reads Encodes Fault (Ok x) old new = HasRead Encodes x old new
+Reads Encodes Fault (Err e) old new = (new ≡ old) × IsRefusal Encodes e old × Fault e.message old e.offset
 
 -- One byte.
 abbrev pub IsByte : List ℕ → ℕ → Type 0
@@ -111,10 +115,11 @@ EndFault m r offset = (m ≡ message.EndOfData) × (offset ≡ offset_of r) × (
 abbrev pub IsEndHere : Error → Reader → Type 0
 IsEndHere e r = EndFault e.message r e.offset
 
--- Fewer than `n` bytes are left: `EndOfData` at the position. `IsShort` takes an `Error`.
+-- Fewer than `n` bytes are left: `EndOfData` at the position.
 abbrev pub EndsWithin : ℕ → Message → Reader → ℕ → Type 0
 EndsWithin n m r offset = (m ≡ message.EndOfData) × (offset ≡ offset_of r) × (end_of r < offset_of r + n)
 
+-- `EndsWithin` of an `Error`.
 abbrev pub IsShort : ℕ → Error → Reader → Type 0
 IsShort n e r = EndsWithin n e.message r e.offset
 
@@ -169,9 +174,10 @@ SizeFault (message.SizeOutOfBounds _) limit r offset = (offset ≡ offset_of r) 
 SizeFault m limit r offset = NumberFault m 32 r offset × NoPrefix (EncodesUnsigned 32) (rest r)
 
 -- `Reads`, but the error's offset may be before the reader, from `start` on.
-abbrev pub ReadsFrom : {X : Type 0} → ℕ → (List ℕ → X → Type 0) → Result X Error → Reader → Reader → Type 0
-ReadsFrom start Encodes (Ok x) old new = Reads Encodes (Ok x) old new
-ReadsFrom start Encodes (Err e) old new = (new ≡ old) × Refuses Encodes (rest old) e.message × IsReadFault e.message × (start ≤ e.offset) × (e.offset ≤ end_of old)
+abbrev pub ReadsFrom : {X : Type 0} → ℕ → (List ℕ → X → Type 0) → (Message → Reader → ℕ → Type 0) → Result X Error → Reader → Reader → Type 0
+ReadsFrom start Encodes Fault (Ok x) old new = HasRead Encodes x old new
+ReadsFrom start Encodes Fault (Err e) old new =
+    (new ≡ old) × Refuses Encodes (rest old) e.message × IsReadFault e.message × (start ≤ e.offset) × (e.offset ≤ end_of old) × Fault e.message old e.offset
 
 -- Above `limit`, `SizeOutOfBounds` with the list's name; without a u32, its error.
 abbrev pub CountFault : SizeName → ℕ → Message → Reader → ℕ → Type 0

@@ -1,6 +1,6 @@
 ghost use Rattle.std.specs.Prelude.{◌≡◌, ◌≢◌, ◌+◌, ◌-◌, ◌≤◌, ◌<◌, ◌^◌, length, IsTrue, ◌↔◌, [], ◌∷◌, IfOk, IfErr};
 ghost use Rattle.std.specs.Int.{w32, w64};
-ghost use Rattle.wasm_below_bytes.specs.Source.{Reads, IsByte, IsBlock, IsEndHere, IsShort, BeginsWith, CountFault, rest, offset_of, end_of, at_position, with_features, reader_of};
+ghost use Rattle.wasm_below_bytes.specs.Source.{Reads, IsByte, IsBlock, IsEndHere, IsShort, BeginsWith, CountFault, rest, offset_of, end_of, at_position, with_features, reader_of, EndFault, EndsWithin};
 ghost use Rattle.wasm_below_bytes.specs.Features.{all_features};
 ghost use Rattle.wasm_below_bytes.specs.Number.{EncodesFixed, EncodesSize};
 
@@ -205,8 +205,7 @@ impl<'a> BinaryReader<'a> {
     /// Reads one byte. Fails with `EndOfData`.
     #[inline(always)]
     pub fn read_u8(&mut self) -> Result<u8>
-        ensures reads { Reads IsByte result self.old self.new }
-        ensures end { IfErr result (λ e. IsEndHere e self.old) }
+        ensures { Reads IsByte EndFault result self.old self.new }
     {
         if self.position >= self.buffer.len() {
             return Err(self.end_of_data());
@@ -227,8 +226,7 @@ impl<'a> BinaryReader<'a> {
     /// Reads `n` bytes. Fails with `EndOfData` at the offset of the first.
     #[inline(always)]
     pub fn read_bytes(&mut self, n: usize) -> Result<&'a [u8]>
-        ensures reads { Reads (IsBlock n) result self.old self.new }
-        ensures end { IfErr result (λ e. IsShort n e self.old) }
+        ensures { Reads (IsBlock n) (EndsWithin n) result self.old self.new }
     {
         if n > self.buffer.len() - self.position {
             return Err(self.block_missing(n));
@@ -258,8 +256,7 @@ impl<'a> BinaryReader<'a> {
     /// Reads a little-endian number. Fails like `read_bytes`.
     #[inline(always)]
     pub fn read_u32(&mut self) -> Result<u32>
-        ensures reads { Reads (EncodesFixed w32) result self.old self.new }
-        ensures end { IfErr result (λ e. IsShort 4 e self.old) }
+        ensures { Reads (EncodesFixed w32) (EndsWithin 4) result self.old self.new }
     {
         let block = self.read_bytes(4)?;
         Ok(u32::from_le_bytes([block[0], block[1], block[2], block[3]]))
@@ -268,8 +265,7 @@ impl<'a> BinaryReader<'a> {
     /// Reads a little-endian number. Fails like `read_bytes`.
     #[inline(always)]
     pub fn read_u64(&mut self) -> Result<u64>
-        ensures reads { Reads (EncodesFixed w64) result self.old self.new }
-        ensures end { IfErr result (λ e. IsShort 8 e self.old) }
+        ensures { Reads (EncodesFixed w64) (EndsWithin 8) result self.old self.new }
     {
         let block = self.read_bytes(8)?;
         Ok(u64::from_le_bytes([
@@ -282,8 +278,7 @@ impl<'a> BinaryReader<'a> {
     /// Fails with `SizeOutOfBounds`, which names `desc`, at the start of a count above `limit`;
     /// otherwise like `read_var_u32`.
     pub fn read_size(&mut self, limit: usize, desc: SizeName) -> Result<usize>
-        ensures reads { Reads (EncodesSize limit) result self.old self.new }
-        ensures fault { IfErr result (λ e. CountFault desc limit e.message self.old e.offset) }
+        ensures { Reads (EncodesSize limit) (CountFault desc limit) result self.old self.new }
     {
         let start = self.position;
         let size = self.read_var_u32()? as usize;

@@ -1,10 +1,10 @@
 ghost use Rattle.std.specs.Prelude.{◌≡◌, ℕ, ⊤, List, IfOk, IfErr, IfSome};
 ghost use Rattle.wasm_below_bytes.specs.declared.features.WasmFeatures.{WasmFeatures};
 ghost use Rattle.wasm_below_bytes.specs.declared.message.Message.{Message};
-ghost use Rattle.wasm_below_bytes.specs.Fault.{HasFault, NeedsMemory, DeterminesRefusal};
+ghost use Rattle.wasm_below_bytes.specs.Fault.{DeterminesRefusal};
 ghost use Rattle.wasm_below_bytes.specs.Items.{items_left, items_reader, items_name};
-ghost use Rattle.wasm_below_bytes.specs.FromReader.{ReadsValue, EncodesReader, ReaderFault, StepsItems, ReadsOn};
-ghost use Rattle.wasm_below_bytes.specs.Source.{Reader, IsRefusal, U32Fault, CountFault, Reads, end_of, offset_of};
+ghost use Rattle.wasm_below_bytes.specs.FromReader.{AllocatesIf, ReadsValue, EncodesReader, ReaderFault, StepsItems, ReadsOn};
+ghost use Rattle.wasm_below_bytes.specs.Source.{Reader, IsRefusal, U32Fault, CountFault, HasRead, Reads, end_of, offset_of};
 ghost use Rattle.std.specs.Iterator.{at_most, UpTo};
 ghost use Rattle.std.specs.Iterator.SizeHint.{IsWithinCount};
 ghost use Rattle.wasm_below_bytes.specs.Number.{EncodesUnsigned, EncodesSize};
@@ -36,10 +36,8 @@ pub trait FromReader<'a>: UsesMemory + Drop + Sized {
 
     /// Reads the value that a prefix of the rest encodes.
     fn from_reader(alloc: Global, reader: &mut BinaryReader<'a>) -> Result<Self>
-        ensures reads { ReadsValue (encodes reader.old.features) Self.Memory.TAKES result reader.old reader.new }
-        ensures placed { IfOk result (λ value. placed reader.old value reader.new) }
-        ensures fault { IfErr result (λ e. HasFault fault e reader.old) }
-        ensures memory { IfErr result (λ e. NeedsMemory allocates e reader.old) };
+        ensures reads { ReadsValue (encodes reader.old.features) fault (AllocatesIf Self.Memory.TAKES allocates) result reader.old reader.new }
+        ensures placed { IfOk result (λ value. placed reader.old value reader.new) };
 
     fn is_prefix_code()
         ensures { (features : WasmFeatures) → PrefixCodeUpTo same (encodes features) };
@@ -69,10 +67,8 @@ impl<'a> FromReader<'a> for u32 {
 impl<'a> BinaryReader<'a> {
     #[inline(always)]
     pub fn read<T: FromReader<'a>>(&mut self, alloc: Global) -> Result<T>
-        ensures reads { ReadsValue (T.encodes self.old.features) T.Memory.TAKES result self.old self.new }
+        ensures reads { ReadsValue (T.encodes self.old.features) T.fault (AllocatesIf T.Memory.TAKES T.allocates) result self.old self.new }
         ensures placed { IfOk result (λ value. T.placed self.old value self.new) }
-        ensures fault { IfErr result (λ e. HasFault T.fault e self.old) }
-        ensures memory { IfErr result (λ e. NeedsMemory T.allocates e self.old) }
     {
         T::from_reader(alloc, self)
     }
@@ -82,9 +78,8 @@ impl<'a> BinaryReader<'a> {
     ///
     /// Fails like `read_var_u32`, or with `EndOfData` at the offset after the number.
     pub fn read_reader(&mut self) -> Result<BinaryReader<'a>>
-        ensures reads { Reads (EncodesReader self.old.features) result self.old self.new }
+        ensures reads { Reads (EncodesReader self.old.features) ReaderFault result self.old self.new }
         ensures placed { IfOk result (λ r. end_of r ≡ offset_of self.new) }
-        ensures fault { IfErr result (λ e. ReaderFault e.message self.old e.offset) }
     {
         let start = self.current_position();
         let size = self.read_var_u32()? as usize;
@@ -107,7 +102,7 @@ impl<'a> BinaryReader<'a> {
     ) -> Result<BinaryReaderIter<'a, 'r, T>>
         ensures same_reference { IfOk result (λ items. items_name items ≡ self.entry.ghost_name) }
         ensures count { IfOk result
-            (λ items. Reads (EncodesSize limit) (Ok (items_left items)) self.old (items_reader items)) }
+            (λ items. HasRead (EncodesSize limit) (items_left items) self.old (items_reader items)) }
         ensures refused { IfErr result (λ e. IsRefusal (EncodesSize limit) e self.old) }
         ensures fault { IfErr result (λ e. CountFault desc limit e.message self.old e.offset) }
     {
@@ -148,8 +143,8 @@ impl<'a, 'r, T: FromReader<'a>> Iterator for BinaryReaderIter<'a, 'r, T> {
     type Item = Result<T>;
 
     ghost next_gives = { λ s item t. (items_name t ≡ items_name s)
-        × StepsItems (T.encodes (items_reader s).features) T.fault T.placed T.Memory.TAKES (items_left s) (items_left t)
-        item (items_reader s) (items_reader t) };
+        × StepsItems (T.encodes (items_reader s).features) T.fault (AllocatesIf T.Memory.TAKES T.allocates) T.placed
+        (items_left s) (items_left t) item (items_reader s) (items_reader t) };
 
     ghost remaining = { λ s. at_most (items_left s) };
 
@@ -180,8 +175,8 @@ impl<'a, 'r, T: FromReader<'a>> Iterator for BinaryReaderIter<'a, 'r, T> {
 
 impl<'a, 'r, T: FromReader<'a>> Drop for BinaryReaderIter<'a, 'r, T> {
     fn drop(self)
-        ensures { ReadsOn (T.encodes (items_reader self.entry).features) T.Memory.TAKES (items_left self.entry)
-            (items_reader self.entry) self.exit.1.0.now }
+        ensures { ReadsOn (T.encodes (items_reader self.entry).features) T.fault (AllocatesIf T.Memory.TAKES T.allocates)
+            (items_left self.entry) (items_reader self.entry) self.exit.1.0.now }
     {
         let BinaryReaderIter {
             remaining,
@@ -194,7 +189,7 @@ impl<'a, 'r, T: FromReader<'a>> Drop for BinaryReaderIter<'a, 'r, T> {
 }
 
 fn read_on<'a, T: FromReader<'a>>(alloc: Global, reader: &mut BinaryReader<'a>, count: usize)
-    ensures { ReadsOn (T.encodes reader.old.features) T.Memory.TAKES count reader.old reader.new }
+    ensures { ReadsOn (T.encodes reader.old.features) T.fault (AllocatesIf T.Memory.TAKES T.allocates) count reader.old reader.new }
 {
     for _ in 0..count {
         if reader.read::<T>(alloc).is_err() {

@@ -1,10 +1,10 @@
 -- Reading encoded values to the end of the data, and the sum of what they count.
-use Rattle.std.proofs.Common.{◌≡◌, ℕ, ◌+◌, ◌%◌, ◌^◌, ◌<◌, List, [], ◌∷◌, ◌++◌, length, Ok, refl, sym, subst, ap, ◌∙◌, append_assoc, length-append, arith}
+use Rattle.std.proofs.Common.{◌≡◌, ℕ, ◌+◌, ◌%◌, ◌^◌, ◌<◌, List, [], ◌∷◌, ◌++◌, length, refl, sym, subst, ap, ◌∙◌, append_assoc, length-append, arith}
 use Rattle.std.specs.Prelude.{sum_by}
 use Rattle.std.proofs.lemmas.List.Sums.{sum_by-append}
 use Rattle.std.proofs.Math.Nat.{mod-add-mod}
 use Rattle.std.proofs.lemmas.List.{append-nil}
-use Rattle.wasm_operators_readers.specs.below.Source.{Reader, rest, Takes, NoPrefix, Reads}
+use Rattle.wasm_operators_readers.specs.below.Source.{Reader, rest, Takes, NoPrefix, HasRead}
 use Rattle.wasm_operators_readers.specs.below.Sequence.{PrefixCode, Then}
 use Rattle.wasm_operators_readers.proofs.of_below.TakesLemmas.{takes_then, same_rest}
 use Rattle.wasm_operators_readers.specs.imm.Lists.{EncodesEach}
@@ -23,7 +23,7 @@ pub record SumSoFar {X : Type 0} (Encodes : List ℕ → X → Type 0) (counts :
   pub total_is : total ≡ sum_by counts done % 2 ^ 64
 
 pub one_more : {X : Type 0} (Encodes : List ℕ → X → Type 0) (counts : X → ℕ) (first now new : Reader) (total total2 : ℕ) (x : X) →
-    SumSoFar Encodes counts first now total → Reads Encodes (Ok x) now new → total2 ≡ (total + counts x) % 2 ^ 64 → SumSoFar Encodes counts first new total2
+    SumSoFar Encodes counts first now total → HasRead Encodes x now new → total2 ≡ (total + counts x) % 2 ^ 64 → SumSoFar Encodes counts first new total2
 one_more Encodes counts first now new total total2 x s (text, p, t) e =
     record {
       text = s.text ++ text;

@@ -1,7 +1,7 @@
-use Rattle.std.proofs.Common.{◌≡◌, ℕ, ◌+◌, ◌<◌, List, [], ◌∷◌, ◌++◌, length, length-append, Some, None, Ok, refl, ap, subst, ◌∙◌, arith}
+use Rattle.std.proofs.Common.{◌≡◌, ℕ, ◌+◌, ◌<◌, List, [], ◌∷◌, ◌++◌, length, length-append, Some, None, refl, ap, subst, ◌∙◌, arith}
 use Rattle.wasm_functions.specs.of_module.below.FromReader.{EncodesReader}
 use Rattle.wasm_functions.specs.of_module.below.Number.{EncodesUnsigned}
-use Rattle.wasm_functions.specs.of_module.below.Source.{Reader, Reads, rest, offset_of, end_of}
+use Rattle.wasm_functions.specs.of_module.below.Source.{Reader, HasRead, rest, offset_of, end_of}
 use Rattle.wasm_functions.specs.Items.{ItemsOccur}
 use Rattle.wasm_functions.specs.ModuleFunctions.{ModuleFunctions}
 use Rattle.wasm_bodies.specs.declared.bodies.WasmBodies.{WasmBodies}
@@ -10,14 +10,14 @@ use Rattle.wasm_bodies.specs.Bodies.{after_bytes, InSection, DeclaresIn, StartsI
 use Rattle.wasm_bodies.proofs.Places.{OneSection, same_place}
 
 -- One more body after some.
-one_body : (r mid end : Reader) (bodies : List Reader) (b : Reader) → BodiesOccur r bodies mid → Reads (EncodesReader mid.features) (Ok b) mid end →
+one_body : (r mid end : Reader) (bodies : List Reader) (b : Reader) → BodiesOccur r bodies mid → HasRead (EncodesReader mid.features) b mid end →
     end_of b ≡ offset_of end → BodiesOccur r (bodies ++ b ∷ []) end
 one_body r mid end [] b same reads place = subst (λ r. BodiesOccur r (b ∷ []) end) same (end, reads, place, refl)
 one_body r mid end (first ∷ bodies) b (next, read, at, others) reads place = (next, read, at, one_body next mid end bodies b others reads place)
 
 -- One more item after some.
 one_item : {X : Type 0} (Encodes : List ℕ → X → Type 0) (r mid end : Reader) (items : List X) (x : X) → ItemsOccur Encodes r items mid →
-    Reads Encodes (Ok x) mid end → ItemsOccur Encodes r (items ++ x ∷ []) end
+    HasRead Encodes x mid end → ItemsOccur Encodes r (items ++ x ∷ []) end
 one_item Encodes r mid end [] x same reads = subst (λ r. ItemsOccur Encodes r (x ∷ []) end) same (end, reads, refl)
 one_item Encodes r mid end (first ∷ items) x (next, read, others) reads = (next, read, one_item Encodes next mid end items x others reads)
 

@@ -1,11 +1,11 @@
-use Rattle.std.proofs.Common.{◌≡◌, ℕ, ◌+◌, ◌-◌, ◌≤◌, List, [], length, length-append, length-drop, append-nil, Option, Some, Ok, refl, sym, ap, subst, ◌∙◌, arith, inl, inr}
+use Rattle.std.proofs.Common.{◌≡◌, ℕ, ◌+◌, ◌-◌, ◌≤◌, List, [], length, length-append, length-drop, append-nil, Option, Some, refl, sym, ap, subst, ◌∙◌, arith, inl, inr}
 use Rattle.wasm_functions.specs.of_module.below.bytes.error.Error.{Error}
 use Rattle.wasm_functions.specs.of_module.below.bytes.message.Message.{Message}
 use Rattle.wasm_functions.specs.of_module.below.bytes.message.Message.TheVariants as message
 use Rattle.wasm_functions.specs.of_module.below.FromReader.{EncodesReader}
 use Rattle.wasm_functions.specs.of_module.below.Number.{EncodesUnsigned}
 use Rattle.wasm_functions.specs.of_module.below.Refusal.{IsReadFault}
-use Rattle.wasm_functions.specs.of_module.below.Source.{Reader, Reads, Takes, IsRefusal, MayFollow, rest, offset_of, end_of, at_position}
+use Rattle.wasm_functions.specs.of_module.below.Source.{Reader, HasRead, Takes, IsRefusal, MayFollow, rest, offset_of, end_of, at_position}
 use Rattle.wasm_functions.specs.Sections.{IsSection}
 use Rattle.wasm_bodies.specs.declared.bodies.WasmBodies.{WasmBodies}
 use Rattle.wasm_bodies.specs.Bodies.{module_of, after_bytes, InSection, HasType, TakesPart, IsPlace}
@@ -55,7 +55,7 @@ bytes_read start old new before after text at takes is =
     omega (arith, p, at, is)
 
 pub part_taken : (bytes : List ℕ) (start old new : ℕ) (before after part : Reader) → InSection bytes 10 old before → before.position ≡ start + old →
-    Reads (EncodesReader before.features) (Ok part) before after → end_of part ≡ offset_of after → new ≡ after.position - start →
+    HasRead (EncodesReader before.features) part before after → end_of part ≡ offset_of after → new ≡ after.position - start →
     TakesPart bytes old new part
 part_taken bytes start old new before after part a at (text, encodes, takes) place is =
     let n = bytes_read start old new before after text at takes is in

@@ -1,12 +1,12 @@
 -- Specification: Binary Format, Modules: Indices, Function Section, Code Section.
-use Rattle.std.specs.Prelude.{◌≡◌, ◌≢◌, ◌⊎◌, ◌+◌, ◌-◌, ◌<◌, ◌≤◌, ◌^◌, ℕ, List, [], ◌∷◌, length, Option, Some, None, Ok, min, slice_index_or, if◌then◌else◌}
+use Rattle.std.specs.Prelude.{◌≡◌, ◌≢◌, ◌⊎◌, ◌+◌, ◌-◌, ◌<◌, ◌≤◌, ◌^◌, ℕ, List, [], ◌∷◌, length, Option, Some, None, min, slice_index_or, if◌then◌else◌}
 use Rattle.std.specs.Str.{is_utf8}
 use Rattle.wasm_functions.specs.of_module.below.bytes.error.Error.{Error}
 use Rattle.wasm_functions.specs.of_module.below.bytes.message.Message.TheVariants as message
 use Rattle.wasm_functions.specs.of_module.below.Features.{all_features}
 use Rattle.wasm_functions.specs.of_module.below.FromReader.{EncodesReader, ReaderFault}
 use Rattle.wasm_functions.specs.of_module.below.Number.{EncodesUnsigned}
-use Rattle.wasm_functions.specs.of_module.below.Source.{Reader, Reads, U32Fault, rest, offset_of, end_of, reader_of, at_position}
+use Rattle.wasm_functions.specs.of_module.below.Source.{Reader, HasRead, U32Fault, rest, offset_of, end_of, reader_of, at_position}
 use Rattle.wasm_functions.specs.Items.{ItemsOccur}
 use Rattle.wasm_functions.specs.ModuleFunctions.{ModuleFunctions, DescribesFunctions, IsOwn, index_of}
 use Rattle.wasm_functions.specs.Refusals.{ModuleFunctionsFault, IsRefusedAs}
@@ -36,7 +36,7 @@ pub record InSection (bytes : List ℕ) (id n : ℕ) (there : Reader) : Type 0 w
 -- are 0.
 abbrev pub Declares : Option Reader → ℕ → ℕ → Type 0
 Declares None count n = (count ≡ 0) × (n ≡ 0)
-Declares (Some contents) count n = Reads (EncodesUnsigned 32) (Ok count) contents (after_bytes contents n)
+Declares (Some contents) count n = HasRead (EncodesUnsigned 32) count contents (after_bytes contents n)
 
 abbrev pub RefusesCount : Error → Option Reader → Type 0
 RefusesCount e None = ⊥
@@ -73,7 +73,7 @@ RefusesBodies fault.NoFunction bytes = ⊥
 -- Between offsets `old` and `new`, the function section's contents are a type index.
 abbrev pub TakesType : List ℕ → ℕ → ℕ → ℕ → Type 0
 TakesType bytes old new ty =
-    (before after : Reader) × InSection bytes 3 old before × InSection bytes 3 new after × Reads (EncodesUnsigned 32) (Ok ty) before after
+    (before after : Reader) × InSection bytes 3 old before × InSection bytes 3 new after × HasRead (EncodesUnsigned 32) ty before after
 
 abbrev pub HasType : List ℕ → ℕ → Type 0
 HasType bytes n = (new ty : ℕ) × TakesType bytes n new ty
@@ -84,7 +84,7 @@ pub record TakesPart (bytes : List ℕ) (old new : ℕ) (part : Reader) : Type 0
   pub is_before : InSection bytes 10 old before
   pub after : Reader
   pub is_after : InSection bytes 10 new after
-  pub reads : Reads (EncodesReader before.features) (Ok part) before after
+  pub reads : HasRead (EncodesReader before.features) part before after
   pub place : end_of part ≡ offset_of after
 
 -- The next body is read, with the index and the type of its function.
@@ -125,12 +125,12 @@ StopsBodies no_body.NotBodies bytes c = IsPlace bytes c → ⊥
 -- Between the two readers, the bytes encode these bodies, each after its length, with the offsets of the module.
 abbrev pub BodiesOccur : Reader → List Reader → Reader → Type 0
 BodiesOccur r [] end = end ≡ r
-BodiesOccur r (b ∷ bs) end = (mid : Reader) × Reads (EncodesReader r.features) (Ok b) r mid × (end_of b ≡ offset_of mid) × BodiesOccur mid bs end
+BodiesOccur r (b ∷ bs) end = (mid : Reader) × HasRead (EncodesReader r.features) b r mid × (end_of b ≡ offset_of mid) × BodiesOccur mid bs end
 
 -- The section with this number declares `count` items, and `first` is the reader before them.
 abbrev pub StartsItems : List ℕ → ℕ → ℕ → Reader → Type 0
 StartsItems bytes id count first =
-    (contents : Reader) × IsSection (module_of bytes) id (Some contents) × Reads (EncodesUnsigned 32) (Ok count) contents first
+    (contents : Reader) × IsSection (module_of bytes) id (Some contents) × HasRead (EncodesUnsigned 32) count contents first
 
 -- The C struct is the place after these bodies, the first of the module, and as many type indices.
 pub record IsAfter (bytes : List ℕ) (functions : ModuleFunctions) (bodies : List Reader) (types : List ℕ) (c : WasmBodies) : Type 0 where

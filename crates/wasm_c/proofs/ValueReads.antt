@@ -6,9 +6,9 @@ use Rattle.std.proofs.lemmas.Option.{slice_get_past, slice_get-get_or}
 use Rattle.wasm_operators.specs.below.bytes.error.Error.{Error}
 use Rattle.wasm_operators.specs.below.bytes.message.Message.{Message}
 use Rattle.wasm_operators.specs.below.bytes.message.SizeName.TheVariants as size_name
-use Rattle.wasm_operators.specs.below.FromReader.{ReadsValue, EncodesReader, ReaderFault}
+use Rattle.wasm_operators.specs.below.FromReader.{EncodesReader, ReaderFault}
 use Rattle.wasm_operators.specs.below.Number.{EncodesUnsigned, EncodesSigned, EncodesFixed, EncodesSize}
-use Rattle.wasm_operators.specs.below.Source.{Reader, Reads, Takes, rest, offset_of, at_position, IsByte, IsBlock, EndFault, EndsWithin, CountFault, U32Fault, U64Fault, I32Fault, S33Fault, I64Fault}
+use Rattle.wasm_operators.specs.below.Source.{Reader, HasRead, Reads, Takes, rest, offset_of, at_position, IsByte, IsBlock, EndFault, EndsWithin, CountFault, U32Fault, U64Fault, I32Fault, S33Fault, I64Fault}
 use Rattle.wasm_operators.specs.below.TypeEncoding.{EncodesHeapType, EncodesRefType, EncodesValType, HeapTypeFault, RefTypeFault, ValTypeFault}
 use Rattle.wasm_operators.specs.imm.BlockTypeFaults.{BlockTypeFault}
 use Rattle.wasm_operators.specs.imm.BlockTypes.{EncodesBlockType}
@@ -47,11 +47,11 @@ past_locals old after (declarations, (text, (first, more, count, split, number, 
     (within_buffer old after text first more takes split (some_bytes 32 first count number), moved_to old after text takes)
 
 -- A part with its length is a new reader.
-pub part_at_start : (old new part : Reader) → Reads (EncodesReader old.features) (Ok part) old new → part.position ≡ 0
+pub part_at_start : (old new part : Reader) → HasRead (EncodesReader old.features) part old new → part.position ≡ 0
 part_at_start old new part (text, (first, more, size, split, number, (features, buffer, position, long)), takes) = position
 
 -- A constant expression is a new reader.
-pub constant_at_start : (old new constant : Reader) → ReadsValue (EncodesConstantReader old.features) true (Ok constant) old new → constant.position ≡ 0
+pub constant_at_start : (old new constant : Reader) → HasRead (EncodesConstantReader old.features) constant old new → constant.position ≡ 0
 constant_at_start old new constant (text, ((features, buffer, position, long), encodes), takes) = position
 
 -- A reader that went back.
@@ -73,7 +73,7 @@ as_moves Encodes value Fault v old new (x, (text, encodes, takes), is) = moved_t
 
 as_stays : {X : Type 0} (Encodes : List ℕ → X → Type 0) (value : X → WasmValue) (Fault : Message → Reader → ℕ → Type 0) (e : Error) (old new : Reader) →
     ReadsAs Encodes value Fault (Err e) old new → new ≡ old
-as_stays Encodes value Fault e old new ((same, refused), fault) = same
+as_stays Encodes value Fault e old new (same, refused, fault) = same
 
 kind_moves : (k : ValueKind) (argument : ℕ) (v : WasmValue) (old new : Reader) → ReadsKind k argument (Ok v) old new → at_position old new.position ≡ new
 kind_moves kind.U8 argument v old new reads = as_moves IsByte number_value EndFault v old new reads
@@ -111,7 +111,7 @@ kind_stays kind.Size argument e old new reads = as_stays (EncodesSize argument) 
 kind_stays kind.Bytes argument e old new reads = as_stays (IsBlock argument) (λ block. number_value (length block.now)) (EndsWithin argument) e old new reads
 kind_stays kind.Sized argument e old new reads = as_stays (EncodesReader old.features) (λ part. number_value (length part.buffer)) ReaderFault e old new reads
 kind_stays kind.Locals argument e old new (same, refused) = same
-kind_stays kind.Constant argument e old new ((same, refused), fault, memory) = same
+kind_stays kind.Constant argument e old new (same, refused) = same
 kind_stays kind.ValueType argument e old new reads = as_stays EncodesValType of_value_type ValTypeFault e old new reads
 kind_stays kind.ReferenceType argument e old new reads = as_stays EncodesRefType of_reference_type RefTypeFault e old new reads
 kind_stays kind.HeapType argument e old new reads = as_stays EncodesHeapType of_heap_type HeapTypeFault e old new reads

@@ -12,7 +12,7 @@ use Rattle.wasm_operators.specs.below.Fault.{HasFault}
 use Rattle.wasm_operators.specs.below.FromReader.{ReadsValue, EncodesReader, ReaderFault}
 use Rattle.wasm_operators.specs.below.Number.{EncodesUnsigned, EncodesSigned, EncodesFixed, EncodesSize}
 use Rattle.wasm_operators.specs.below.Reference.{Reference}
-use Rattle.wasm_operators.specs.below.Source.{Reader, Reads, IsRefusal, offset_of, IsByte, IsBlock, EndFault, EndsWithin, CountFault, U32Fault, U64Fault, I32Fault, S33Fault, I64Fault}
+use Rattle.wasm_operators.specs.below.Source.{Reader, HasRead, Reads, IsRefusal, offset_of, IsByte, IsBlock, EndFault, EndsWithin, CountFault, U32Fault, U64Fault, I32Fault, S33Fault, I64Fault}
 use Rattle.wasm_operators.specs.below.TypeEncoding.{EncodesHeapType, EncodesRefType, EncodesValType, HeapTypeFault, RefTypeFault, ValTypeFault}
 use Rattle.wasm_operators.specs.imm.BlockTypeFaults.{BlockTypeFault}
 use Rattle.wasm_operators.specs.imm.BlockTypes.{EncodesBlockType}
@@ -70,8 +70,8 @@ of_handler h = typed_value h.tag h.kind h.label
 
 -- A value is read as a C struct. On an error of the bytes, nothing is read.
 abbrev pub ReadsAs : {X : Type 0} → (List ℕ → X → Type 0) → (X → WasmValue) → (Message → Reader → ℕ → Type 0) → Result WasmValue Error → Reader → Reader → Type 0
-ReadsAs {X} Encodes value Fault (Ok v) old new = (x : X) × Reads Encodes (Ok x) old new × (v ≡ value x)
-ReadsAs Encodes value Fault (Err e) old new = Reads Encodes (Err e) old new × Fault e.message old e.offset
+ReadsAs {X} Encodes value Fault (Ok v) old new = (x : X) × HasRead Encodes x old new × (v ≡ value x)
+ReadsAs Encodes value Fault (Err e) old new = Reads Encodes Fault (Err e) old new
 
 -- The locals of a body are read, up to its operators.
 abbrev pub ReadsLocals : Result WasmValue Error → Reader → Reader → Type 0
@@ -81,22 +81,22 @@ ReadsLocals (Err e) old new = (new ≡ old) × RefusesLocals e old
 -- A constant expression is read; the number is its length in bytes.
 abbrev pub ReadsConstant : Result WasmValue Error → Reader → Reader → Type 0
 ReadsConstant (Ok v) old new =
-    (c : Reader) × ReadsValue (EncodesConstantReader old.features) true (Ok c) old new × (v ≡ number_value (length c.buffer))
+    (c : Reader) × HasRead (EncodesConstantReader old.features) c old new × (v ≡ number_value (length c.buffer))
 ReadsConstant (Err e) old new =
-    ReadsValue (EncodesConstantReader old.features) true (Err e) old new × HasFault ConstantFault e old × (e.message ≡ message.OutOfMemory → ConstantMayAllocate old)
+    ReadsValue (EncodesConstantReader old.features) ConstantFault ConstantMayAllocate (Err e) old new
 
 -- Why a declaration of locals is not read.
 abbrev pub RefusesLocal : ℕ → Error → Reader → Type 0
 RefusesLocal total e old =
     (IsRefusal (EncodesUnsigned 32) e old × U32Fault e.message old e.offset) ⊎
-    ((number : ℕ) × (mid : Reader) × Reads (EncodesUnsigned 32) (Ok number) old mid ×
+    ((number : ℕ) × (mid : Reader) × HasRead (EncodesUnsigned 32) number old mid ×
     (((max_locals < total + number) × (e.message ≡ message.TooManyLocals) × (e.offset ≡ offset_of mid)) ⊎
     ((total + number ≤ max_locals) × IsRefusal EncodesValType e mid × ValTypeFault e.message mid e.offset)))
 
 -- A declaration of locals is read, after declarations of `total` locals.
 abbrev pub ReadsLocal : ℕ → Result WasmValue Error → Reader → Reader → Type 0
 ReadsLocal total (Ok v) old new =
-    (d : Declaration) × (mid : Reader) × Reads (EncodesUnsigned 32) (Ok d.0) old mid × (total + d.0 ≤ max_locals) × Reads EncodesValType (Ok d.1) mid new ×
+    (d : Declaration) × (mid : Reader) × HasRead (EncodesUnsigned 32) d.0 old mid × (total + d.0 ≤ max_locals) × HasRead EncodesValType d.1 mid new ×
     (v ≡ of_declaration d)
 ReadsLocal total (Err e) old new = (new ≡ old) × RefusesLocal total e old
 

@@ -6,7 +6,7 @@ use Rattle.wasm_visit.specs.below.bytes.message.Message.{Message}
 use Rattle.wasm_visit.specs.below.bytes.message.Message.TheVariants as message
 use Rattle.wasm_visit.specs.below.Number.{EncodesUnsigned}
 use Rattle.wasm_visit.specs.below.Refusal.{IsReadFault}
-use Rattle.wasm_visit.specs.below.Source.{Reader, rest, at_position, Takes, BeginsWith, IsRefusal, Reads, IsByte, U32Fault}
+use Rattle.wasm_visit.specs.below.Source.{Reader, rest, at_position, Takes, BeginsWith, HasRead, Reads, IsByte, U32Fault}
 use Rattle.wasm_visit.proofs.of_below.Blocks.{refused_now}
 use Rattle.wasm_visit.proofs.of_below.TakesLemmas.{takes_then, rewound, first_byte_read, within_buffer}
 use Rattle.wasm_visit.specs.grammar.declared.frame_kind.FrameKind.{FrameKind}
@@ -62,7 +62,7 @@ module _ {V A : Type 0} (visits : V → Operator → A → V → Type 0) (k : Fr
   copy_refused e new h went = by_copy (Err e) new start h (sym (ap (λ (r : Reader). r.position) h.1.0)) went
 
 -- the reader is after the byte that it read
-pub occurs : (old mid : Reader) (code start : ℕ) → Reads IsByte (Ok code) old mid → start ≡ old.position → (at_position mid start ≡ old) × IsAfterCode start None code mid
+pub occurs : (old mid : Reader) (code start : ℕ) → HasRead IsByte code old mid → start ≡ old.position → (at_position mid start ≡ old) × IsAfterCode start None code mid
 occurs old mid code start r same =
     let f = first_byte_read old mid code r in
     let position : mid.position ≡ old.position + 1 = ap (λ (z : Reader). z.position) f.2.moved in
@@ -76,7 +76,7 @@ no_prefixes None ks e = cc e
 no_prefixes (Some g) ks e = cc e
 
 -- the reader is after the subopcode that it read
-pub is_after_code : (start p code : ℕ) (mid now : Reader) → IsAfterCode start None p mid → Reads (EncodesUnsigned 32) (Ok code) mid now →
+pub is_after_code : (start p code : ℕ) (mid now : Reader) → IsAfterCode start None p mid → HasRead (EncodesUnsigned 32) code mid now →
     (now ≡ at_position mid now.position) × IsAfterCode start (Some p) code now
 is_after_code start p code mid now b (number, u, t) = go b.opcode
   where
@@ -86,7 +86,7 @@ is_after_code start p code mid now b (number, u, t) = go b.opcode
     start_same : at_position mid start ≡ at_position now start
     start_same = sym (ap (λ (z : Reader). at_position z start) t.moved)
 
-    go : Reads (EncodesOpcode None) (Ok p) (at_position mid start) mid → (now ≡ at_position mid now.position) × IsAfterCode start (Some p) code now
+    go : HasRead (EncodesOpcode None) p (at_position mid start) mid → (now ≡ at_position mid now.position) × IsAfterCode start (Some p) code now
     go (head, opcode, taken) =
         let both : Takes (at_position mid start) now (head ++ number) = takes_then (at_position mid start) mid now head number taken t in
         let whole : Takes (at_position mid start) now (p ∷ number) = subst (λ z. Takes (at_position mid start) now (z ++ number)) opcode both in
@@ -118,11 +118,11 @@ begins_prefix f op p text after left is s eq = go (prefix_of op) refl s.code
 
 -- reading the subopcode fails
 pub refuses_subopcode : (k : FrameKind) (start p : ℕ) (e : Error) (mid now new : Reader) → p < 256 → entry_at None p ≡ prefixes → IsAfterCode start None p mid →
-    (now ≡ mid) × IsRefusal (EncodesUnsigned 32) e mid → U32Fault e.message mid e.offset → new ≡ at_position now start →
+    Reads (EncodesUnsigned 32) U32Fault (Err e) mid now → new ≡ at_position now start →
     RefusesOperator (EncodesAllowed mid.features k) (OperatorFault mid.features k) e (at_position mid start) new
-refuses_subopcode k start p e mid now new small is b (same, h) fault went = go b.opcode
+refuses_subopcode k start p e mid now new small is b (same, h, fault) went = go b.opcode
   where
-    go : Reads (EncodesOpcode None) (Ok p) (at_position mid start) mid →
+    go : HasRead (EncodesOpcode None) p (at_position mid start) mid →
         RefusesOperator (EncodesAllowed mid.features k) (OperatorFault mid.features k) e (at_position mid start) new
     go (head, opcode, t) =
         let parts : rest (at_position mid start) ≡ p ∷ rest mid = t.parts ∙ ap (λ z. z ++ rest mid) opcode in
@@ -183,7 +183,7 @@ pub to_scalar : {V A : Type 0} (visits : V → Operator → A → V → Type 0) 
     Decodes visits (EncodesScalar mid.features k) (ScalarOperatorFault mid.features k) result (at_position mid start) new v w
 to_scalar {V} {A} visits k start code mid new v w result other b h = go b.opcode result h
   where
-    go : Reads (EncodesOpcode None) (Ok code) (at_position mid start) mid → (result : Result A Error) →
+    go : HasRead (EncodesOpcode None) code (at_position mid start) mid → (result : Result A Error) →
         Decodes visits (EncodesAllowed mid.features k) (OperatorFault mid.features k) result (at_position mid start) new v w →
         Decodes visits (EncodesScalar mid.features k) (ScalarOperatorFault mid.features k) result (at_position mid start) new v w
     go (head, opcode, t) (Ok a) (text, op, s, taken, vis) =

@@ -7,7 +7,7 @@ use Rattle.wasm_instr.specs.below.bytes.message.Message.TheVariants as message
 use Rattle.wasm_instr.specs.below.Fault.{HasFault}
 use Rattle.wasm_instr.specs.below.Features.{HasFeature, legacy_exceptions}
 use Rattle.wasm_instr.specs.below.Refusal.{IsReadFault}
-use Rattle.wasm_instr.specs.below.Source.{Reader, rest, offset_of, end_of, at_position, Takes, NoPrefix, IsAhead, Reads}
+use Rattle.wasm_instr.specs.below.Source.{Reader, rest, offset_of, end_of, at_position, Takes, NoPrefix, IsAhead, HasRead}
 use Rattle.wasm_instr.specs.grammar.declared.frame_kind.FrameKind.{FrameKind}
 use Rattle.wasm_instr.specs.grammar.declared.frame_kind.FrameKind.TheVariants as frame
 use Rattle.wasm_instr.specs.grammar.Frames.{Allows}
@@ -105,7 +105,7 @@ pub refuses_opcode : (k : FrameKind) (p : Option ℕ) (code start : ℕ) (e : Er
     RefusesOperator (EncodesAllowed mid.features k) (OperatorFault mid.features k) e (at_position mid start) new
 refuses_opcode k p code start e mid new c b none went readable from to fault = go b.opcode
   where
-    go : Reads (EncodesOpcode p) (Ok code) (at_position mid start) mid →
+    go : HasRead (EncodesOpcode p) code (at_position mid start) mid →
         RefusesOperator (EncodesAllowed mid.features k) (OperatorFault mid.features k) e (at_position mid start) new
     go (head, opcode, t) = (
       went,

@@ -1,20 +1,19 @@
 -- Sequences of immediates of given kinds.
-use Rattle.std.proofs.Common.{◌≡◌, ◌≢◌, ℕ, ◌+◌, ◌≤◌, ◌⊎◌, inl, inr, Bool, true, false, List, [], ◌∷◌, ◌++◌, length, Ok, Err, map, refl, sym, subst, ap, ◌∙◌, append_assoc, arith}
+use Rattle.std.proofs.Common.{◌≡◌, ◌≢◌, ℕ, ◌+◌, ◌≤◌, ◌⊎◌, inl, inr, Bool, true, false, List, [], ◌∷◌, ◌++◌, Err, refl, sym, subst, ap, ◌∙◌, append_assoc, arith}
 use Rattle.std.proofs.lemmas.List.{append-nil}
 use Rattle.std.specs.Int.{w32, w64}
 use Rattle.wasm_instr.specs.below.bytes.error.Error.{Error}
 use Rattle.wasm_instr.specs.below.bytes.features.WasmFeatures.{WasmFeatures}
-use Rattle.wasm_instr.specs.below.bytes.message.Message.{Message}
 use Rattle.wasm_instr.specs.below.bytes.message.Message.TheVariants as message
 use Rattle.wasm_instr.specs.below.Fault.{HasFault}
-use Rattle.wasm_instr.specs.below.FromReader.{IsRefused}
+use Rattle.wasm_instr.specs.below.FromReader.{ReadsValue}
 use Rattle.wasm_instr.specs.below.Number.{EncodesUnsigned, EncodesSigned, EncodesFixed}
 use Rattle.wasm_instr.specs.below.Refusal.{IsReadFault}
 use Rattle.wasm_instr.specs.below.Sequence.{PrefixCode}
-use Rattle.wasm_instr.specs.below.Source.{Reader, rest, offset_of, end_of, at_position, Takes, NoPrefix, MayFollow, IsAhead, IsRefusal, Reads, ReadsFrom, IsByte}
+use Rattle.wasm_instr.specs.below.Source.{Reader, rest, offset_of, end_of, at_position, Takes, NoPrefix, MayFollow, IsAhead, HasRead, Reads, ReadsFrom, IsByte}
 use Rattle.wasm_instr.specs.below.TypeEncoding.{EncodesHeapType}
 use Rattle.wasm_instr.proofs.of_below.Blocks.{refused_now}
-use Rattle.wasm_instr.proofs.of_below.TakesLemmas.{takes_then, takes_none, same_rest}
+use Rattle.wasm_instr.proofs.of_below.TakesLemmas.{takes_then, same_rest}
 use Rattle.wasm_instr.specs.imm.declared.memory_argument.MemArgKind.{MemArgKind}
 use Rattle.wasm_instr.specs.imm.BlockTypes.{EncodesBlockType}
 use Rattle.wasm_instr.specs.imm.BranchTables.{EncodesBranchTable}
@@ -26,7 +25,7 @@ use Rattle.wasm_instr.specs.imm.Orderings.{EncodesOrderingByte, EncodesFence, Fe
 use Rattle.wasm_instr.specs.imm.OutOfMemory.{IsOutOfMemoryAt, IsRefusedFrom}
 use Rattle.wasm_instr.specs.imm.Vectors.{EncodesSixteen, EncodesVector}
 use Rattle.wasm_instr.proofs.of_imm.Faults.{none_here}
-use Rattle.wasm_instr.specs.Immediate.{Immediate, unsigned_32, signed_32, signed_64, float_32, float_64, vector, one_lane, sixteen_lanes, memory_argument, memory_index, table_index_32, order, fence_order, heap_type, cast, block_type, branch_table, select_types, try_clauses, resume_clauses, Kind, is_unsigned_32, is_signed_32, is_signed_64, is_float_32, is_float_64, is_vector, is_one_lane, is_sixteen_lanes, is_memory_argument, is_memory_index, is_table_index, is_order, is_fence_order, is_heap_type, is_cast, is_block_type, is_branch_table, is_select_types, is_try_clauses, is_resume_clauses, kind_of, EncodesImmediate, EncodesImmediates}
+use Rattle.wasm_instr.specs.Immediate.{Immediate, unsigned_32, signed_32, signed_64, float_32, float_64, vector, one_lane, sixteen_lanes, memory_argument, memory_index, table_index_32, order, fence_order, heap_type, cast, block_type, branch_table, select_types, try_clauses, resume_clauses, Kind, is_unsigned_32, is_signed_32, is_signed_64, is_float_32, is_float_64, is_vector, is_one_lane, is_sixteen_lanes, is_memory_argument, is_memory_index, is_table_index, is_order, is_fence_order, is_heap_type, is_cast, is_block_type, is_branch_table, is_select_types, is_try_clauses, is_resume_clauses, kind_of, EncodesImmediate}
 use Rattle.wasm_instr.proofs.ImmediatePrefixCodes.{immediate_prefix_code}
 use Rattle.wasm_decode_opcodes.specs.Decoding.{IsRefusedAfterCode}
 use Rattle.wasm_decode_opcodes.specs.Kinds.{EncodesKind, EncodesKinds}
@@ -223,9 +222,9 @@ RefusesKinds ks takes start e old new =
 
 -- reading the first immediate fails, and the call went back
 pub first_refused : {X : Type 0} (P : List ℕ → X → Type 0) (k : Kind) (ks : List Kind) (immediate : X → Immediate) (takes : Bool) (start : ℕ) (e reported : Error)
-    (old mid new : Reader) → OfKind P old.features k immediate → start ≤ old.position → (mid ≡ old) × IsRefusal P e old →
-    KindFault old.features (old.start + start) k e.message old e.offset → new ≡ at_position mid start → reported ≡ e → RefusesKinds (k ∷ ks) takes start reported old new
-first_refused P k ks immediate takes start e reported old mid new o begun (same, h) fault went kept =
+    (old mid new : Reader) → OfKind P old.features k immediate → start ≤ old.position →
+    Reads P (KindFault old.features (old.start + start) k) (Err e) old mid → new ≡ at_position mid start → reported ≡ e → RefusesKinds (k ∷ ks) takes start reported old new
+first_refused P k ks immediate takes start e reported old mid new o begun (same, h, fault) went kept =
     subst (λ z. RefusesKinds (k ∷ ks) takes start z old new) (sym kept) (
       went ∙ ap (λ z. at_position z start) same,
       record {
@@ -244,7 +243,7 @@ moved_start old mid text t = ap (λ (r : Reader). r.start) t.moved
 
 -- reading an immediate after the first one fails
 pub later_refused : {X : Type 0} (P : List ℕ → X → Type 0) (k : Kind) (ks : List Kind) (immediate : X → Immediate) (takes : Bool) (start : ℕ) (e : Error)
-    (old mid new : Reader) (x : X) → OfKind P old.features k immediate → Reads P (Ok x) old mid → RefusesKinds ks takes start e mid new →
+    (old mid new : Reader) (x : X) → OfKind P old.features k immediate → HasRead P x old mid → RefusesKinds ks takes start e mid new →
     RefusesKinds (k ∷ ks) takes start e old new
 later_refused P k ks immediate takes start e old mid new x o (text, p, t) (went, h, fault) =
     let features = moved_features old mid text t in
@@ -277,7 +276,7 @@ later_refused P k ks immediate takes start e old mid new x o (text, p, t) (went,
 
 -- all were read
 pub last_read : {X : Type 0} (P : List ℕ → X → Type 0) (k : Kind) (immediate : X → Immediate) (old new : Reader) (x : X) → OfKind P old.features k immediate →
-    Reads P (Ok x) old new → (text : List ℕ) × EncodesKinds old.features (k ∷ []) text (immediate x ∷ []) × Takes old new text
+    HasRead P x old new → (text : List ℕ) × EncodesKinds old.features (k ∷ []) text (immediate x ∷ []) × Takes old new text
 last_read P k immediate old new x o (text, p, t) = (
   text,
   (ap (λ z. z ∷ []) (o.kind x), (text, [], sym (append-nil text), o.encodes text x p, refl)),
@@ -285,7 +284,7 @@ last_read P k immediate old new x o (text, p, t) = (
 )
 
 pub later_read : {X : Type 0} (P : List ℕ → X → Type 0) (k : Kind) (ks : List Kind) (immediate : X → Immediate) (old mid new : Reader) (x : X) (is : List Immediate) →
-    OfKind P old.features k immediate → Reads P (Ok x) old mid → (text : List ℕ) × EncodesKinds mid.features ks text is × Takes mid new text →
+    OfKind P old.features k immediate → HasRead P x old mid → (text : List ℕ) × EncodesKinds mid.features ks text is × Takes mid new text →
     (text : List ℕ) × EncodesKinds old.features (k ∷ ks) text (immediate x ∷ is) × Takes old new text
 later_read P k ks immediate old mid new x is o (first, p, t) (more, q, u) = (
   first ++ more,
@@ -297,11 +296,11 @@ later_read P k ks immediate old mid new x is o (first, p, t) (more, q, u) = (
 -- ---- immediates that may allocate
 
 -- reading such an immediate fails, and allocation failure is reported at the operator's start
-pub memory_refused : {X : Type 0} (P : List ℕ → X → Type 0) (k : Kind) (immediate : X → Immediate) (start : ℕ) (e reported : Error) (old mid new : Reader) →
-    OfKind P old.features k immediate → start ≤ old.position → offset_of old ≤ end_of old → (mid ≡ old) × IsRefused P true e old →
-    HasFault (KindFault old.features (old.start + start) k) e old → new ≡ at_position mid start → IsRefusedFrom (mid.start + start) e reported →
+pub memory_refused : {X : Type 0} (P : List ℕ → X → Type 0) (k : Kind) (immediate : X → Immediate) (Memory : Reader → Type 0) (start : ℕ) (e reported : Error) (old mid new : Reader) →
+    OfKind P old.features k immediate → start ≤ old.position → offset_of old ≤ end_of old →
+    ReadsValue P (KindFault old.features (old.start + start) k) Memory (Err e) old mid → new ≡ at_position mid start → IsRefusedFrom (mid.start + start) e reported →
     RefusesKinds (k ∷ []) true start reported old new
-memory_refused P k immediate start e reported old mid new o begun within (same, h) fault went (kept, place) =
+memory_refused P k immediate Memory start e reported old mid new o begun within (same, h) went (kept, place) =
     let starts : mid.start + start ≡ old.start + start = ap (λ (r : Reader). r.start + start) same in
     let here = subst (λ z. Place z) starts place in (
       went ∙ ap (λ z. at_position z start) same,
@@ -330,15 +329,15 @@ memory_refused P k immediate start e reported old mid new o begun within (same, 
         inl (
           none_kind P old.features k immediate o (rest old) (none_here P e.message old s.0 h.refuses),
           subst (λ m. KindFault old.features (old.start + start) k m old reported.offset) (sym kept)
-              (subst (λ z. KindFault old.features (old.start + start) k e.message old z) (sym s.1) (fault s.0)),
+              (subst (λ z. KindFault old.features (old.start + start) k e.message old z) (sym s.1) (h.fault s.0)),
         )
 
 -- ---- the byte of a fence, whose error may be at the operator's start
 
 pub fence_refused : (start begun : ℕ) (e reported : Error) (old mid new : Reader) → begun ≡ old.start + start → start ≤ old.position →
-    ReadsFrom begun (EncodesFence old.features) (Err e) old mid → FenceFault old.features begun e.message old e.offset → new ≡ at_position mid start → reported ≡ e →
+    ReadsFrom begun (EncodesFence old.features) (FenceFault old.features begun) (Err e) old mid → new ≡ at_position mid start → reported ≡ e →
     RefusesKinds (is_fence_order ∷ []) false start reported old new
-fence_refused start begun e reported old mid new at before (same, refuses, readable, from, to) fault went kept =
+fence_refused start begun e reported old mid new at before (same, refuses, readable, from, to, fault) went kept =
     subst (λ z. RefusesKinds (is_fence_order ∷ []) false start z old new) (sym kept) (
       went ∙ ap (λ z. at_position z start) same,
       record {

@@ -1,8 +1,8 @@
 -- The operators that own a list, for which reading may fail to allocate.
-use Rattle.std.proofs.Common.{◌≡◌, ℕ, ◌+◌, ◌<◌, inl, inr, true, List, [], ◌∷◌, ◌++◌, None, Ok, Err, refl, sym, ap, ◌∙◌, arith}
+use Rattle.std.proofs.Common.{◌≡◌, ℕ, ◌+◌, ◌<◌, inl, inr, true, List, [], ◌∷◌, ◌++◌, None, Err, refl, sym, ap, ◌∙◌, arith}
 use Rattle.wasm_instr.specs.below.bytes.error.Error.{Error}
 use Rattle.wasm_instr.specs.below.bytes.message.Message.TheVariants as message
-use Rattle.wasm_instr.specs.below.Source.{Reader, rest, at_position, NoPrefix, SomePrefix, Reads}
+use Rattle.wasm_instr.specs.below.Source.{Reader, rest, at_position, NoPrefix, SomePrefix, HasRead}
 use Rattle.wasm_instr.specs.grammar.declared.frame_kind.FrameKind.{FrameKind}
 use Rattle.wasm_instr.specs.declared.operator.Operator.{Operator}
 use Rattle.wasm_instr.specs.declared.operator.Operator.TheVariants as operator
@@ -33,7 +33,7 @@ pub needs_memory : (k : FrameKind) (code start : ℕ) (ks : List Kind) (mid : Re
     rest mid ≡ text ++ left → ⊥) → MayAllocate (EncodesAllowed mid.features k) (at_position mid start)
 needs_memory k code start ks mid c is leads b sized none = go b.opcode
   where
-    go : Reads (EncodesOpcode None) (Ok code) (at_position mid start) mid → MayAllocate (EncodesAllowed mid.features k) (at_position mid start)
+    go : HasRead (EncodesOpcode None) code (at_position mid start) mid → MayAllocate (EncodesAllowed mid.features k) (at_position mid start)
     go (head, h, t) =
         record {
           leads = (code, leads, (rest mid, t.parts ∙ ap (λ z. z ++ rest mid) h));

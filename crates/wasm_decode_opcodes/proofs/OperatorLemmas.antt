@@ -7,7 +7,7 @@ use Rattle.wasm_instr.specs.below.bytes.message.Message.{Message}
 use Rattle.wasm_instr.specs.below.bytes.message.Message.TheVariants as message
 use Rattle.wasm_instr.specs.below.Fault.{HasFault}
 use Rattle.wasm_instr.specs.below.Number.{EncodesUnsigned}
-use Rattle.wasm_instr.specs.below.Source.{Reader, rest, offset_of, end_of, at_position, Takes, NoPrefix, Reads, IsByte}
+use Rattle.wasm_instr.specs.below.Source.{Reader, rest, offset_of, end_of, at_position, Takes, NoPrefix, HasRead, IsByte}
 use Rattle.wasm_instr.proofs.of_below.PrefixCode.{unsigned_prefix_code}
 use Rattle.wasm_instr.proofs.of_below.TakesLemmas.{takes_then, takes_none, same_rest}
 use Rattle.wasm_instr.specs.grammar.declared.frame_kind.FrameKind.{FrameKind}
@@ -128,7 +128,7 @@ some_head (Some p) code head (number, h, u) = let n : length head ≡ suc (lengt
 pub within_after_code : (start : ℕ) (p : Option ℕ) (code : ℕ) (mid : Reader) → IsAfterCode start p code mid → offset_of mid ≤ end_of mid
 within_after_code start p code mid b = go b.opcode
   where
-    go : Reads (EncodesOpcode p) (Ok code) (at_position mid start) mid → offset_of mid ≤ end_of mid
+    go : HasRead (EncodesOpcode p) code (at_position mid start) mid → offset_of mid ≤ end_of mid
     go (head, h, t) =
         let some = some_head p code head h in
         let at : mid.position ≡ start + length head = ap (λ (r : Reader). r.position) t.moved in
@@ -148,7 +148,7 @@ pub refused_operator : (k : FrameKind) (p : Option ℕ) (code : ℕ) (ks : List 
     IsRefusedOperator (EncodesAllowed mid.features k) e (at_position mid start)
 refused_operator k p code ks takes start e mid c has b h memory = go b.opcode
   where
-    go : Reads (EncodesOpcode p) (Ok code) (at_position mid start) mid → IsRefusedOperator (EncodesAllowed mid.features k) e (at_position mid start)
+    go : HasRead (EncodesOpcode p) code (at_position mid start) mid → IsRefusedOperator (EncodesAllowed mid.features k) e (at_position mid start)
     go (head, opcode, t) =
         record {
           refuses = λ more follow. subst (NoPrefix (EncodesAllowed mid.features k)) (sym (ap (λ z. z ++ more) t.parts ∙ append_assoc head (rest mid) more))
@@ -171,14 +171,14 @@ pub opcode_fault : (k : FrameKind) (code start : ℕ) (m : Message) (mid : Reade
     OpcodeFault mid.features k (mid.start + start) code m mid offset → OperatorFault mid.features k m (at_position mid start) offset
 opcode_fault k code start m mid offset small b fault = go b.opcode
   where
-    go : Reads (EncodesOpcode None) (Ok code) (at_position mid start) mid → OperatorFault mid.features k m (at_position mid start) offset
+    go : HasRead (EncodesOpcode None) code (at_position mid start) mid → OperatorFault mid.features k m (at_position mid start) offset
     go (head, opcode, t) = inr (code, mid, (head, (opcode, small), t), fault)
 
 pub subopcode_fault : (k : FrameKind) (p code start : ℕ) (m : Message) (mid : Reader) (offset : ℕ) → p < 256 → entry_at None p ≡ prefixes →
     IsAfterCode start (Some p) code mid → SubopcodeFault mid.features (mid.start + start) p code m mid offset → OperatorFault mid.features k m (at_position mid start) offset
 subopcode_fault k p code start m mid offset small is b fault = go b.opcode
   where
-    go : Reads (EncodesOpcode (Some p)) (Ok code) (at_position mid start) mid → OperatorFault mid.features k m (at_position mid start) offset
+    go : HasRead (EncodesOpcode (Some p)) code (at_position mid start) mid → OperatorFault mid.features k m (at_position mid start) offset
     go (head, (number, parts, u), t) =
         let s = byte_before (at_position mid start) mid p number (subst (Takes (at_position mid start) mid) parts t) in
         inr (
@@ -237,7 +237,7 @@ pub reads_visited : {V A : Type 0} (visits : V → Operator → A → V → Type
     Decodes visits (EncodesAllowed mid.features k) Fault (Ok a) (at_position mid start) new v w
 reads_visited visits Fault k p code ks is start mid new v w a b (op, prefix, opcode, immediates, vis) (text, i, taken) allowed = go b.opcode
   where
-    go : Reads (EncodesOpcode p) (Ok code) (at_position mid start) mid →
+    go : HasRead (EncodesOpcode p) code (at_position mid start) mid →
         Decodes visits (EncodesAllowed mid.features k) Fault (Ok a) (at_position mid start) new v w
     go (head, h, t) =
         let g = allowed op prefix opcode in (

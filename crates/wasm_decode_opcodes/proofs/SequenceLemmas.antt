@@ -6,7 +6,7 @@ use Rattle.wasm_instr.specs.below.bytes.error.Error.{Error}
 use Rattle.wasm_instr.specs.below.bytes.features.WasmFeatures.{WasmFeatures}
 use Rattle.wasm_instr.specs.below.bytes.message.Message.{Message}
 use Rattle.wasm_instr.specs.below.Fault.{HasFault}
-use Rattle.wasm_instr.specs.below.Source.{Reader, rest, at_position, Takes, NoPrefix, IsAhead, IsRefusal, ReadsFrom}
+use Rattle.wasm_instr.specs.below.Source.{Reader, rest, at_position, Takes, NoPrefix, IsAhead, Reads, ReadsFrom}
 use Rattle.wasm_instr.proofs.of_below.TakesLemmas.{takes_then, same_rest}
 use Rattle.wasm_instr.specs.imm.Orderings.{EncodesFence, FenceFault}
 use Rattle.wasm_instr.specs.Immediate.{Immediate, Kind, is_fence_order, kind_of, EncodesImmediates}
@@ -109,17 +109,16 @@ FailsKinds ks allocates start e old new =
     HasFault (KindsFault old.features (old.start + start) ks) e old
 
 pub one_failed : {X : Type 0} (P : List ℕ → X → Type 0) (k : Kind) (immediate : X → Immediate) (start : ℕ) (e : Error) (old new : Reader) → OfKind P old.features k immediate →
-    start ≤ old.position → (new ≡ old) × IsRefusal P e old → KindFault old.features (old.start + start) k e.message old e.offset → FailsKinds (k ∷ []) false start e old new
-one_failed P k immediate start e old new o begun (same, h) fault =
-    let r = first_refused P k [] immediate false start e e old new (at_position new start) o begun (same, h) fault refl refl in
-    let position : new.position ≡ old.position = ap (λ (r : Reader). r.position) same in
-    (same ∙ ap (at_position old) (sym position), omega (arith, position), r.1, r.2)
+    start ≤ old.position → Reads P (KindFault old.features (old.start + start) k) (Err e) old new → FailsKinds (k ∷ []) false start e old new
+one_failed P k immediate start e old new o begun h =
+    let r = first_refused P k [] immediate false start e e old new (at_position new start) o begun h refl refl in
+    let position : new.position ≡ old.position = ap (λ (r : Reader). r.position) h.0 in
+    (h.0 ∙ ap (at_position old) (sym position), omega (arith, position), r.1, r.2)
 
 pub fence_failed : (start begun : ℕ) (e : Error) (old new : Reader) → begun ≡ old.start + start → start ≤ old.position →
-    ReadsFrom begun (EncodesFence old.features) (Err e) old new → FenceFault old.features begun e.message old e.offset →
-    FailsKinds (is_fence_order ∷ []) false start e old new
-fence_failed start begun e old new at before h fault =
-    let r = fence_refused start begun e e old new (at_position new start) at before h fault refl refl in
+    ReadsFrom begun (EncodesFence old.features) (FenceFault old.features begun) (Err e) old new → FailsKinds (is_fence_order ∷ []) false start e old new
+fence_failed start begun e old new at before h =
+    let r = fence_refused start begun e e old new (at_position new start) at before h refl refl in
     let position : new.position ≡ old.position = ap (λ (r : Reader). r.position) h.0 in
     (h.0 ∙ ap (at_position old) (sym position), omega (arith, position), r.1, r.2)
 

@@ -4,7 +4,7 @@ use Rattle.wasm_instr.specs.below.bytes.error.Error.{Error}
 use Rattle.wasm_instr.specs.below.bytes.message.Message.{Message}
 use Rattle.wasm_instr.specs.below.bytes.message.Message.TheVariants as message
 use Rattle.wasm_instr.specs.below.Fault.{HasFault}
-use Rattle.wasm_instr.specs.below.Source.{Reader, rest, at_position, Takes, Refuses, IsAhead, Reads}
+use Rattle.wasm_instr.specs.below.Source.{Reader, rest, at_position, Takes, Refuses, IsAhead, HasRead}
 use Rattle.wasm_instr.specs.grammar.declared.frame_kind.FrameKind.{FrameKind}
 use Rattle.wasm_instr.specs.declared.operator.Operator.{Operator}
 use Rattle.wasm_instr.specs.Encoding.{EncodesOpcode}
@@ -55,7 +55,7 @@ RefusesScalarAt frame start e old new = RefusesOperator (EncodesScalar old.featu
 -- The reader is after this opcode, or this prefix byte and subopcode, which began at `start`.
 pub record IsAfterCode (start : ℕ) (prefix : Option ℕ) (code : ℕ) (r : Reader) : Type 0 where
   pub begun : start ≤ r.position
-  pub opcode : Reads (EncodesOpcode prefix) (Ok code) (at_position r start) r
+  pub opcode : HasRead (EncodesOpcode prefix) code (at_position r start) r
 
 -- The result of a visit of an operator with this code, prefix byte (if any) and immediates.
 abbrev pub VisitsRow : {V A : Type 0} → (V → Operator → A → V → Type 0) → Option ℕ → ℕ → List Immediate → V → A → V → Type 0

@@ -73,9 +73,13 @@ SubopcodeFault f start prefix code = FreeFault f start (Some prefix) code (entry
 abbrev pub LacksFeature : WasmFeatures → Guard → Type 0
 LacksFeature f g = NeedsLegacy g × ¬ HasFeature legacy_exceptions f
 
--- The error of a guarded operator: of the feature, at the operator's start; then of the frame, after the opcode; then of the immediates.
+-- `WrongFrame` after the opcode if the frame does not allow the operator, otherwise an error of the immediates.
+abbrev pub FrameFault : FrameKind → Guard → (Message → Reader → ℕ → Type 0) → Message → Reader → ℕ → Type 0
+FrameFault k g Later m r offset = CheckFault (¬ Allows k (guarded_role g)) (message.WrongFrame (guarded_instruction g) (needed_frame g)) (offset_of r) Later m r offset
+
+-- `FeatureRequired` at the operator's start if its feature is off, otherwise `FrameFault`.
 abbrev pub GuardFault : WasmFeatures → FrameKind → ℕ → Guard → (Message → Reader → ℕ → Type 0) → Message → Reader → ℕ → Type 0
-GuardFault f k start g Later = CheckFault (LacksFeature f g) (message.FeatureRequired (guarded_instruction g)) start (λ m r. CheckFault (¬ Allows k (guarded_role g)) (message.WrongFrame (guarded_instruction g) (needed_frame g)) (offset_of r) Later m r)
+GuardFault f k start g Later = CheckFault (LacksFeature f g) (message.FeatureRequired (guarded_instruction g)) start (FrameFault k g Later)
 
 -- The error after an opcode with this entry.
 abbrev pub EntryFault : WasmFeatures → FrameKind → ℕ → ℕ → Entry → Message → Reader → ℕ → Type 0

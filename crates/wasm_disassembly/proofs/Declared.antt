@@ -186,5 +186,5 @@ none_refused P start bytes parameters many first old mid new before after e ds t
     let short : length way.placed < length ds = let m = way.so_many in omega (arith, m, some, all) in
     let next = next_occurs (offset_of old.reader) way.placed ds h.text text (rest mid.reader) more code h.laid each left short in
     let fits : mid.total + next.declaration.0 ≤ 4294967295 = let t = h.total in let f = next.few in let g : old.total + locals_in ds ≤ 4294967295 = few in omega (arith, t, f, g) in
-    let other : e.message ≢ message.OutOfMemory = λ is. absurd (cc (refused.memory is).0) in
+    let other : e.message ≢ message.OutOfMemory = λ is. absurd (refused.memory is).0 in
     absurd (refused.refuses [] (ends_here e.message other) next.text next.more next.declaration (next.encodes, fits) (append-nil (rest mid.reader) ∙ next.occurs))

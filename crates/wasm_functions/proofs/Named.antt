@@ -1,4 +1,4 @@
-use Rattle.std.proofs.Common.{◌≡◌, ℕ, ◌+◌, Bool, true, false, List, [], ◌∷◌, ◌++◌, set, Option, Some, None, Ok, refl, sym, subst, ap, ◌∙◌, append_assoc, append-nil, cond}
+use Rattle.std.proofs.Common.{◌≡◌, ℕ, ◌+◌, Bool, true, false, List, [], ◌∷◌, ◌++◌, set, Option, Some, None, refl, sym, subst, ap, ◌∙◌, append_assoc, append-nil, cond}
 use Rattle.std.specs.Prelude.{◌==◌, nat_eq, codes, flat_map, replicate}
 use borrow.Author.Tests.{eq-eqb}
 use Rattle.std.specs.Borrow.{Bor}
@@ -10,7 +10,7 @@ use Rattle.wasm_module.specs.below.bytes.message.Message.{Message}
 use Rattle.wasm_module.specs.below.bytes.message.Message.TheVariants as message
 use Rattle.wasm_module.specs.below.Refusal.{IsReadFault}
 use Rattle.wasm_module.specs.below.Sequence.{PrefixCode}
-use Rattle.wasm_module.specs.below.Source.{Reader, rest, MayFollow, IsRefusal, Reads}
+use Rattle.wasm_module.specs.below.Source.{Reader, rest, MayFollow, IsRefusal, HasRead}
 use Rattle.wasm_module.specs.Exports.{ExportParts}
 use Rattle.wasm_module.specs.Imports.{ImportParts}
 use Rattle.wasm_module.specs.Module.{SectionParts}
@@ -61,7 +61,7 @@ last_stays (Some contents) ss s (before, after, t, parts, is, none) other =
     (before, after ++ s ∷ [], t, ap (λ z. z ++ s ∷ []) parts ∙ append_assoc before (t ∷ after) (s ∷ []), is, none_more after s none other)
 
 -- The same bytes are not read as two values.
-pub one_value : {X : Type 0} (P : List ℕ → X → Type 0) → PrefixCode P → (r a b : Reader) (x y : X) → Reads P (Ok x) r a → Reads P (Ok y) r b → x ≡ y
+pub one_value : {X : Type 0} (P : List ℕ → X → Type 0) → PrefixCode P → (r a b : Reader) (x y : X) → HasRead P x r a → HasRead P y r b → x ≡ y
 one_value P code r a b x y (text, is, takes) (other, is_other, takes_other) =
     (code text other (rest a) (rest b) x y is is_other (sym takes.parts ∙ takes_other.parts)).1
 
@@ -71,7 +71,7 @@ may_end message.EndOfData h = refl
 may_end message.OutOfMemory h = h
 may_end _ h = tt
 
-pub not_both : {X : Type 0} (P : List ℕ → X → Type 0) (e : Error) (r b : Reader) (x : X) → IsRefusal P e r → Reads P (Ok x) r b → ⊥
+pub not_both : {X : Type 0} (P : List ℕ → X → Type 0) (e : Error) (r b : Reader) (x : X) → IsRefusal P e r → HasRead P x r b → ⊥
 not_both P e r b x refused (text, is, takes) =
     refused.refuses [] (may_end e.message refused.fault) text (rest b) x is (append-nil (rest r) ∙ takes.parts)
 

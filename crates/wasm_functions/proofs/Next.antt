@@ -5,8 +5,8 @@ use Rattle.std.proofs.lemmas.List.Elements.{All-head, All-tail}
 use Rattle.wasm_module.specs.below.bytes.error.Error.{Error}
 use Rattle.wasm_module.specs.below.Number.{EncodesUnsigned}
 use Rattle.wasm_module.specs.below.Sequence.{PrefixCode}
-use Rattle.wasm_module.specs.below.Source.{Reader, rest, at_position, BeginsWith, IsRefusal, Reads}
-use Rattle.wasm_module.specs.Types.{EncodesSubType, EncodesRecTypeLength}
+use Rattle.wasm_module.specs.below.Source.{Reader, rest, at_position, BeginsWith, IsRefusal, HasRead, Reads}
+use Rattle.wasm_module.specs.Types.{EncodesSubType, EncodesRecTypeLength, RecTypeLengthFault}
 use Rattle.wasm_module.specs.declared.composite.CompositeType.{CompositeType}
 use Rattle.wasm_functions.specs.Items.{ItemsOccur, IsList}
 use Rattle.wasm_functions.specs.Parameters.{Announces, RecTypeOccurs, RecTypesOccur, AreTypes}
@@ -19,7 +19,7 @@ all_at {X} P xs y zs ys is all = at xs (subst (All P) is all)
     at [] h = All-head P y zs h
     at (x ∷ xs) h = at xs (All-tail P x (xs ++ y ∷ zs) h)
 
-pub one_read : {X : Type 0} (P : List ℕ → X → Type 0) → PrefixCode P → (r a b : Reader) (x y : X) → Reads P (Ok x) r a → Reads P (Ok y) r b →
+pub one_read : {X : Type 0} (P : List ℕ → X → Type 0) → PrefixCode P → (r a b : Reader) (x y : X) → HasRead P x r a → HasRead P y r b →
     (x ≡ y) × (a ≡ b)
 one_read P code r a b x y (text, is, takes) (other, is_other, takes_other) =
     let same = code text other (rest a) (rest b) x y is is_other (sym takes.parts ∙ takes_other.parts) in
@@ -37,17 +37,17 @@ module _ {X : Type 0} (P : List ℕ → X → Type 0) (code : PrefixCode P) wher
       (ap (λ z. z ∷ xs) first.0 ∙ ap (λ zs. y ∷ zs) more.0, more.1)
 
   pub more_items : (r : Reader) (xs ys : List X) (mid end : Reader) → ItemsOccur P r xs mid → ItemsOccur P r ys end → length xs < length ys →
-      (y : X) × (zs : List X) × (next : Reader) × (ys ≡ xs ++ y ∷ zs) × Reads P (Ok y) mid next
+      (y : X) × (zs : List X) × (next : Reader) × (ys ≡ xs ++ y ∷ zs) × HasRead P y mid next
   more_items r xs [] mid end a b l = absurd (omega (arith, l))
-  more_items r [] (y ∷ ys) mid end a (next, reads, others) l = (y, ys, next, refl, subst (λ z. Reads P (Ok y) z next) (sym a) reads)
+  more_items r [] (y ∷ ys) mid end a (next, reads, others) l = (y, ys, next, refl, subst (λ z. HasRead P y z next) (sym a) reads)
   more_items r (x ∷ xs) (y ∷ ys) mid end (n, reads, others) (n', reads', others') l =
       let first = one_read P code r n n' x y reads reads' in
       let (z, zs, next, is, read) = more_items n xs ys mid end others (subst (λ r. ItemsOccur P r ys end) (sym first.1) others') (omega (arith, l)) in
       (z, zs, next, ap (λ v. y ∷ v) is ∙ ap (λ v. v ∷ (xs ++ z ∷ zs)) (sym first.0), read)
 
-  pub next_item : PrefixCode (EncodesUnsigned 32) → (contents first mid : Reader) (n : ℕ) (xs ys : List X) → Reads (EncodesUnsigned 32) (Ok n) contents first →
+  pub next_item : PrefixCode (EncodesUnsigned 32) → (contents first mid : Reader) (n : ℕ) (xs ys : List X) → HasRead (EncodesUnsigned 32) n contents first →
       ItemsOccur P first xs mid → length xs < n → IsList P contents ys →
-      (y : X) × (zs : List X) × (next : Reader) × (ys ≡ xs ++ y ∷ zs) × Reads P (Ok y) mid next
+      (y : X) × (zs : List X) × (next : Reader) × (ys ≡ xs ++ y ∷ zs) × HasRead P y mid next
   next_item numbers contents first mid n xs ys counted occur fewer list =
       let same = one_read (EncodesUnsigned 32) numbers contents first list.first n (length ys) counted list.count in
       more_items first xs ys mid list.end occur (subst (λ z. ItemsOccur P z ys list.end) (sym same.1) list.occur) (subst (λ k. length xs < k) same.0 fewer)
@@ -58,7 +58,7 @@ module _ {X : Type 0} (P : List ℕ → X → Type 0) (code : PrefixCode P) wher
       (same_items a.first xs ys a.end b.end a.occur (subst (λ z. ItemsOccur P z ys b.end) (sym same.1) b.occur) same.0).0
 
   pub none_refused : PrefixCode (EncodesUnsigned 32) → (contents first mid : Reader) (n : ℕ) (xs ys : List X) (e : Error) →
-      Reads (EncodesUnsigned 32) (Ok n) contents first → ItemsOccur P first xs mid → length xs < n → IsRefusal P e mid → IsList P contents ys → ⊥
+      HasRead (EncodesUnsigned 32) n contents first → ItemsOccur P first xs mid → length xs < n → IsRefusal P e mid → IsList P contents ys → ⊥
   none_refused numbers contents first mid n xs ys e counted occur fewer refused list =
       let (y, zs, next, is, reads) = next_item numbers contents first mid n xs ys counted occur fewer list in not_both P e mid next y refused reads
 
@@ -69,7 +69,7 @@ read (Err e) = ⊥
 abbrev same : Result ℕ Error → Result ℕ Error → Type 0
 same a b = a ≡ b
 
-pub none_announced : (n : ℕ) (e : Error) (r new first : Reader) → (BeginsWith 0x4e (rest r) → Reads EncodesRecTypeLength (Err e) r new) →
+pub none_announced : (n : ℕ) (e : Error) (r new first : Reader) → (BeginsWith 0x4e (rest r) → Reads EncodesRecTypeLength RecTypeLengthFault (Err e) r new) →
     ((BeginsWith 0x4e (rest r) → ⊥) → same (Err e) (Ok 1) × (new ≡ r)) → Announces n r first → ⊥
 none_announced n e r new first rec_type one (inl is) = not_both EncodesRecTypeLength e r first n (rec_type is.0).1 is.1
 none_announced n e r new first rec_type one (inr not) = subst read (sym (one not.0).0) tt
@@ -96,7 +96,7 @@ module _ (rec_type : PrefixCode EncodesRecTypeLength) (sub : PrefixCode EncodesS
       (i, is, next, ap (λ v. h ∷ v) parts ∙ ap (λ v. v ∷ (gs ++ i ∷ is)) (sym first.0), occur)
 
   pub next_rec_type : PrefixCode (EncodesUnsigned 32) → (contents first mid : Reader) (n : ℕ) (gs hs : List (List CompositeType)) →
-      Reads (EncodesUnsigned 32) (Ok n) contents first → RecTypesOccur first gs mid → length gs < n → AreTypes contents hs →
+      HasRead (EncodesUnsigned 32) n contents first → RecTypesOccur first gs mid → length gs < n → AreTypes contents hs →
       (h : List CompositeType) × (others : List (List CompositeType)) × (next : Reader) × (hs ≡ gs ++ h ∷ others) × RecTypeOccurs mid h next
   next_rec_type numbers contents first mid n gs hs counted occur fewer types =
       let same = one_read (EncodesUnsigned 32) numbers contents first types.first n (length hs) counted types.count in

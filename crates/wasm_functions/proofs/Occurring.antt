@@ -1,16 +1,16 @@
-use Rattle.std.proofs.Common.{◌≡◌, ℕ, ◌+◌, ◌<◌, Bool, true, false, List, [], ◌∷◌, ◌++◌, length, Option, Some, Ok, refl, subst, ap, ◌∙◌, length-append, arith, cond}
+use Rattle.std.proofs.Common.{◌≡◌, ℕ, ◌+◌, ◌<◌, Bool, true, false, List, [], ◌∷◌, ◌++◌, length, Option, Some, refl, subst, ap, ◌∙◌, length-append, arith, cond}
 use Rattle.std.specs.Prelude.{◌==◌}
-use Rattle.wasm_module.specs.below.Source.{Reader, rest, offset_of, end_of, Reads}
+use Rattle.wasm_module.specs.below.Source.{Reader, rest, offset_of, end_of, HasRead}
 use Rattle.wasm_module.specs.Module.{SectionParts, EncodesSection}
 use Rattle.wasm_functions.specs.Sections.{SectionsOccur, first_with, or_first}
 
 pub one_more : (r : Reader) (ss : List SectionParts) (mid new : Reader) (s : SectionParts) → SectionsOccur r ss mid →
-    Reads (EncodesSection mid.features) (Ok s) mid new → end_of s.contents ≡ offset_of new → SectionsOccur r (ss ++ s ∷ []) new
+    HasRead (EncodesSection mid.features) s mid new → end_of s.contents ≡ offset_of new → SectionsOccur r (ss ++ s ∷ []) new
 one_more r [] mid new s same reads placed =
-    (new, subst (λ z. Reads (EncodesSection z.features) (Ok s) z new) same reads, placed, refl)
+    (new, subst (λ z. HasRead (EncodesSection z.features) s z new) same reads, placed, refl)
 one_more r (t ∷ ts) mid new s (next, first, occurs, others) reads placed = (next, first, occurs, one_more next ts mid new s others reads placed)
 
-pub shorter : (r new : Reader) (s : SectionParts) → Reads (EncodesSection r.features) (Ok s) r new → length (rest new) < length (rest r)
+pub shorter : (r new : Reader) (s : SectionParts) → HasRead (EncodesSection r.features) s r new → length (rest new) < length (rest r)
 shorter r new s (text, (a, b, parts, is, after), takes) =
     let long : length text ≡ length a + length b = ap length parts ∙ length-append a b in
     let one : length a ≡ 1 = ap length is.0 in

@@ -1,11 +1,11 @@
-use Rattle.std.proofs.Common.{◌≡◌, ◌<◌, ◌⊎◌, ℕ, zero, suc, List, length, Ok, refl, sym, subst, ap, inl, inr, arith}
+use Rattle.std.proofs.Common.{◌≡◌, ◌<◌, ◌⊎◌, ℕ, zero, suc, List, length, refl, sym, subst, ap, inl, inr, arith}
 use Rattle.std.specs.List.{All}
 use Rattle.wasm_module.specs.below.bytes.error.Error.{Error}
 use Rattle.wasm_module.specs.below.bytes.message.Message.{Message}
 use Rattle.wasm_module.specs.below.Fault.{DeterminesRefusal}
 use Rattle.wasm_module.specs.below.Number.{EncodesUnsigned}
 use Rattle.wasm_module.specs.below.Sequence.{PrefixCode}
-use Rattle.wasm_module.specs.below.Source.{Reader, U32Fault, IsRefusal, Reads}
+use Rattle.wasm_module.specs.below.Source.{Reader, U32Fault, IsRefusal, HasRead}
 use Rattle.wasm_functions.specs.Items.{ItemsOccur, IsList}
 use Rattle.wasm_functions.specs.Refusals.{RefusedWith, HasItemsTo, ListFault}
 use Rattle.wasm_functions.specs.declared.fault.ModuleFault.{ModuleFault}
@@ -44,17 +44,17 @@ order (suc n) zero = inr (inr (omega (arith)))
 order (suc n) (suc m) = order_by n m (order n m)
 
 pub refused_there : {X : Type 0} (P : List ℕ → X → Type 0) (K : X → Type 0) (e : Error) (r : Reader) → IsRefusal P e r →
-    (x : X) → (next : Reader) → Reads P (Ok x) r next → K x → ⊥
+    (x : X) → (next : Reader) → HasRead P x r next → K x → ⊥
 refused_there P K e r refused x next reads known = not_both P e r next x refused reads
 
 module _ {X : Type 0} (P : List ℕ → X → Type 0) (code : PrefixCode P) (K : X → Type 0) where
   pub next_there : (r a b : Reader) (xs ys : List X) → ItemsOccur P r xs a → ItemsOccur P r ys b → All K ys → length xs < length ys →
-      (y : X) × (next : Reader) × Reads P (Ok y) a next × K y
+      (y : X) × (next : Reader) × HasRead P y a next × K y
   next_there r a b xs ys occur occur' known less =
       let (y, zs, next, is, reads) = more_items P code r xs ys a b occur occur' less in (y, next, reads, all_at K xs y zs ys is known)
 
   place_by : (r a b : Reader) (xs ys : List X) → ItemsOccur P r xs a → ItemsOccur P r ys b → All K xs → All K ys →
-      ((x : X) → (next : Reader) → Reads P (Ok x) a next → K x → ⊥) → ((x : X) → (next : Reader) → Reads P (Ok x) b next → K x → ⊥) →
+      ((x : X) → (next : Reader) → HasRead P x a next → K x → ⊥) → ((x : X) → (next : Reader) → HasRead P x b next → K x → ⊥) →
       (length xs < length ys) ⊎ ((length xs ≡ length ys) ⊎ (length ys < length xs)) → a ≡ b
   place_by r a b xs ys occur occur' known known' stops stops' (inl less) =
       let (y, next, reads, is) = next_there r a b xs ys occur occur' known' less in absurd (stops y next reads is)
@@ -63,19 +63,19 @@ module _ {X : Type 0} (P : List ℕ → X → Type 0) (code : PrefixCode P) (K :
       let (x, next, reads, is) = next_there r b a ys xs occur' occur known more in absurd (stops' x next reads is)
 
   pub one_place : (r a b : Reader) (xs ys : List X) → ItemsOccur P r xs a → ItemsOccur P r ys b → All K xs → All K ys →
-      ((x : X) → (next : Reader) → Reads P (Ok x) a next → K x → ⊥) → ((x : X) → (next : Reader) → Reads P (Ok x) b next → K x → ⊥) → a ≡ b
+      ((x : X) → (next : Reader) → HasRead P x a next → K x → ⊥) → ((x : X) → (next : Reader) → HasRead P x b next → K x → ⊥) → a ≡ b
   one_place r a b xs ys occur occur' known known' stops stops' =
       place_by r a b xs ys occur occur' known known' stops stops' (order (length xs) (length ys))
 
   module _ (numbers : PrefixCode (EncodesUnsigned 32)) where
     pub one_stop : (contents a b : Reader) → HasItemsTo P K contents a → HasItemsTo P K contents b →
-        ((x : X) → (next : Reader) → Reads P (Ok x) a next → K x → ⊥) → ((x : X) → (next : Reader) → Reads P (Ok x) b next → K x → ⊥) → a ≡ b
+        ((x : X) → (next : Reader) → HasRead P x a next → K x → ⊥) → ((x : X) → (next : Reader) → HasRead P x b next → K x → ⊥) → a ≡ b
     one_stop contents a b h k stops stops' =
         let same = (one_read (EncodesUnsigned 32) numbers contents h.first k.first h.announced k.announced h.count k.count).1 in
         one_place h.first a b h.items k.items h.occur (subst (λ z. ItemsOccur P z k.items b) (sym same) k.occur) h.known k.known stops stops'
 
     pub no_stop : (contents a : Reader) (ys : List X) → HasItemsTo P K contents a → IsList P contents ys → All K ys →
-        ((x : X) → (next : Reader) → Reads P (Ok x) a next → K x → ⊥) → ⊥
+        ((x : X) → (next : Reader) → HasRead P x a next → K x → ⊥) → ⊥
     no_stop contents a ys h list known stops =
         let (y, zs, next, is, reads) = next_item P code numbers contents h.first a h.announced h.items ys h.count h.occur h.fewer list in
         stops y next reads (all_at K h.items y zs ys is known)

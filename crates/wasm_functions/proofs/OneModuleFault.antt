@@ -1,12 +1,12 @@
 -- A module has at most one fault; none, except `Memory`, if its functions are known.
-use Rattle.std.proofs.Common.{◌≡◌, ◌<◌, ℕ, List, [], ◌++◌, length, replicate, Option, Some, None, Ok, refl, sym, subst, ap, ◌∙◌, inl, inr, arith}
+use Rattle.std.proofs.Common.{◌≡◌, ◌<◌, ℕ, List, [], ◌++◌, length, replicate, Option, Some, None, refl, sym, subst, ap, ◌∙◌, inl, inr, arith}
 use Rattle.std.specs.Int.{w32}
 use Rattle.std.specs.List.{All}
 use Rattle.wasm_module.specs.below.bytes.error.Error.{Error}
 use Rattle.wasm_module.specs.below.Fault.{DeterminesRefusal}
 use Rattle.wasm_module.specs.below.Number.{EncodesUnsigned, EncodesFixed}
 use Rattle.wasm_module.specs.below.Sequence.{PrefixCode}
-use Rattle.wasm_module.specs.below.Source.{Reader, offset_of, U32Fault, IsRefusal, Reads}
+use Rattle.wasm_module.specs.below.Source.{Reader, offset_of, U32Fault, IsRefusal, HasRead}
 use Rattle.wasm_module.specs.Exports.{EncodesExport, ExportFault}
 use Rattle.wasm_module.specs.Imports.{ImportParts, EncodesImport, ImportFault}
 use Rattle.wasm_module.specs.Module.{PreambleFault, SectionFault}
@@ -30,8 +30,8 @@ use Rattle.wasm_functions.proofs.Unique.{one_found}
 -- ---- imports
 
 module _ (numbers : PrefixCode (EncodesUnsigned 32)) (code : PrefixCode EncodesImport) where
-  unknown_there : (r after : Reader) (i : ImportParts) (byte : ℕ) → Reads EncodesImport (Ok i) r after → i.kind ≡ byte → 4 < byte →
-      (x : ImportParts) → (next : Reader) → Reads EncodesImport (Ok x) r next → IsKnownImport x → ⊥
+  unknown_there : (r after : Reader) (i : ImportParts) (byte : ℕ) → HasRead EncodesImport i r after → i.kind ≡ byte → 4 < byte →
+      (x : ImportParts) → (next : Reader) → HasRead EncodesImport x r next → IsKnownImport x → ⊥
   unknown_there r after i byte reads is above x next reads' known =
       let same = ap (λ (z : ImportParts). z.kind) (one_read EncodesImport code r after next i x reads reads').0 in omega (arith, is, above, same, known)
 
@@ -67,7 +67,7 @@ module _ (numbers : PrefixCode (EncodesUnsigned 32)) (code : PrefixCode EncodesI
     import_unknown byte offset (fault.ImportKind byte' offset') contents (a, h, at, i, after, reads, is, above) (b, k, at', j, after', reads', is', above') =
         let same = one_stop EncodesImport code IsKnownImport numbers contents a b h k (unknown_there a after i byte reads is above)
         (unknown_there b after' j byte' reads' is' above') in
-        let here = subst (λ z. Reads EncodesImport (Ok i) z after) same reads in
+        let here = subst (λ z. HasRead EncodesImport i z after) same reads in
         let kinds = ap (λ (z : ImportParts). z.kind) (one_read EncodesImport code b after after' i j here reads').0 in
         ap (λ x. fault.ImportKind x offset) (sym is ∙ kinds ∙ is') ∙ ap (λ o. fault.ImportKind byte' o) (at ∙ ap offset_of same ∙ sym at')
     import_unknown byte offset (fault.Refused e) contents p q = absurd (refused_or_unknown e byte offset contents q p)

@@ -1,10 +1,10 @@
-use Rattle.std.proofs.Common.{◌≡◌, ◌<◌, ◌⊎◌, ℕ, List, [], ◌∷◌, length, Ok, refl, sym, subst, ap, ◌∙◌, inl, inr, arith}
+use Rattle.std.proofs.Common.{◌≡◌, ◌<◌, ◌⊎◌, ℕ, List, [], ◌∷◌, length, refl, sym, subst, ap, ◌∙◌, inl, inr, arith}
 use Rattle.std.specs.List.{All}
 use Rattle.wasm_module.specs.below.bytes.error.Error.{Error}
 use Rattle.wasm_module.specs.below.Fault.{DeterminesRefusal}
 use Rattle.wasm_module.specs.below.Number.{EncodesUnsigned}
 use Rattle.wasm_module.specs.below.Sequence.{PrefixCode}
-use Rattle.wasm_module.specs.below.Source.{Reader, rest, BeginsWith, offset_of, U32Fault, IsRefusal, Reads}
+use Rattle.wasm_module.specs.below.Source.{Reader, rest, BeginsWith, offset_of, U32Fault, IsRefusal, HasRead}
 use Rattle.wasm_module.specs.Types.{EncodesSubType, SubTypeFault, EncodesRecTypeLength, RecTypeLengthFault}
 use Rattle.wasm_module.specs.declared.composite.CompositeType.{CompositeType}
 use Rattle.wasm_module.specs.declared.composite.CompositeType.TheVariants as composite
@@ -26,14 +26,14 @@ byte_of (composite.Other byte) = byte
 byte_of _ = 0
 
 module _ (sub : PrefixCode EncodesSubType) where
-  other_there : (byte : ℕ) (r after : Reader) → Reads EncodesSubType (Ok (composite.Other byte)) r after →
-      (x : CompositeType) → (next : Reader) → Reads EncodesSubType (Ok x) r next → IsKnownType x → ⊥
+  other_there : (byte : ℕ) (r after : Reader) → HasRead EncodesSubType (composite.Other byte) r after →
+      (x : CompositeType) → (next : Reader) → HasRead EncodesSubType x r next → IsKnownType x → ⊥
   other_there byte r after reads x next reads' known =
       subst (λ t. IsKnownType t) (sym (one_read EncodesSubType sub r after next (composite.Other byte) x reads reads').0) known
 
   sub_place : (n : ℕ) (r a b : Reader) → HasSubTypesTo n r a → HasSubTypesTo n r b →
-      ((x : CompositeType) → (next : Reader) → Reads EncodesSubType (Ok x) a next → IsKnownType x → ⊥) →
-      ((x : CompositeType) → (next : Reader) → Reads EncodesSubType (Ok x) b next → IsKnownType x → ⊥) → a ≡ b
+      ((x : CompositeType) → (next : Reader) → HasRead EncodesSubType x a next → IsKnownType x → ⊥) →
+      ((x : CompositeType) → (next : Reader) → HasRead EncodesSubType x b next → IsKnownType x → ⊥) → a ≡ b
   sub_place n r a b h k stops stops' = one_place EncodesSubType sub IsKnownType r a b h.types k.types h.occur k.occur h.known k.known stops stops'
 
   refused_or_other : (n : ℕ) (r : Reader) (e : Error) (byte offset : ℕ) → SubTypesFault (fault.Refused e) n r → SubTypesFault (fault.TypeKind byte offset) n r → ⊥
@@ -68,7 +68,7 @@ module _ (sub : PrefixCode EncodesSubType) where
         fault.TypeKind byte offset ≡ g
     of_kind n r byte offset (fault.TypeKind byte' offset') (a, h, at, after, p) (b, k, at', after', q) other =
         let same = sub_place n r a b h k (other_there byte a after p) (other_there byte' b after' q) in
-        let reads = subst (λ z. Reads EncodesSubType (Ok (composite.Other byte)) z after) same p in
+        let reads = subst (λ z. HasRead EncodesSubType (composite.Other byte) z after) same p in
         let bytes : byte ≡ byte' =
         ap byte_of (one_read EncodesSubType sub b after after' (composite.Other byte) (composite.Other byte') reads q).0 in
         ap (λ x. fault.TypeKind x offset) bytes ∙ ap (λ o. fault.TypeKind byte' o) (at ∙ ap offset_of same ∙ sym at')
@@ -99,7 +99,7 @@ one_announced_fault determines f g r p q =
     one_refusal P
     (λ e f (here, (refused, is)) (here', (refused', is')). one_error e f (determines e.message f.message r e.offset f.offset is is')) f g p q
 
-no_length : (f : ModuleFault) (contents first : Reader) (n : ℕ) → TypesLengthFault f contents → Reads (EncodesUnsigned 32) (Ok n) contents first → ⊥
+no_length : (f : ModuleFault) (contents first : Reader) (n : ℕ) → TypesLengthFault f contents → HasRead (EncodesUnsigned 32) n contents first → ⊥
 no_length f contents first n p counted =
     no_refusal (λ e. IsRefusedAs (EncodesUnsigned 32) U32Fault e contents)
     (λ e refused. not_both (EncodesUnsigned 32) e contents first n refused.0 counted) f p

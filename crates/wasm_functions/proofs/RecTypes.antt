@@ -3,7 +3,7 @@ use Rattle.std.specs.Prelude.{nat_eq}
 use Rattle.std.proofs.lemmas.Bool.{eqb-true, eqb-false, cases_Bool}
 use Rattle.std.proofs.lemmas.List.{map-append, flat_map_more}
 use Rattle.wasm_module.specs.below.bytes.error.Error.{Error}
-use Rattle.wasm_module.specs.below.Source.{Reader, rest, BeginsWith, Reads}
+use Rattle.wasm_module.specs.below.Source.{Reader, rest, BeginsWith, HasRead}
 use Rattle.wasm_module.specs.Types.{EncodesSubType, EncodesRecTypeLength}
 use Rattle.wasm_module.specs.declared.composite.CompositeType.{CompositeType}
 use Rattle.wasm_functions.specs.Items.{ItemsOccur}
@@ -38,16 +38,16 @@ value_or (Err e) = 0
 abbrev read : ℕ → Result ℕ Error
 read n = Ok n
 
-announced_by : (n : ℕ) (r first : Reader) → (BeginsWith 0x4e (rest r) → Reads EncodesRecTypeLength (Ok n) r first) →
+announced_by : (n : ℕ) (r first : Reader) → (BeginsWith 0x4e (rest r) → HasRead EncodesRecTypeLength n r first) →
     ((BeginsWith 0x4e (rest r) → ⊥) → (read n ≡ read 1) × (first ≡ r)) → BeginsWith 0x4e (rest r) ⊎ (BeginsWith 0x4e (rest r) → ⊥) → Announces n r first
 announced_by n r first rec_type one (inl is) = inl (is, rec_type is)
 announced_by n r first rec_type one (inr not) = let o = one not in inr (not, ap value_or o.0, o.1)
 
-pub rec_type_announced : (n : ℕ) (r first : Reader) → (BeginsWith 0x4e (rest r) → Reads EncodesRecTypeLength (Ok n) r first) →
+pub rec_type_announced : (n : ℕ) (r first : Reader) → (BeginsWith 0x4e (rest r) → HasRead EncodesRecTypeLength n r first) →
     ((BeginsWith 0x4e (rest r) → ⊥) → (read n ≡ read 1) × (first ≡ r)) → Announces n r first
 rec_type_announced n r first rec_type one = announced_by n r first rec_type one (begins 0x4e (rest r))
 
-pub rec_type_occurs : (n : ℕ) (r first end : Reader) (types : List CompositeType) → (BeginsWith 0x4e (rest r) → Reads EncodesRecTypeLength (Ok n) r first) →
+pub rec_type_occurs : (n : ℕ) (r first end : Reader) (types : List CompositeType) → (BeginsWith 0x4e (rest r) → HasRead EncodesRecTypeLength n r first) →
     ((BeginsWith 0x4e (rest r) → ⊥) → (read n ≡ read 1) × (first ≡ r)) → length types ≡ n → ItemsOccur EncodesSubType first types end →
     RecTypeOccurs r types end
 rec_type_occurs n r first end types rec_type one all occur =

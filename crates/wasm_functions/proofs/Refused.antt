@@ -6,7 +6,7 @@ use Rattle.wasm_module.specs.below.bytes.message.Message.{Message}
 use Rattle.wasm_module.specs.below.bytes.message.Message.TheVariants as message
 use Rattle.wasm_module.specs.below.Number.{EncodesUnsigned}
 use Rattle.wasm_module.specs.below.Refusal.{IsReadFault}
-use Rattle.wasm_module.specs.below.Source.{Reader, rest, BeginsWith, Reads}
+use Rattle.wasm_module.specs.below.Source.{Reader, rest, BeginsWith, HasRead, Reads}
 use Rattle.wasm_module.specs.Module.{SectionParts}
 use Rattle.wasm_module.specs.Types.{EncodesSubType, EncodesRecTypeLength, RecTypeLengthFault}
 use Rattle.wasm_module.specs.declared.composite.CompositeType.{CompositeType}
@@ -30,7 +30,7 @@ pub any_items : {X : Type 0} (xs : List X) → All IsAny xs
 any_items xs = λ k d few. tt
 
 pub items_to : {X : Type 0} (P : List ℕ → X → Type 0) (K : X → Type 0) (contents first next : Reader) (n : ℕ) (xs : List X) →
-    Reads (EncodesUnsigned 32) (Ok n) contents first → ItemsOccur P first xs next → length xs < n → All K xs → HasItemsTo P K contents next
+    HasRead (EncodesUnsigned 32) n contents first → ItemsOccur P first xs next → length xs < n → All K xs → HasItemsTo P K contents next
 items_to P K contents first next n xs count occur fewer known =
     record { first = first; announced = n; count = count; items = xs; occur = occur; fewer = fewer; known = known }
 
@@ -42,7 +42,7 @@ pub sub_types_to : (n : ℕ) (r next : Reader) (types : List CompositeType) → 
     HasSubTypesTo n r next
 sub_types_to n r next types occur fewer known = record { types = types; occur = occur; fewer = fewer; known = known }
 
-pub types_to : (contents first next : Reader) (n : ℕ) (rec_types : List (List CompositeType)) → Reads (EncodesUnsigned 32) (Ok n) contents first →
+pub types_to : (contents first next : Reader) (n : ℕ) (rec_types : List (List CompositeType)) → HasRead (EncodesUnsigned 32) n contents first →
     RecTypesOccur first rec_types next → length rec_types < n → All AreKnownTypes rec_types → HasTypesTo contents next
 types_to contents first next n rec_types count occur fewer known =
     record { first = first; announced = n; count = count; rec_types = rec_types; occur = occur; fewer = fewer; known = known }
@@ -54,18 +54,18 @@ IsRead (Err e) = ⊥
 abbrev same : Result ℕ Error → Result ℕ Error → Type 0
 same a b = a ≡ b
 
-refused_beginning : (e : Error) (r new : Reader) → (BeginsWith 0x4e (rest r) → Reads EncodesRecTypeLength (Err e) r new) →
+refused_beginning : (e : Error) (r new : Reader) → (BeginsWith 0x4e (rest r) → Reads EncodesRecTypeLength RecTypeLengthFault (Err e) r new) →
     ((BeginsWith 0x4e (rest r) → ⊥) → same (Err e) (Ok 1) × (new ≡ r)) → RecTypeLengthFault e.message r e.offset →
     BeginsWith 0x4e (rest r) ⊎ (BeginsWith 0x4e (rest r) → ⊥) → AnnouncedFault (fault.Refused e) r
 refused_beginning e r new rec_type one is (inl here) = (here, ((rec_type here).1, is))
 refused_beginning e r new rec_type one is (inr not) = absurd (subst IsRead (sym (one not).0) tt)
 
-read_fault_by : (e : Error) (r new : Reader) → (BeginsWith 0x4e (rest r) → Reads EncodesRecTypeLength (Err e) r new) →
+read_fault_by : (e : Error) (r new : Reader) → (BeginsWith 0x4e (rest r) → Reads EncodesRecTypeLength RecTypeLengthFault (Err e) r new) →
     ((BeginsWith 0x4e (rest r) → ⊥) → same (Err e) (Ok 1) × (new ≡ r)) → BeginsWith 0x4e (rest r) ⊎ (BeginsWith 0x4e (rest r) → ⊥) → IsReadFault e.message
 read_fault_by e r new rec_type one (inl here) = (rec_type here).1.fault
 read_fault_by e r new rec_type one (inr not) = absurd (subst IsRead (sym (one not).0) tt)
 
-pub announced_refused : (e : Error) (f : ModuleFault) (r new : Reader) → (BeginsWith 0x4e (rest r) → Reads EncodesRecTypeLength (Err e) r new) →
+pub announced_refused : (e : Error) (f : ModuleFault) (r new : Reader) → (BeginsWith 0x4e (rest r) → Reads EncodesRecTypeLength RecTypeLengthFault (Err e) r new) →
     ((BeginsWith 0x4e (rest r) → ⊥) → same (Err e) (Ok 1) × (new ≡ r)) → RecTypeLengthFault e.message r e.offset → f ≡ fault_of e → AnnouncedFault f r
 announced_refused e f r new rec_type one is reported =
     let occurs = begins 0x4e (rest r) in

@@ -1,10 +1,10 @@
-use Rattle.std.proofs.Common.{◌≡◌, ℕ, ◌+◌, List, [], ◌∷◌, ◌++◌, length, get_or, drop, Option, Ok, refl, sym, subst, ap, ◌∙◌, append_assoc, arith}
+use Rattle.std.proofs.Common.{◌≡◌, ℕ, ◌+◌, List, [], ◌∷◌, ◌++◌, length, get_or, drop, Option, refl, sym, subst, ap, ◌∙◌, append_assoc, arith}
 use Rattle.std.specs.Int.{w32}
 use Rattle.wasm_module.specs.below.bytes.error.Error.{Error}
 use Rattle.wasm_module.specs.below.bytes.features.WasmFeatures.{WasmFeatures}
 use Rattle.wasm_module.specs.below.Number.{EncodesUnsigned, EncodesFixed}
 use Rattle.wasm_module.specs.below.Sequence.{PrefixCode}
-use Rattle.wasm_module.specs.below.Source.{Reader, rest, offset_of, end_of, at_position, IsRefusal, Reads}
+use Rattle.wasm_module.specs.below.Source.{Reader, rest, offset_of, end_of, at_position, IsRefusal, HasRead}
 use Rattle.wasm_module.specs.Module.{EncodesPreamble, preamble_kind, SectionParts, EncodesSection}
 use Rattle.wasm_module.specs.declared.preamble.Preamble.{Preamble}
 use Rattle.wasm_module.specs.declared.preamble.PreambleKind.{PreambleKind}
@@ -49,7 +49,7 @@ module _ (numbers : PrefixCode (EncodesUnsigned 32)) where
         start ∙ sym start',
       )
 
-  pub one_step : (r mid next : Reader) (s t : SectionParts) → Reads (EncodesSection r.features) (Ok s) r mid → Reads (EncodesSection r.features) (Ok t) r next →
+  pub one_step : (r mid next : Reader) (s t : SectionParts) → HasRead (EncodesSection r.features) s r mid → HasRead (EncodesSection r.features) t r next →
       (mid ≡ next) × (s.id ≡ t.id) × (s.contents.buffer ≡ t.contents.buffer) × (s.contents.features ≡ t.contents.features) ×
       (s.contents.position ≡ t.contents.position)
   one_step r mid next s t (a, is, takes) (b, is', takes') =
@@ -65,7 +65,7 @@ module _ (numbers : PrefixCode (EncodesUnsigned 32)) where
   sections_left r (s ∷ ss) mid (t ∷ ts) end (next, reads, placed, others) (next', reads', placed', others') none =
       sections_left next ss mid ts end others (subst (λ z. SectionsOccur z ts end) (sym (one_step r next next' s t reads reads').0) others') none
 
-  one_section : (r mid next : Reader) (s t : SectionParts) → Reads (EncodesSection r.features) (Ok s) r mid → Reads (EncodesSection r.features) (Ok t) r next →
+  one_section : (r mid next : Reader) (s t : SectionParts) → HasRead (EncodesSection r.features) s r mid → HasRead (EncodesSection r.features) t r next →
       end_of s.contents ≡ offset_of mid → end_of t.contents ≡ offset_of next → s ≡ t
   one_section r mid next s t reads reads' placed placed' =
       let (moved, id, buffer, features, position) = one_step r mid next s t reads reads' in
@@ -113,7 +113,7 @@ module _ (fixed : PrefixCode (EncodesFixed w32)) where
         ap (λ z. kind_by z p.version) first.1 ∙ ap (λ z. kind_by q.magic z) second.1,
       )
 
-  pub begins_as : (whole mid after : Reader) (p : Preamble) → Reads EncodesPreamble (Ok p) whole mid → BeginsModule whole after →
+  pub begins_as : (whole mid after : Reader) (p : Preamble) → HasRead EncodesPreamble p whole mid → BeginsModule whole after →
       (mid ≡ after) × (preamble_kind p ≡ kind.Module)
   begins_as whole mid after p (a, is, takes) h =
       let (b, is', takes') = h.begins in

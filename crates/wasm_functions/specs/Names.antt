@@ -1,9 +1,9 @@
 -- Specification: Binary Format, Modules, Export Section and Custom Section; Appendix, Custom
 -- Sections, Name Section.
-use Rattle.std.specs.Prelude.{◌≡◌, ◌==◌, ◌≢◌, ◌⊎◌, ◌<◌, ℕ, List, [], ◌∷◌, ◌++◌, length, map, flat_map, set, Option, Some, None, Ok, codes, if◌then◌else◌}
+use Rattle.std.specs.Prelude.{◌≡◌, ◌==◌, ◌≢◌, ◌⊎◌, ◌<◌, ℕ, List, [], ◌∷◌, ◌++◌, length, map, flat_map, set, Option, Some, None, codes, if◌then◌else◌}
 use Rattle.wasm_module.specs.below.bytes.error.Error.{Error}
 use Rattle.wasm_module.specs.below.Number.{EncodesUnsigned}
-use Rattle.wasm_module.specs.below.Source.{Reader, rest, IsRefusal, Reads}
+use Rattle.wasm_module.specs.below.Source.{Reader, rest, IsRefusal, HasRead}
 use Rattle.wasm_module.specs.Exports.{ExportParts, EncodesExport}
 use Rattle.wasm_module.specs.Imports.{ImportParts, EncodesImport}
 use Rattle.wasm_module.specs.Module.{SectionParts, EncodesSection}
@@ -41,7 +41,7 @@ with_names names (n ∷ ns) = with_names (set names n.index n.name) ns
 pub record StopsList {X : Type 0} (Encodes : List ℕ → X → Type 0) (contents : Reader) (items : List X) : Type 0 where
   pub first : Reader
   pub all : ℕ
-  pub count : Reads (EncodesUnsigned 32) (Ok all) contents first
+  pub count : HasRead (EncodesUnsigned 32) all contents first
   pub end : Reader
   pub occur : ItemsOccur Encodes first items end
   pub fewer : length items < all
@@ -70,7 +70,7 @@ pub record GivesNames (contents : Reader) (names : List NameParts) : Type 0 wher
   pub occur : SectionsOccur contents before mid
   pub others : first_with 1 before ≡ None
   pub gives :
-      ((s : SectionParts) × (next : Reader) × Reads (EncodesSection mid.features) (Ok s) mid next × (s.id ≡ 1) × ReadsItems EncodesNameAssociation s.contents names) ⊎
+      ((s : SectionParts) × (next : Reader) × HasRead (EncodesSection mid.features) s mid next × (s.id ≡ 1) × ReadsItems EncodesNameAssociation s.contents names) ⊎
       ((names ≡ []) × ((rest mid ≡ []) ⊎ ((error : Error) × IsRefusal (EncodesSection mid.features) error mid)))
 
 -- The names before and after a custom section `name`, if there is one.
@@ -80,7 +80,7 @@ NamesGiven (Some contents) before after = (names : List NameParts) × GivesNames
 
 -- The section is a custom section `name` with these contents.
 abbrev pub IsNames : SectionParts → Reader → Type 0
-IsNames s contents = (s.id ≡ 0) × Reads EncodesName (Ok (codes "name")) s.contents contents
+IsNames s contents = (s.id ≡ 0) × HasRead EncodesName (codes "name") s.contents contents
 
 -- None of these sections is a custom section `name`.
 abbrev pub NoneIsNames : List SectionParts → Type 0
@@ -101,11 +101,11 @@ HasNames whole found = (sections : List SectionParts) × IsModule whole sections
 abbrev pub NamesFirst : SectionParts → List ℕ → Type 0
 NamesFirst s name =
     ((s.id ≢ 0) × (name ≡ [])) ⊎
-    ((s.id ≡ 0) × (((after : Reader) × Reads EncodesName (Ok name) s.contents after) ⊎ ((error : Error) × IsRefusal EncodesName error s.contents × (name ≡ []))))
+    ((s.id ≡ 0) × (((after : Reader) × HasRead EncodesName name s.contents after) ⊎ ((error : Error) × IsRefusal EncodesName error s.contents × (name ≡ []))))
 
 -- The name of the module in the first subsection of a custom section `name`; otherwise no bytes.
 abbrev pub GivesModule : Option Reader → List ℕ → Type 0
 GivesModule None name = name ≡ []
 GivesModule (Some contents) name =
-    ((s : SectionParts) × (next : Reader) × Reads (EncodesSection contents.features) (Ok s) contents next × NamesFirst s name) ⊎
+    ((s : SectionParts) × (next : Reader) × HasRead (EncodesSection contents.features) s contents next × NamesFirst s name) ⊎
     ((error : Error) × IsRefusal (EncodesSection contents.features) error contents × (name ≡ []))

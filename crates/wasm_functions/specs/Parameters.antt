@@ -1,8 +1,8 @@
 -- Specification: Binary Format, Types, Recursive Types; Modules, Type Section.
-use Rattle.std.specs.Prelude.{◌≡◌, ◌⊎◌, ℕ, List, [], ◌∷◌, length, map, Option, Some, None, Ok}
+use Rattle.std.specs.Prelude.{◌≡◌, ◌⊎◌, ℕ, List, [], ◌∷◌, length, map, Option, Some, None}
 use Rattle.std.specs.List.{All, flat_map}
 use Rattle.wasm_module.specs.below.Number.{EncodesUnsigned}
-use Rattle.wasm_module.specs.below.Source.{Reader, rest, BeginsWith, Reads}
+use Rattle.wasm_module.specs.below.Source.{Reader, rest, BeginsWith, HasRead}
 use Rattle.wasm_module.specs.Types.{EncodesSubType, EncodesRecTypeLength}
 use Rattle.wasm_module.specs.declared.composite.CompositeType.{CompositeType}
 use Rattle.wasm_module.specs.declared.composite.CompositeType.TheVariants as composite
@@ -21,7 +21,7 @@ AreKnownTypes types = All IsKnownType types
 
 -- The number of sub types of a recursive type: one if the next byte starts no list.
 abbrev pub Announces : ℕ → Reader → Reader → Type 0
-Announces n r first = (BeginsWith 0x4e (rest r) × Reads EncodesRecTypeLength (Ok n) r first) ⊎ ((¬ BeginsWith 0x4e (rest r)) × (n ≡ 1) × (first ≡ r))
+Announces n r first = (BeginsWith 0x4e (rest r) × HasRead EncodesRecTypeLength n r first) ⊎ ((¬ BeginsWith 0x4e (rest r)) × (n ≡ 1) × (first ≡ r))
 
 -- A recursive type with these sub types.
 abbrev pub RecTypeOccurs : Reader → List CompositeType → Reader → Type 0
@@ -34,7 +34,7 @@ RecTypesOccur r (g ∷ gs) end = (mid : Reader) × RecTypeOccurs r g mid × RecT
 -- The contents of a section begin with the number of these recursive types, and the types.
 pub record AreTypes (contents : Reader) (rec_types : List (List CompositeType)) : Type 0 where
   pub first : Reader
-  pub count : Reads (EncodesUnsigned 32) (Ok (length rec_types)) contents first
+  pub count : HasRead (EncodesUnsigned 32) (length rec_types) contents first
   pub end : Reader
   pub occur : RecTypesOccur first rec_types end
 

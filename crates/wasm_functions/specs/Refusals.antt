@@ -1,10 +1,10 @@
 -- Specification: Binary Format, Lists; Types, Recursive Types; Modules.
-use Rattle.std.specs.Prelude.{◌≡◌, ◌≢◌, ◌⊎◌, ◌<◌, ℕ, List, [], length, Option, Some, Ok}
+use Rattle.std.specs.Prelude.{◌≡◌, ◌≢◌, ◌⊎◌, ◌<◌, ℕ, List, [], length, Option, Some}
 use Rattle.std.specs.List.{All}
 use Rattle.wasm_module.specs.below.bytes.error.Error.{Error}
 use Rattle.wasm_module.specs.below.bytes.message.Message.{Message}
 use Rattle.wasm_module.specs.below.Number.{EncodesUnsigned}
-use Rattle.wasm_module.specs.below.Source.{Reader, rest, offset_of, BeginsWith, U32Fault, IsRefusal, Reads}
+use Rattle.wasm_module.specs.below.Source.{Reader, rest, offset_of, BeginsWith, U32Fault, IsRefusal, HasRead}
 use Rattle.wasm_module.specs.Exports.{EncodesExport, ExportFault}
 use Rattle.wasm_module.specs.Imports.{ImportParts, EncodesImport, ImportFault}
 use Rattle.wasm_module.specs.Module.{EncodesPreamble, PreambleFault, preamble_kind, SectionParts, EncodesSection, SectionFault}
@@ -32,7 +32,7 @@ RefusedWith Holds _ = ⊥
 
 -- The preamble identifies this kind of binary.
 abbrev pub BeginsAs : PreambleKind → Reader → Type 0
-BeginsAs said whole = (preamble : Preamble) × (after : Reader) × Reads EncodesPreamble (Ok preamble) whole after × (preamble_kind preamble ≡ said)
+BeginsAs said whole = (preamble : Preamble) × (after : Reader) × HasRead EncodesPreamble preamble whole after × (preamble_kind preamble ≡ said)
 
 -- The bytes before the second reader are the preamble of a module and sections. More bytes follow.
 pub record HasSectionsTo (whole next : Reader) : Type 0 where
@@ -54,7 +54,7 @@ SectionsFault _ whole = ⊥
 pub record HasItemsTo {X : Type 0} (Encodes : List ℕ → X → Type 0) (IsKnown : X → Type 0) (contents next : Reader) : Type 0 where
   pub first : Reader
   pub announced : ℕ
-  pub count : Reads (EncodesUnsigned 32) (Ok announced) contents first
+  pub count : HasRead (EncodesUnsigned 32) announced contents first
   pub items : List X
   pub occur : ItemsOccur Encodes first items next
   pub fewer : length items < announced
@@ -73,13 +73,13 @@ abbrev pub ImportsFault : ModuleFault → Reader → Type 0
 ImportsFault (fault.Refused e) contents = ListFault EncodesImport ImportFault IsKnownImport e contents
 ImportsFault (fault.ImportKind byte offset) contents =
     (next : Reader) × HasItemsTo EncodesImport IsKnownImport contents next × (offset ≡ offset_of next) ×
-    (import : ImportParts) × (after : Reader) × Reads EncodesImport (Ok import) next after × (import.kind ≡ byte) × (4 < byte)
+    (import : ImportParts) × (after : Reader) × HasRead EncodesImport import next after × (import.kind ≡ byte) × (4 < byte)
 ImportsFault _ contents = ⊥
 
 -- After items, all known, comes an item with this property.
 abbrev pub HasItemWith : {X : Type 0} → (List ℕ → X → Type 0) → (X → Type 0) → (X → Type 0) → Reader → Type 0
 HasItemWith {X} Encodes IsKnown P contents =
-    (next : Reader) × HasItemsTo Encodes IsKnown contents next × (x : X) × (after : Reader) × Reads Encodes (Ok x) next after × P x
+    (next : Reader) × HasItemsTo Encodes IsKnown contents next × (x : X) × (after : Reader) × HasRead Encodes x next after × P x
 
 -- The next type index is in error; or allocation for one failed.
 abbrev pub FunctionsFault : ModuleFault → Reader → Type 0
@@ -102,8 +102,8 @@ pub record HasSubTypesTo (n : ℕ) (r next : Reader) : Type 0 where
 abbrev pub SubTypesFault : ModuleFault → ℕ → Reader → Type 0
 SubTypesFault (fault.Refused e) n r = (next : Reader) × HasSubTypesTo n r next × IsRefusedAs EncodesSubType SubTypeFault e next
 SubTypesFault (fault.TypeKind byte offset) n r =
-    (next : Reader) × HasSubTypesTo n r next × (offset ≡ offset_of next) × (after : Reader) × Reads EncodesSubType (Ok (composite.Other byte)) next after
-SubTypesFault fault.Memory n r = (next : Reader) × HasSubTypesTo n r next × (ty : CompositeType) × (after : Reader) × Reads EncodesSubType (Ok ty) next after × IsKnownType ty
+    (next : Reader) × HasSubTypesTo n r next × (offset ≡ offset_of next) × (after : Reader) × HasRead EncodesSubType (composite.Other byte) next after
+SubTypesFault fault.Memory n r = (next : Reader) × HasSubTypesTo n r next × (ty : CompositeType) × (after : Reader) × HasRead EncodesSubType ty next after × IsKnownType ty
 SubTypesFault _ n r = ⊥
 
 abbrev pub AnnouncedFault : ModuleFault → Reader → Type 0
@@ -118,7 +118,7 @@ RecTypeFault fault r = AnnouncedFault fault r ⊎ ((n : ℕ) × (first : Reader)
 pub record HasTypesTo (contents next : Reader) : Type 0 where
   pub first : Reader
   pub announced : ℕ
-  pub count : Reads (EncodesUnsigned 32) (Ok announced) contents first
+  pub count : HasRead (EncodesUnsigned 32) announced contents first
   pub rec_types : List (List CompositeType)
   pub occur : RecTypesOccur first rec_types next
   pub fewer : length rec_types < announced

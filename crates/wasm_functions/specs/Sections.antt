@@ -1,6 +1,6 @@
 -- Specification: Binary Format, Modules.
-use Rattle.std.specs.Prelude.{◌≡◌, ◌==◌, ℕ, List, [], ◌∷◌, Option, Some, None, Ok, if◌then◌else◌}
-use Rattle.wasm_module.specs.below.Source.{Reader, rest, offset_of, end_of, Reads}
+use Rattle.std.specs.Prelude.{◌≡◌, ◌==◌, ℕ, List, [], ◌∷◌, Option, Some, None, if◌then◌else◌}
+use Rattle.wasm_module.specs.below.Source.{Reader, rest, offset_of, end_of, HasRead}
 use Rattle.wasm_module.specs.Module.{EncodesPreamble, preamble_kind, SectionParts, EncodesSection}
 use Rattle.wasm_module.specs.declared.preamble.Preamble.{Preamble}
 use Rattle.wasm_module.specs.declared.preamble.PreambleKind.TheVariants as kind
@@ -8,12 +8,12 @@ use Rattle.wasm_module.specs.declared.preamble.PreambleKind.TheVariants as kind
 -- The sections between two readers. Their contents count offsets as the module does.
 abbrev pub SectionsOccur : Reader → List SectionParts → Reader → Type 0
 SectionsOccur r [] end = end ≡ r
-SectionsOccur r (s ∷ ss) end = (mid : Reader) × Reads (EncodesSection r.features) (Ok s) r mid × (end_of s.contents ≡ offset_of mid) × SectionsOccur mid ss end
+SectionsOccur r (s ∷ ss) end = (mid : Reader) × HasRead (EncodesSection r.features) s r mid × (end_of s.contents ≡ offset_of mid) × SectionsOccur mid ss end
 
 -- The second reader is after the preamble of a module.
 pub record BeginsModule (whole after : Reader) : Type 0 where
   pub preamble : Preamble
-  pub begins : Reads EncodesPreamble (Ok preamble) whole after
+  pub begins : HasRead EncodesPreamble preamble whole after
   pub is : preamble_kind preamble ≡ kind.Module
 
 -- The bytes are the preamble of a module and these sections.

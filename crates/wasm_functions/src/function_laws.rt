@@ -1,5 +1,5 @@
-ghost use Rattle.std.specs.Prelude.{◌≡◌, ◌≢◌, ◌<◌, ℕ, List, [], ◌∷◌, ◌++◌, length, Option, Ok};
-ghost use Rattle.wasm_module.specs.below.Source.{Reader, rest, offset_of, end_of, Reads};
+ghost use Rattle.std.specs.Prelude.{◌≡◌, ◌≢◌, ◌<◌, ℕ, List, [], ◌∷◌, ◌++◌, length, Option};
+ghost use Rattle.wasm_module.specs.below.Source.{Reader, rest, offset_of, end_of, HasRead};
 ghost use Rattle.wasm_module.specs.Module.{SectionParts, EncodesSection};
 ghost use Rattle.wasm_functions.specs.Refusals.{SectionsFault, ModuleFunctionsFault};
 ghost use Rattle.wasm_functions.specs.Sections.{SectionsOccur, IsModule, IsSection};
@@ -20,9 +20,9 @@ pub fn sections()
 /// States that sections and the next one are sections, and that a section is not empty.
 pub fn next_section()
     ensures more { (first : Reader) (sections : List SectionParts) (mid new : Reader) (next : SectionParts)
-        → SectionsOccur first sections mid → Reads (EncodesSection mid.features) (Ok next) mid new
+        → SectionsOccur first sections mid → HasRead (EncodesSection mid.features) next mid new
         → end_of next.contents ≡ offset_of new → SectionsOccur first (sections ++ next ∷ []) new }
-    ensures shorter { (old new : Reader) (next : SectionParts) → Reads (EncodesSection old.features) (Ok next) old new
+    ensures shorter { (old new : Reader) (next : SectionParts) → HasRead (EncodesSection old.features) next old new
         → length (rest new) < length (rest old) }
 {}
 

@@ -1,11 +1,11 @@
 -- What a flags number announces, and the parts that it is the sum of.
-use Rattle.std.proofs.Common.{◌≡◌, ◌≢◌, ℕ, ◌+◌, ◌*◌, ◌/◌, ◌%◌, ◌<◌, ◌≤◌, ◌⊎◌, inl, inr, List, [], ◌∷◌, ◌++◌, Option, Some, None, Ok, refl, sym, subst, ap, ◌∙◌, arith}
+use Rattle.std.proofs.Common.{◌≡◌, ◌≢◌, ℕ, ◌+◌, ◌*◌, ◌/◌, ◌%◌, ◌<◌, ◌≤◌, ◌⊎◌, inl, inr, List, [], ◌∷◌, ◌++◌, Option, Some, None, refl, sym, subst, ap, ◌∙◌, arith}
 use Rattle.wasm_imm_control.specs.below.bytes.features.WasmFeatures.{WasmFeatures}
 use Rattle.wasm_imm_control.specs.below.bytes.error.Error.{Error}
 use Rattle.wasm_imm_control.specs.below.Features.{HasFeature, multi_memory, acquire_release_atomics, multibyte_array_access}
 use Rattle.wasm_imm_control.specs.below.Number.{EncodesUnsigned}
 use Rattle.wasm_imm_control.specs.below.Refusal.{IsReadFault}
-use Rattle.wasm_imm_control.specs.below.Source.{Reader, at_position, Takes, IsRefusal, Reads}
+use Rattle.wasm_imm_control.specs.below.Source.{Reader, at_position, Takes, IsRefusal, HasRead}
 use Rattle.wasm_imm_control.specs.below.Sequence.{Then, PrefixCode}
 use Rattle.wasm_imm_control.proofs.of_below.PrefixCode.{unsigned_prefix_code}
 use Rattle.wasm_imm_control.proofs.of_below.TakesLemmas.{takes_then, takes_none, back}
@@ -260,7 +260,7 @@ after_ok f k max flags index byte after t o offset ht ho hb nr nb =
       offset = hb;
     }
 
-module _ (f : WasmFeatures) (k : MemArgKind) (max flags : ℕ) (old mid : Reader) (flagged : Reads (EncodesUnsigned 32) (Ok flags) old mid) where
+module _ (f : WasmFeatures) (k : MemArgKind) (max flags : ℕ) (old mid : Reader) (flagged : HasRead (EncodesUnsigned 32) flags old mid) where
   pub ruled_out : (e : Error) (now new : Reader) (text : List ℕ) (position : ℕ) → Takes old now text → position ≡ old.position →
       new ≡ at_position now position → e.offset ≡ now.start + position → IsReadFault e.message → NotAfterFlags f k max flags →
       (new ≡ old) × IsRefusal (EncodesMemArg f k max) e old
@@ -286,7 +286,7 @@ module _ (f : WasmFeatures) (k : MemArgKind) (max flags : ℕ) (old mid : Reader
       after_refused e mid new flagged.0 position flagged.2 at (went ∙
       ap (λ (r : Reader). at_position r position) h.0) (then_first (IsTarget f flags) after_target e mid h.1)
 
-  pub ordering_refused : (e : Error) (now now2 new : Reader) (t : MemArgTarget) (position : ℕ) → Reads (IsTarget f flags) (Ok t) mid now →
+  pub ordering_refused : (e : Error) (now now2 new : Reader) (t : MemArgTarget) (position : ℕ) → HasRead (IsTarget f flags) t mid now →
       (now2 ≡ now) × IsRefusal (IsOrdering f k flags) e now → position ≡ old.position → new ≡ at_position now2 position →
       (new ≡ old) × IsRefusal (EncodesMemArg f k max) e old
   ordering_refused e now now2 new t position rt h at went =
@@ -296,7 +296,7 @@ module _ (f : WasmFeatures) (k : MemArgKind) (max flags : ℕ) (old mid : Reader
       (then_first (IsOrdering f k flags) (Last f max flags t) e now h.1))
 
   pub offset_refused : (e : Error) (now last last2 new : Reader) (t : MemArgTarget) (o : Option MemArgOrdering) (position : ℕ) →
-      Reads (IsTarget f flags) (Ok t) mid now → Reads (IsOrdering f k flags) (Ok o) now last → (last2 ≡ last) × IsRefusal (EncodesOffset f) e last →
+      HasRead (IsTarget f flags) t mid now → HasRead (IsOrdering f k flags) o now last → (last2 ≡ last) × IsRefusal (EncodesOffset f) e last →
       position ≡ old.position → new ≡ at_position last2 position → (new ≡ old) × IsRefusal (EncodesMemArg f k max) e old
   offset_refused e now last last2 new t o position rt ro h at went =
       let taken = takes_then old now last (flagged.0 ++ rt.0) ro.0 (takes_then old mid now flagged.0 rt.0 flagged.2 rt.2) ro.2 in
@@ -306,9 +306,9 @@ module _ (f : WasmFeatures) (k : MemArgKind) (max flags : ℕ) (old mid : Reader
       (then_second (IsTarget f flags) after_target e mid now t (target_prefix_code f flags) rt
       (then_second (IsOrdering f k flags) (Last f max flags t) e now last o (ordering_prefix_code f k flags) ro third))
 
-  pub all_read : (now last new : Reader) (t : MemArgTarget) (o : Option MemArgOrdering) (offset : ℕ) → Reads (IsTarget f flags) (Ok t) mid now →
-      Reads (IsOrdering f k flags) (Ok o) now last → Reads (EncodesOffset f) (Ok offset) last new → ¬ IsReserved f flags → ¬ NamesBoth f flags →
-      Reads (EncodesMemArg f k max) (Ok (argument_of (flags % 16) max offset t o)) old new
+  pub all_read : (now last new : Reader) (t : MemArgTarget) (o : Option MemArgOrdering) (offset : ℕ) → HasRead (IsTarget f flags) t mid now →
+      HasRead (IsOrdering f k flags) o now last → HasRead (EncodesOffset f) offset last new → ¬ IsReserved f flags → ¬ NamesBoth f flags →
+      HasRead (EncodesMemArg f k max) (argument_of (flags % 16) max offset t o) old new
   all_read now last new t o offset rt ro rb nr nb = (
     flagged.0 ++ (rt.0 ++ (ro.0 ++ rb.0)),
     (flagged.0, rt.0 ++ (ro.0 ++ rb.0), flags, refl, flagged.1, after_ok f k max flags rt.0 ro.0 rb.0 t o offset rt.1 ro.1 rb.1 nr nb),
@@ -319,16 +319,16 @@ module _ (f : WasmFeatures) (k : MemArgKind) (max flags : ℕ) (old mid : Reader
 none_announced : (f feature : WasmFeatures) (flags bit : ℕ) → flags / bit % 2 ≡ 0 → ¬ Announces f feature flags bit
 none_announced f feature flags bit zero h = absurd (omega (arith, h.1))
 
-module _ (f : WasmFeatures) (k : MemArgKind) (max flags : ℕ) (old mid : Reader) (flagged : Reads (EncodesUnsigned 32) (Ok flags) old mid) (small : flags < 16)
+module _ (f : WasmFeatures) (k : MemArgKind) (max flags : ℕ) (old mid : Reader) (flagged : HasRead (EncodesUnsigned 32) flags old mid) (small : flags < 16)
   where
-    pub memory_zero : Reads (IsTarget f flags) (Ok (target.Memory 0)) mid mid
+    pub memory_zero : HasRead (IsTarget f flags) (target.Memory 0) mid mid
     memory_zero = (
       [],
       inr (none_announced f multi_memory flags 64 (omega arith), none_announced f multibyte_array_access flags 32 (omega arith), refl, refl),
       takes_none mid,
     )
 
-    pub no_ordering : Reads {X = Option MemArgOrdering} (IsOrdering f k flags) (Ok None) mid mid
+    pub no_ordering : HasRead {X = Option MemArgOrdering} (IsOrdering f k flags) None mid mid
     no_ordering = ([], (none_announced f acquire_release_atomics flags 16 (omega arith), refl), takes_none mid)
 
     pub short_refused : (e : Error) (mid2 new : Reader) (position : ℕ) → (mid2 ≡ mid) × IsRefusal (EncodesOffset f) e mid → position ≡ old.position →
@@ -342,10 +342,10 @@ module _ (f : WasmFeatures) (k : MemArgKind) (max flags : ℕ) (old mid : Reader
     none_reserved (inr (inr (inl r))) = absurd (omega (arith, r.0))
     none_reserved (inr (inr (inr r))) = absurd (omega (arith, r.0))
 
-    pub short_read : (new : Reader) (offset align : ℕ) → align ≡ flags → Reads (EncodesOffset f) (Ok offset) mid new →
-        Reads (EncodesMemArg f k max) (Ok (argument_of align max offset (target.Memory 0) None)) old new
+    pub short_read : (new : Reader) (offset align : ℕ) → align ≡ flags → HasRead (EncodesOffset f) offset mid new →
+        HasRead (EncodesMemArg f k max) (argument_of align max offset (target.Memory 0) None) old new
     short_read new offset align same rb =
         let low : flags % 16 ≡ align = omega arith in
-        subst (λ z. Reads (EncodesMemArg f k max) (Ok (argument_of z max offset (target.Memory 0) None)) old new) low
+        subst (λ z. HasRead (EncodesMemArg f k max) (argument_of z max offset (target.Memory 0) None) old new) low
         (all_read f k max flags old mid flagged mid mid new (target.Memory 0) None offset memory_zero no_ordering rb none_reserved
         (λ h. absurd (omega (arith, h.1))))

@@ -1,10 +1,10 @@
-use Rattle.std.proofs.Common.{◌≡◌, ℕ, ◌<◌, inl, inr, Option, None, Ok, subst, arith}
+use Rattle.std.proofs.Common.{◌≡◌, ℕ, ◌<◌, inl, inr, Option, None, subst, arith}
 use Rattle.wasm_imm_control.specs.below.bytes.features.WasmFeatures.{WasmFeatures}
 use Rattle.wasm_imm_control.specs.below.bytes.error.Error.{Error}
 use Rattle.wasm_imm_control.specs.below.bytes.message.Message.{Message}
 use Rattle.wasm_imm_control.specs.below.bytes.message.Message.TheVariants as message
 use Rattle.wasm_imm_control.specs.below.Number.{EncodesUnsigned}
-use Rattle.wasm_imm_control.specs.below.Source.{Reader, offset_of, IsRefusal, Reads}
+use Rattle.wasm_imm_control.specs.below.Source.{Reader, offset_of, IsRefusal, HasRead}
 use Rattle.wasm_imm_control.proofs.of_below.Blocks.{refused_now}
 use Rattle.wasm_imm.specs.declared.memory_argument.MemArgTarget.{MemArgTarget}
 use Rattle.wasm_imm.specs.declared.memory_argument.MemArgTarget.TheVariants as target
@@ -19,12 +19,16 @@ module _ (f : WasmFeatures) (k : MemArgKind) (flags start : ℕ) (mid : Reader) 
       FlagsFault f k flags start e.message mid e.offset
   target_fault e none h = inr (one, inl (refused_now (IsTarget f flags) e mid none, h))
 
-  module _ (t : MemArgTarget) (now : Reader) (rt : Reads (IsTarget f flags) (Ok t) mid now) (may : ¬ OrdersPlain f k flags) where
+  pub plain_fault : (t : MemArgTarget) (now : Reader) → HasRead (IsTarget f flags) t mid now → (m : Message) (offset : ℕ) → OrdersPlain f k flags →
+      m ≡ message.OrderingOnPlain → offset ≡ start → FlagsFault f k flags start m mid offset
+  plain_fault t now rt m offset plain em eo = inr (one, inr (t, now, rt, inl (plain, em, eo)))
+
+  module _ (t : MemArgTarget) (now : Reader) (rt : HasRead (IsTarget f flags) t mid now) (may : ¬ OrdersPlain f k flags) where
     pub ordering_fault : (e : Error) → IsRefusal (IsOrdering f k flags) e now → OrderingFault f k flags e.message now e.offset →
         FlagsFault f k flags start e.message mid e.offset
     ordering_fault e none h = inr (one, inr (t, now, rt, inr (may, inl (refused_now (IsOrdering f k flags) e now none, h))))
 
-    module _ (o : Option MemArgOrdering) (last : Reader) (ro : Reads (IsOrdering f k flags) (Ok o) now last) where
+    module _ (o : Option MemArgOrdering) (last : Reader) (ro : HasRead (IsOrdering f k flags) o now last) where
       pub reserved_fault : (m : Message) (offset : ℕ) → IsReserved f flags → m ≡ message.ReservedFlags → offset ≡ start →
           FlagsFault f k flags start m mid offset
       reserved_fault m offset h em eo = inr (one, inr (t, now, rt, inr (may, inr (o, last, ro, inl (h, em, eo)))))
@@ -32,12 +36,8 @@ module _ (f : WasmFeatures) (k : MemArgKind) (flags start : ℕ) (mid : Reader) 
       pub offset_fault : (m : Message) (offset : ℕ) → ¬ IsReserved f flags → OffsetFault f m last offset → FlagsFault f k flags start m mid offset
       offset_fault m offset whole h = inr (one, inr (t, now, rt, inr (may, inr (o, last, ro, inr (whole, h)))))
 
-pub short_fault : (f : WasmFeatures) (k : MemArgKind) (flags start : ℕ) (old mid : Reader) → Reads (EncodesUnsigned 32) (Ok flags) old mid → flags < 16 →
+pub short_fault : (f : WasmFeatures) (k : MemArgKind) (flags start : ℕ) (old mid : Reader) → HasRead (EncodesUnsigned 32) flags old mid → flags < 16 →
     (m : Message) (offset : ℕ) → OffsetFault f m mid offset → FlagsFault f k flags start m mid offset
 short_fault f k flags start old mid r small m offset h =
     offset_fault f k flags start mid (λ both. absurd (omega (arith, both.1))) (target.Memory 0) mid (memory_zero f k 0 flags old mid r small)
     (λ plain. absurd (omega (arith, plain.1))) None mid (no_ordering f k 0 flags old mid r small) m offset (none_reserved f k 0 flags old mid r small) h
-
-pub fault_after_flags : (f : WasmFeatures) (k : MemArgKind) (flags start : ℕ) (old mid : Reader) → Reads (EncodesUnsigned 32) (Ok flags) old mid →
-    start ≡ offset_of old → (m : Message) (offset : ℕ) → FlagsFault f k flags start m mid offset → MemArgFault f k m old offset
-fault_after_flags f k flags start old mid r same m offset h = inr (flags, mid, r, subst (λ s. FlagsFault f k flags s m mid offset) same h)

@@ -1,5 +1,5 @@
-ghost use Rattle.std.specs.Prelude.{◌≡◌, ℕ, IfErr};
-ghost use Rattle.wasm_imm_control.specs.below.Source.{Reads, IsShort};
+ghost use Rattle.std.specs.Prelude.{◌≡◌, ℕ};
+ghost use Rattle.wasm_imm_control.specs.below.Source.{Reads, EndsWithin};
 ghost use Rattle.wasm_imm.specs.Vectors.{EncodesVector};
 ghost use Rattle.std.specs.Int.{w128, to_le_bytes, from_le_bytes, cast_signed, cast_unsigned};
 
@@ -70,8 +70,7 @@ impl V128 {
     /// `read_bytes`.
     #[inline(always)]
     pub fn read(reader: &mut BinaryReader<'_>) -> Result<V128>
-        ensures reads { Reads EncodesVector result reader.old reader.new }
-        ensures end { IfErr result (λ e. IsShort 16 e reader.old) }
+        ensures { Reads EncodesVector (EndsWithin 16) result reader.old reader.new }
     {
         match read_sixteen(reader) {
             Ok(bytes) => Ok(V128(bytes)),

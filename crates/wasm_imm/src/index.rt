@@ -1,4 +1,3 @@
-ghost use Rattle.std.specs.Prelude.{IfErr};
 ghost use Rattle.wasm_imm_control.specs.below.Source.{Reads};
 ghost use Rattle.wasm_imm.specs.Indices.{EncodesIndex, EncodesMemoryIndex, EncodesTableIndex};
 ghost use Rattle.wasm_imm.specs.Indices.{IndexFault, MemoryIndexFault, TableIndexFault};
@@ -11,9 +10,7 @@ use wasm_imm_control::below::{BinaryReader, Message, Result, WasmFeatures};
 /// `ZeroByteExpected` at a byte that is not 0.
 #[inline(never)]
 pub fn read_memory_index(reader: &mut BinaryReader<'_>) -> Result<u32>
-    ensures reads { Reads (EncodesMemoryIndex reader.old.features) result reader.old reader.new }
-    ensures fault { IfErr result (λ e. MemoryIndexFault reader.old.features
-        e.message reader.old e.offset) }
+    ensures { Reads (EncodesMemoryIndex reader.old.features) (MemoryIndexFault reader.old.features) result reader.old reader.new }
 {
     read_index(reader, WasmFeatures::MULTI_MEMORY)
 }
@@ -23,18 +20,14 @@ pub fn read_memory_index(reader: &mut BinaryReader<'_>) -> Result<u32>
 /// Fails like `read_memory_index`, with call_indirect_overlong in place of multi_memory.
 #[inline(never)]
 pub fn read_table_index(reader: &mut BinaryReader<'_>) -> Result<u32>
-    ensures reads { Reads (EncodesTableIndex reader.old.features) result reader.old reader.new }
-    ensures fault { IfErr result (λ e. TableIndexFault reader.old.features
-        e.message reader.old e.offset) }
+    ensures { Reads (EncodesTableIndex reader.old.features) (TableIndexFault reader.old.features) result reader.old reader.new }
 {
     read_index(reader, WasmFeatures::CALL_INDIRECT_OVERLONG)
 }
 
 #[inline(always)]
 fn read_index(reader: &mut BinaryReader<'_>, feature: WasmFeatures) -> Result<u32>
-    ensures reads { Reads (EncodesIndex feature reader.old.features) result reader.old reader.new }
-    ensures fault { IfErr result (λ e. IndexFault feature reader.old.features
-        e.message reader.old e.offset) }
+    ensures { Reads (EncodesIndex feature reader.old.features) (IndexFault feature reader.old.features) result reader.old reader.new }
 {
     if reader.features().contains(feature) {
         return reader.read_var_u32();

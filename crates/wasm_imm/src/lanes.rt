@@ -1,5 +1,4 @@
-ghost use Rattle.std.specs.Prelude.{IfErr};
-ghost use Rattle.wasm_imm_control.specs.below.Source.{Reads, IsByte, IsEndHere, IsShort};
+ghost use Rattle.wasm_imm_control.specs.below.Source.{Reads, IsByte, EndFault, EndsWithin};
 ghost use Rattle.wasm_imm.specs.Vectors.{EncodesSixteen};
 ghost use Rattle.wasm_imm.specs.Vectors.{LanesFault};
 
@@ -9,8 +8,7 @@ use wasm_imm_control::below::{BinaryReader, Error, Message, Result};
 /// `EndOfData`.
 #[inline(always)]
 pub fn read_lane(reader: &mut BinaryReader<'_>) -> Result<u8>
-    ensures reads { Reads IsByte result reader.old reader.new }
-    ensures end { IfErr result (λ e. IsEndHere e reader.old) }
+    ensures { Reads IsByte EndFault result reader.old reader.new }
 {
     reader.read_u8()
 }
@@ -19,8 +17,7 @@ pub fn read_lane(reader: &mut BinaryReader<'_>) -> Result<u8>
 /// at the end of the data.
 #[inline(never)]
 pub fn read_lanes(reader: &mut BinaryReader<'_>) -> Result<[u8; 16]>
-    ensures reads { Reads EncodesSixteen result reader.old reader.new }
-    ensures fault { IfErr result (λ e. LanesFault e.message reader.old e.offset) }
+    ensures { Reads EncodesSixteen LanesFault result reader.old reader.new }
 {
     match read_sixteen(reader) {
         Ok(lanes) => Ok(lanes),
@@ -30,8 +27,7 @@ pub fn read_lanes(reader: &mut BinaryReader<'_>) -> Result<[u8; 16]>
 
 #[inline(always)]
 pub fn read_sixteen(reader: &mut BinaryReader<'_>) -> Result<[u8; 16]>
-    ensures reads { Reads EncodesSixteen result reader.old reader.new }
-    ensures end { IfErr result (λ e. IsShort 16 e reader.old) }
+    ensures { Reads EncodesSixteen (EndsWithin 16) result reader.old reader.new }
 {
     match reader.read_bytes(16) {
         Ok(block) => {

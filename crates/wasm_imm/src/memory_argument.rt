@@ -1,5 +1,5 @@
 ghost use Rattle.std.specs.Prelude.{◌≡◌, ◌/◌, ◌%◌, ◌<◌, ◌≤◌, ◌↔◌, IsTrue, IfSome, IfNone, IfErr};
-ghost use Rattle.wasm_imm_control.specs.below.Source.{Reads, at_position, offset_of};
+ghost use Rattle.wasm_imm_control.specs.below.Source.{HasRead, Reads, at_position, offset_of};
 ghost use Rattle.wasm_imm_control.specs.below.Number.{EncodesUnsigned};
 ghost use Rattle.wasm_imm.specs.MemoryArgument.{EncodesMemArg, EncodesOffset, IsOrderingByte};
 ghost use Rattle.wasm_imm.specs.FlagsNumber.{Announces, NamesBoth, OrdersPlain, IsReserved, IsTarget, IsOrdering};
@@ -91,10 +91,7 @@ impl MemArg {
     /// - at the offset, like `read_var_u64` with memory64 and like `read_var_u32` without it
     #[inline(always)]
     pub fn read(reader: &mut BinaryReader<'_>, max_align: u8, kind: MemArgKind) -> Result<MemArg>
-        ensures reads { Reads (EncodesMemArg reader.old.features kind max_align)
-            result reader.old reader.new }
-        ensures fault { IfErr result (λ e. MemArgFault reader.old.features kind
-            e.message reader.old e.offset) }
+        ensures { Reads (EncodesMemArg reader.old.features kind max_align) (MemArgFault reader.old.features kind) result reader.old reader.new }
     {
         let start = reader.current_position();
         let flags = match reader.read_var_u32() {
@@ -132,12 +129,10 @@ fn read_announced(
     kind: MemArgKind,
 ) -> Result<MemArg>
     requires begun { start ≤ reader.old.position }
-    requires flagged { Reads (EncodesUnsigned 32) (Ok flags)
+    requires flagged { HasRead (EncodesUnsigned 32) flags
         (at_position reader.old start) reader.old }
-    ensures reads { Reads (EncodesMemArg reader.old.features kind max_align)
-        result (at_position reader.old start) reader.new }
-    ensures fault { IfErr result (λ e. FlagsFault reader.old.features kind flags
-        (offset_of (at_position reader.old start)) e.message reader.old e.offset) }
+    ensures { Reads (EncodesMemArg reader.old.features kind max_align)
+        (MemArgFault reader.old.features kind) result (at_position reader.old start) reader.new }
 {
     let mut lent = reader.clone();
     let outcome = read_announced_out_of_line(&mut lent, start, flags, max_align, kind);
@@ -155,12 +150,10 @@ fn read_announced_out_of_line(
     kind: MemArgKind,
 ) -> Result<MemArg>
     requires begun { start ≤ reader.old.position }
-    requires flagged { Reads (EncodesUnsigned 32) (Ok flags)
+    requires flagged { HasRead (EncodesUnsigned 32) flags
         (at_position reader.old start) reader.old }
-    ensures reads { Reads (EncodesMemArg reader.old.features kind max_align)
-        result (at_position reader.old start) reader.new }
-    ensures fault { IfErr result (λ e. FlagsFault reader.old.features kind flags
-        (offset_of (at_position reader.old start)) e.message reader.old e.offset) }
+    ensures { Reads (EncodesMemArg reader.old.features kind max_align)
+        (MemArgFault reader.old.features kind) result (at_position reader.old start) reader.new }
 {
     if names_memory_alone(reader.features(), flags) {
         return read_rest(reader, start, flags, max_align, kind);
@@ -180,12 +173,10 @@ fn read_other(
     kind: MemArgKind,
 ) -> Result<MemArg>
     requires begun { start ≤ reader.old.position }
-    requires flagged { Reads (EncodesUnsigned 32) (Ok flags)
+    requires flagged { HasRead (EncodesUnsigned 32) flags
         (at_position reader.old start) reader.old }
-    ensures reads { Reads (EncodesMemArg reader.old.features kind max_align)
-        result (at_position reader.old start) reader.new }
-    ensures fault { IfErr result (λ e. FlagsFault reader.old.features kind flags
-        (offset_of (at_position reader.old start)) e.message reader.old e.offset) }
+    ensures { Reads (EncodesMemArg reader.old.features kind max_align)
+        (MemArgFault reader.old.features kind) result (at_position reader.old start) reader.new }
 {
     read_rest(reader, start, flags, max_align, kind)
 }
@@ -199,12 +190,10 @@ fn read_rest(
     kind: MemArgKind,
 ) -> Result<MemArg>
     requires begun { start ≤ reader.old.position }
-    requires flagged { Reads (EncodesUnsigned 32) (Ok flags)
+    requires flagged { HasRead (EncodesUnsigned 32) flags
         (at_position reader.old start) reader.old }
-    ensures reads { Reads (EncodesMemArg reader.old.features kind max_align)
-        result (at_position reader.old start) reader.new }
-    ensures fault { IfErr result (λ e. FlagsFault reader.old.features kind flags
-        (offset_of (at_position reader.old start)) e.message reader.old e.offset) }
+    ensures { Reads (EncodesMemArg reader.old.features kind max_align)
+        (MemArgFault reader.old.features kind) result (at_position reader.old start) reader.new }
 {
     let features = reader.features();
     if names_both(features, flags) {
@@ -299,9 +288,7 @@ fn read_target(
     features: WasmFeatures,
     flags: u32,
 ) -> Result<MemArgTarget>
-    ensures reads { Reads (IsTarget features flags) result reader.old reader.new }
-    ensures fault { IfErr result (λ e. TargetFault features flags
-        e.message reader.old e.offset) }
+    ensures { Reads (IsTarget features flags) (TargetFault features flags) result reader.old reader.new }
 {
     if announces(features, WasmFeatures::MULTI_MEMORY, flags, MEMORY_INDEX) {
         return match reader.read_var_u32() {
@@ -331,9 +318,7 @@ fn read_ordering(
     kind: MemArgKind,
 ) -> Result<Option<MemArgOrdering>>
     requires { ¬ OrdersPlain features kind flags }
-    ensures reads { Reads (IsOrdering features kind flags) result reader.old reader.new }
-    ensures fault { IfErr result (λ e. OrderingFault features kind flags
-        e.message reader.old e.offset) }
+    ensures { Reads (IsOrdering features kind flags) (OrderingFault features kind flags) result reader.old reader.new }
 {
     if !announces(
         features,
@@ -369,9 +354,7 @@ fn ordering_of(kind: MemArgKind, byte: u8) -> Option<MemArgOrdering>
 
 #[inline(always)]
 fn read_offset(reader: &mut BinaryReader<'_>) -> Result<u64>
-    ensures reads { Reads (EncodesOffset reader.old.features) result reader.old reader.new }
-    ensures fault { IfErr result (λ e. OffsetFault reader.old.features
-        e.message reader.old e.offset) }
+    ensures { Reads (EncodesOffset reader.old.features) (OffsetFault reader.old.features) result reader.old reader.new }
 {
     if reader.features().contains(WasmFeatures::MEMORY64) {
         return reader.read_var_u64();

@@ -20,8 +20,7 @@ impl Ordering {
     /// `InvalidOrdering` at the byte.
     #[inline(never)]
     pub fn read(reader: &mut BinaryReader<'_>) -> Result<Ordering>
-        ensures reads { Reads EncodesOrderingByte result reader.old reader.new }
-        ensures fault { IfErr result (λ e. OrderingByteFault e.message reader.old e.offset) }
+        ensures { Reads EncodesOrderingByte OrderingByteFault result reader.old reader.new }
     {
         let start = reader.current_position();
         match reader.read_u8() {
@@ -39,10 +38,8 @@ impl Ordering {
     #[inline(never)]
     pub fn read_fence(reader: &mut BinaryReader<'_>, start: u64) -> Result<Ordering>
         requires { start ≤ offset_of reader.old }
-        ensures reads { ReadsFrom start (EncodesFence reader.old.features)
+        ensures { ReadsFrom start (EncodesFence reader.old.features) (FenceFault reader.old.features start)
             result reader.old reader.new }
-        ensures fault { IfErr result (λ e. FenceFault reader.old.features start
-            e.message reader.old e.offset) }
     {
         if reader
             .features()

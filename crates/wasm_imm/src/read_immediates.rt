@@ -1,6 +1,5 @@
-ghost use Rattle.std.specs.Prelude.{IfErr};
 ghost use Rattle.std.specs.Int.{w32, w64};
-ghost use Rattle.wasm_imm_control.specs.below.Source.{Reader, Reads, IsShort};
+ghost use Rattle.wasm_imm_control.specs.below.Source.{Reader, Reads, EndsWithin};
 ghost use Rattle.wasm_imm_control.specs.below.Number.{EncodesFixed};
 
 use crate::constants::{Ieee32, Ieee64};
@@ -13,13 +12,11 @@ pub trait ReadImmediates {
     /// Reads four bytes, the lowest first. Specification: Values, Floating-Point. Fails like
     /// `read_bytes`.
     fn read_f32(&mut self) -> Result<Ieee32>
-        ensures reads { Reads (EncodesFixed w32) result (reader self.old) (reader self.new) }
-        ensures end { IfErr result (λ e. IsShort 4 e (reader self.old)) };
+        ensures { Reads (EncodesFixed w32) (EndsWithin 4) result (reader self.old) (reader self.new) };
 
     /// Reads eight bytes, the lowest first. Fails like `read_bytes`.
     fn read_f64(&mut self) -> Result<Ieee64>
-        ensures reads { Reads (EncodesFixed w64) result (reader self.old) (reader self.new) }
-        ensures end { IfErr result (λ e. IsShort 8 e (reader self.old)) };
+        ensures { Reads (EncodesFixed w64) (EndsWithin 8) result (reader self.old) (reader self.new) };
 }
 
 impl ReadImmediates for BinaryReader<'_> {

@@ -1,4 +1,4 @@
-use Rattle.std.proofs.Common.{◌≡◌, ℕ, ◌+◌, ◌-◌, ◌≤◌, List, [], ◌∷◌, ◌++◌, length, ℤ, pos, Ok, refl, sym, subst, ap, ◌∙◌, append_assoc, length-append, length-drop, arith, negsuc, Fits, w32, false, ◌<◌}
+use Rattle.std.proofs.Common.{◌≡◌, ℕ, ◌+◌, ◌-◌, ◌≤◌, List, [], ◌∷◌, ◌++◌, length, Err, inl, inr, ℤ, pos, refl, sym, subst, ap, ◌∙◌, append_assoc, length-append, length-drop, arith, negsuc, Fits, w32, false, ◌<◌}
 use Rattle.std.proofs.lemmas.Bool.{lt-ltb}
 use Rattle.std.proofs.lemmas.Int.{ints}
 use Rattle.std.proofs.Math.Dec.{T}
@@ -10,7 +10,7 @@ use Rattle.wasm_below.specs.declared.types.ValType.TheVariants as value
 use Rattle.wasm_below.specs.Number.{EncodesSigned, FitsWidth, with_sign}
 use Rattle.wasm_below.specs.Refusal.{IsReadFault}
 use Rattle.wasm_below.specs.Sequence.{PrefixCode}
-use Rattle.wasm_below.specs.Source.{Reader, rest, offset_of, at_position, NoPrefix, IsRefusal, Reads}
+use Rattle.wasm_below.specs.Source.{Reader, rest, offset_of, at_position, NoPrefix, HasRead, Reads, S33Fault}
 use Rattle.wasm_below.specs.TypeEncoding.{EncodesValType}
 use Rattle.wasm_below.proofs.PrefixCode.{signed_prefix_code, signed_some}
 use Rattle.wasm_below.proofs.TakesLemmas.{back}
@@ -18,7 +18,10 @@ use Rattle.wasm_below.proofs.TypeEncodings.{index_leads, ref_leads, value_empty}
 use Rattle.wasm_below.proofs.TypePrefixCodes.{value_prefix_code}
 use Rattle.wasm_imm_control.specs.declared.block_type.BlockType.{BlockType}
 use Rattle.wasm_imm_control.specs.declared.block_type.BlockType.TheVariants as block
+use Rattle.wasm_below.proofs.Blocks.{refused_now}
+use Rattle.wasm_below.proofs.Steps.{missing_as}
 use Rattle.wasm_imm_control.specs.BlockTypes.{EncodesBlockType, EncodesFunctionType}
+use Rattle.wasm_imm_control.specs.BlockTypeFaults.{NegativeFault, FunctionTypeFault}
 
 pub short_index : (byte : ℕ) → byte < 64 → EncodesSigned 33 (byte ∷ []) (pos byte)
 short_index byte lt = (omega arith, ap (λ t. with_sign t byte 128) (sym (lt-ltb byte 64 lt)), (omega (arith, ints), omega (arith, ints)))
@@ -58,9 +61,9 @@ no_function text after more n p over t2 more2 (block.Value v) q e = q
 no_function text after more n p over t2 more2 (block.FuncType i) q e =
     over i (signed_prefix_code text t2 33 (after ++ more) more2 n (pos i) p q (sym (append_assoc text after more) ∙ e)).1
 
-pub negative_refused : (e : Error) (old mid new : Reader) (n : ℤ) (position : ℕ) → Reads (EncodesSigned 33) (Ok n) old mid → ((i : ℕ) → n ≡ pos i → ⊥) →
-    position ≡ old.position → new ≡ at_position mid position → e.offset ≡ offset_of mid → IsReadFault e.message →
-    (new ≡ old) × IsRefusal EncodesFunctionType e old
+pub negative_refused : (e : Error) (old mid new : Reader) (n : ℤ) (position : ℕ) → HasRead (EncodesSigned 33) n old mid → ((i : ℕ) → n ≡ pos i → ⊥) →
+    position ≡ old.position → new ≡ at_position mid position → e.offset ≡ offset_of mid → NegativeFault n e.message mid e.offset →
+    Reads EncodesFunctionType FunctionTypeFault (Err e) old new
 negative_refused e old mid new n position (text, p, t) over at went offset fault =
     let some = signed_some text 33 n p in
     let left : length old.buffer - old.position ≡ length text + length (rest mid) = sym (length-drop old.position old.buffer) ∙ ap length t.parts ∙
@@ -70,10 +73,22 @@ negative_refused e old mid new n position (text, p, t) over at went offset fault
       back old mid new text position t at went,
       record {
         refuses = λ more _. subst (λ z. NoPrefix EncodesFunctionType (z ++ more)) (sym t.parts) (no_function text (rest mid) more n p over);
-        fault = fault;
+        fault = subst IsReadFault (sym fault.1) tt;
         ahead = (omega (arith, offset), omega (arith, offset));
       },
+      inr (n, mid, (text, p, t), fault),
     )
+
+function_number : (text : List ℕ) (t : BlockType) → EncodesFunctionType text t → (n : ℤ) × EncodesSigned 33 text n
+function_number text block.Empty p = absurd p
+function_number text (block.Value v) p = absurd p
+function_number text (block.FuncType i) p = (pos i, p)
+
+pub index_missing : (e : Error) (old new : Reader) → Reads (EncodesSigned 33) S33Fault (Err e) old new →
+    Reads EncodesFunctionType FunctionTypeFault (Err e) old new
+index_missing e old new h =
+    missing_as (EncodesSigned 33) EncodesFunctionType S33Fault FunctionTypeFault e old new function_number
+    (λ m offset f. inl (refused_now (EncodesSigned 33) e old h.1, f)) h
 
 pub block_prefix_code : PrefixCode EncodesBlockType
 block_prefix_code [] b x y m n p q e = absurd (block_empty m p)

@@ -1,14 +1,18 @@
-use Rattle.std.proofs.Common.{◌≡◌, ℕ, suc, ◌+◌, ◌-◌, ◌*◌, ◌<◌, ◌≤◌, List, [], ◌∷◌, ◌++◌, length, refl, sym, subst, ap, ◌∙◌, append_assoc, arith, true}
+use Rattle.std.proofs.Common.{◌≡◌, ℕ, suc, ◌+◌, ◌-◌, ◌*◌, ◌<◌, ◌≤◌, List, [], ◌∷◌, ◌++◌, length, inl, inr, refl, sym, subst, ap, ◌∙◌, append_assoc, arith, true}
 use Rattle.std.specs.Prelude.{map, take, Result, Ok, Err, nat_eq}
 use Rattle.std.proofs.Math.Seq.{take-append_seam}
 use Rattle.wasm_below.specs.bytes.error.Error.{Error}
 use Rattle.wasm_below.specs.Number.{EncodesUnsigned, EncodesSize}
-use Rattle.wasm_below.specs.Source.{Reader, rest, at_position, Takes, IsRefusal, Reads}
+use Rattle.wasm_below.specs.Source.{Reader, rest, at_position, Takes, IsRefusal, HasRead, Reads, U32Fault, CountFault}
 use Rattle.wasm_below.specs.Sequence.{Then, PrefixCode}
 use Rattle.wasm_below.proofs.PrefixCode.{unsigned_prefix_code, size_prefix_code}
 use Rattle.wasm_below.proofs.TakesLemmas.{takes_then, same_rest, back}
 use Rattle.wasm_below.proofs.Blocks.{refused_now}
 use Rattle.wasm_below.proofs.Sequences.{then_first, then_second, refuses_by}
+use Rattle.wasm_below.specs.bytes.message.SizeName.TheVariants as size_name
+use Rattle.wasm_below.specs.Fault.{ManyFault}
+use Rattle.wasm_imm_control.specs.BranchTableFaults.{BranchTableFault}
+use Rattle.wasm_imm_control.proofs.Faults.{many_fault, many_wider}
 use Rattle.wasm_imm_control.specs.Lists.{EncodesEach, EncodesMany}
 use Rattle.wasm_imm_control.specs.BranchTables.{BranchTable, AreTargets, EncodesTargets, max_targets, EncodesBranchTable, before_number, with_byte, numbers_of}
 use Rattle.std.proofs.lemmas.Bool.{eqb-true, le-ltb, lt-ltb}
@@ -41,7 +45,7 @@ numbers_are text (n ∷ numbers) (first, after, e, p, ps) =
 pub targets_encoded : (count : ℕ) (bytes : List ℕ) → AreTargets count bytes → EncodesMany (EncodesUnsigned 32) count bytes (numbers_of bytes)
 targets_encoded count bytes (numbers, h) = subst (EncodesMany (EncodesUnsigned 32) count bytes) (sym (numbers_are bytes numbers h.1)) h
 
-pub next_target : (old new : Reader) (result : Result ℕ Error) (count : ℕ) → Reads (EncodesUnsigned 32) result old new → AreTargets count (rest old) →
+pub next_target : (old new : Reader) (result : Result ℕ Error) (count : ℕ) → Reads (EncodesUnsigned 32) U32Fault result old new → AreTargets count (rest old) →
     0 < count → AreTargets (count - 1) (rest new) × (map Ok (numbers_of (rest old)) ≡ result ∷ map Ok (numbers_of (rest new))) ×
     (length (numbers_of (rest old)) ≡ suc (length (numbers_of (rest new))))
 next_target old new (Ok n) count (text, p, takes) ([], (l, e)) some = absurd (omega (arith, l))
@@ -76,39 +80,54 @@ Chain = Then (EncodesSize max_targets) after_count
 to_chain : (text : List ℕ) (t : BranchTable) → EncodesBranchTable text t → Chain text t
 to_chain text t (count, default, e, pc, pt, pd) = (count, t.targets ++ default, t.count, e, pc, (t.targets, default, length t.targets, refl, (refl, pt), pd))
 
-module _ (old mid : Reader) (count : ℕ) (counted : Reads (EncodesSize max_targets) (Ok count) old mid) where
+pub count_missing : (e : Error) (old new : Reader) → Reads (EncodesSize max_targets) (CountFault size_name.BrTable max_targets) (Err e) old new →
+    Reads EncodesBranchTable BranchTableFault (Err e) old new
+count_missing e old new (same, h, f) = (
+  same,
+  refuses_by Chain EncodesBranchTable e old (λ text t s. (t, to_chain text t s)) (then_first (EncodesSize max_targets) after_count e old h),
+  inl (refused_now (EncodesSize max_targets) e old h, f),
+)
+
+module _ (old mid : Reader) (count : ℕ) (counted : HasRead (EncodesSize max_targets) count old mid) where
   chain_refused : (e : Error) (now new : Reader) (text : List ℕ) (position : ℕ) → Takes old now text → position ≡ old.position →
-      new ≡ at_position now position → IsRefusal (after_count count) e mid → (new ≡ old) × IsRefusal EncodesBranchTable e old
-  chain_refused e now new text position t at went h = (
+      new ≡ at_position now position → IsRefusal (after_count count) e mid → ManyFault (EncodesUnsigned 32) U32Fault (suc count) e.message mid e.offset →
+      Reads EncodesBranchTable BranchTableFault (Err e) old new
+  chain_refused e now new text position t at went h fault = (
     back old now new text position t at went,
     refuses_by Chain EncodesBranchTable e old (λ text t s. (
       t,
       to_chain text t s,
     )) (then_second (EncodesSize max_targets) after_count e old mid count (size_prefix_code max_targets) counted h),
+    inr (count, mid, counted, fault),
   )
 
-  pub targets_refused : (e : Error) (mid2 new : Reader) (position : ℕ) → (mid2 ≡ mid) × IsRefusal (EncodesTargets count) e mid → position ≡ old.position →
-      new ≡ at_position mid2 position → (new ≡ old) × IsRefusal EncodesBranchTable e old
-  targets_refused e mid2 new position h at went =
-      chain_refused e mid new counted.0 position counted.2 at (went ∙
-      ap (λ (r : Reader). at_position r position) h.0) (then_first (EncodesTargets count) (default_of count) e mid h.1)
+  pub targets_refused : (e : Error) (mid2 new : Reader) (position : ℕ) →
+      Reads (EncodesTargets count) (ManyFault (EncodesUnsigned 32) U32Fault count) (Err e) mid mid2 → position ≡ old.position →
+      new ≡ at_position mid2 position → Reads EncodesBranchTable BranchTableFault (Err e) old new
+  targets_refused e mid2 new position (same, h, f) at went =
+      chain_refused e mid new counted.0 position counted.2 at (went ∙ ap (λ (r : Reader). at_position r position) same)
+      (then_first (EncodesTargets count) (default_of count) e mid h) (many_wider (EncodesUnsigned 32) U32Fault count e.message mid e.offset f)
 
-  pub default_refused : (e : Error) (now now2 new : Reader) (size position : ℕ) → Reads (EncodesTargets count) (Ok size) mid now →
-      (now2 ≡ now) × IsRefusal (EncodesUnsigned 32) e now → position ≡ old.position → new ≡ at_position now2 position →
-      (new ≡ old) × IsRefusal EncodesBranchTable e old
-  default_refused e now now2 new size position rt h at went =
-      let third = refuses_by (EncodesUnsigned 32) (default_of count size) e now (λ text t s. (t.default, s)) h.1 in
+  pub default_refused : (e : Error) (now now2 new : Reader) (size position : ℕ) → HasRead (EncodesTargets count) size mid now →
+      Reads (EncodesUnsigned 32) U32Fault (Err e) now now2 → position ≡ old.position → new ≡ at_position now2 position →
+      Reads EncodesBranchTable BranchTableFault (Err e) old new
+  default_refused e now now2 new size position rt (same, h, f) at went =
+      let third = refuses_by (EncodesUnsigned 32) (default_of count size) e now (λ text t s. (t.default, s)) h in
+      let numbers = rt.1.1 in
+      let few : length numbers.0 < suc count = omega (arith, numbers.1.0) in
       chain_refused e now new (counted.0 ++ rt.0) position (takes_then old mid now counted.0 rt.0 counted.2 rt.2) at (went ∙
-      ap (λ (r : Reader). at_position r position) h.0)
+      ap (λ (r : Reader). at_position r position) same)
       (then_second (EncodesTargets count) (default_of count) e mid now size (targets_prefix_code count) rt third)
+      (many_fault (EncodesUnsigned 32) U32Fault (suc count) numbers.0 rt.0 mid now e.message e.offset few numbers.1.1 rt.2
+      (refused_now (EncodesUnsigned 32) e now h) f)
 
-  pub targets_taken : (now : Reader) (size : ℕ) (bytes : List ℕ) → bytes ≡ rest mid → (rt : Reads (EncodesTargets count) (Ok size) mid now) →
+  pub targets_taken : (now : Reader) (size : ℕ) (bytes : List ℕ) → bytes ≡ rest mid → (rt : HasRead (EncodesTargets count) size mid now) →
       take size bytes ≡ rt.0
   targets_taken now size bytes same rt = ap (take size) (same ∙ rt.2.parts) ∙ ap (λ n. take n (rt.0 ++ rest now)) rt.1.0 ∙ take-append_seam rt.0 (rest now)
 
-  pub table_read : (now new : Reader) (size default : ℕ) (bytes : List ℕ) → bytes ≡ rest mid → Reads (EncodesTargets count) (Ok size) mid now →
-      Reads (EncodesUnsigned 32) (Ok default) now new →
-      Reads EncodesBranchTable (Ok (record { count = count; targets = take size bytes; default = default })) old new
+  pub table_read : (now new : Reader) (size default : ℕ) (bytes : List ℕ) → bytes ≡ rest mid → HasRead (EncodesTargets count) size mid now →
+      HasRead (EncodesUnsigned 32) default now new →
+      HasRead EncodesBranchTable (record { count = count; targets = take size bytes; default = default }) old new
   table_read now new size default bytes same rt rd =
       let taken : take size bytes ≡ rt.0 = targets_taken now size bytes same rt in (
         counted.0 ++ (rt.0 ++ rd.0),
@@ -138,13 +157,16 @@ table_prefix_code a b x y s t (c1, d1, ea, pc, (m, pm), pd) (c2, d2, eb, qc, (n,
     three p q r z = append_assoc p (q ++ r) z ∙ ap (λ w. p ++ w) (append_assoc q r z)
 
 pub target_refused : (e : Error) (old now now2 new : Reader) (text : List ℕ) (done : List ℕ) (read count position : ℕ) →
-    EncodesMany (EncodesUnsigned 32) read text done → read < count → Takes old now text → (now2 ≡ now) × IsRefusal (EncodesUnsigned 32) e now →
-    position ≡ old.position → new ≡ at_position now2 position → (new ≡ old) × IsRefusal (EncodesTargets count) e old
-target_refused e old now now2 new text done read count position d l t h at went = (
-  back old now new text position t at (went ∙ ap (λ (r : Reader). at_position r position) h.0),
-  refuses_by (EncodesMany (EncodesUnsigned 32) count) (EncodesTargets count) e old (λ text n s. s.1)
-      (many_refused (EncodesUnsigned 32) e old now text done read count (λ a b x y m n p q e. (number_prefix_code 32 a b x y m n p q e).0) d l t h.1),
-)
+    EncodesMany (EncodesUnsigned 32) read text done → read < count → Takes old now text → Reads (EncodesUnsigned 32) U32Fault (Err e) now now2 →
+    position ≡ old.position → new ≡ at_position now2 position →
+    Reads (EncodesTargets count) (ManyFault (EncodesUnsigned 32) U32Fault count) (Err e) old new
+target_refused e old now now2 new text done read count position d l t (same, h, f) at went =
+    let few : length done < count = omega (arith, d.0, l) in (
+      back old now new text position t at (went ∙ ap (λ (r : Reader). at_position r position) same),
+      refuses_by (EncodesMany (EncodesUnsigned 32) count) (EncodesTargets count) e old (λ text n s. s.1)
+          (many_refused (EncodesUnsigned 32) e old now text done read count (λ a b x y m n p q e. (number_prefix_code 32 a b x y m n p q e).0) d l t h),
+      many_fault (EncodesUnsigned 32) U32Fault count done text old now e.message e.offset few d.1 t (refused_now (EncodesUnsigned 32) e now h) f,
+    )
 
 pub equal_targets : (s t : BranchTable) (m n : List ℕ) → same_table s t ≡ true → EncodesMany (EncodesUnsigned 32) s.count s.targets m →
     EncodesMany (EncodesUnsigned 32) t.count t.targets n → (m ≡ n) × (s.default ≡ t.default)

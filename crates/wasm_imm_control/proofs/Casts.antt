@@ -1,14 +1,19 @@
-use Rattle.std.proofs.Common.{◌≡◌, ℕ, zero, suc, ◌≤◌, ◌/◌, ◌%◌, Bool, true, false, List, [], ◌∷◌, ◌++◌, Ok, refl, sym, ap, ◌∙◌, arith}
+use Rattle.std.proofs.Common.{◌≡◌, ℕ, zero, suc, ◌≤◌, ◌/◌, ◌%◌, Bool, true, false, List, [], ◌∷◌, ◌++◌, Err, inl, inr, refl, sym, ap, ◌∙◌, arith}
 use Rattle.std.specs.Prelude.{◌==◌}
 use Rattle.wasm_below.specs.bytes.error.Error.{Error}
 use Rattle.wasm_below.specs.Number.{EncodesUnsigned}
 use Rattle.wasm_below.specs.Reference.{Reference}
 use Rattle.wasm_below.specs.Sequence.{Then, PrefixCode}
-use Rattle.wasm_below.specs.Source.{Reader, at_position, Takes, IsRefusal, Reads, IsByte}
+use Rattle.wasm_below.specs.Source.{Reader, offset_of, at_position, Takes, IsRefusal, HasRead, Reads, IsByte, U32Fault}
 use Rattle.wasm_below.proofs.Sequences.{then_first, then_second, then_prefix_code, refuses_by}
 use Rattle.wasm_below.proofs.TakesLemmas.{back, takes_then}
 use Rattle.wasm_below.proofs.TypePrefixCodes.{heap_prefix_code, same_reference}
 use Rattle.wasm_imm_control.specs.declared.cast.Cast.{Cast}
+use Rattle.wasm_below.specs.Fault.{ThenFault}
+use Rattle.wasm_below.specs.TypeEncoding.{HeapTypeFault}
+use Rattle.wasm_below.proofs.Blocks.{refused_now}
+use Rattle.wasm_imm_control.proofs.Faults.{no_heap_type, heap_type_read}
+use Rattle.wasm_imm_control.specs.CastFaults.{CastTypesFault, CastFault}
 use Rattle.wasm_imm_control.specs.Casts.{cast_flags, EncodesCast, EncodesReference}
 use Rattle.wasm_below.proofs.PrefixCode.{byte_prefix_code}
 use Rattle.wasm_below.proofs.Steps.{number_prefix_code}
@@ -108,42 +113,52 @@ cast_prefix_code a b x y c d p q e = parts a b x y c d (to_parts a c p) (to_part
     parts : PrefixCode Parts
     parts = then_prefix_code IsByte First byte_prefix_code first
 
-module _ (old mid : Reader) (flags : ℕ) (flagged : Reads IsByte (Ok flags) old mid) where
+module _ (old mid : Reader) (flags : ℕ) (flagged : HasRead IsByte flags old mid) where
   parts_refused : (e : Error) (now new : Reader) (text : List ℕ) (position : ℕ) → Takes old now text → position ≡ old.position →
-      new ≡ at_position now position → IsRefusal (Then (EncodesUnsigned 32) (Second flags)) e mid → (new ≡ old) × IsRefusal EncodesCast e old
-  parts_refused e now new text position t at went h = (
+      new ≡ at_position now position → IsRefusal (Then (EncodesUnsigned 32) (Second flags)) e mid →
+      ThenFault (EncodesUnsigned 32) U32Fault (λ label. CastTypesFault (offset_of old) flags) e.message mid e.offset →
+      Reads EncodesCast CastFault (Err e) old new
+  parts_refused e now new text position t at went h fault = (
     back old now new text position t at went,
     refuses_by Parts EncodesCast e old (λ text c s. (
       c,
       to_parts text c s,
     )) (then_second IsByte First e old mid flags byte_prefix_code flagged
         (refuses_by (Then (EncodesUnsigned 32) (Second flags)) (First flags) e mid (λ text c s. (c, s.1)) h)),
+    inr (flags, mid, flagged, fault),
   )
 
-  pub first_refused : (e : Error) (now now2 new : Reader) (depth position : ℕ) → Reads (EncodesUnsigned 32) (Ok depth) mid now →
-      (now2 ≡ now) × IsRefusal (EncodesReference (first_null flags)) e now → position ≡ old.position → new ≡ at_position now2 position →
-      (new ≡ old) × IsRefusal EncodesCast e old
-  first_refused e now now2 new depth position rd h at went =
-      parts_refused e now new (flagged.0 ++ rd.0) position (takes_then old mid now flagged.0 rd.0 flagged.2 rd.2) at (went ∙
-      ap (λ (r : Reader). at_position r position) h.0)
-      (then_second (EncodesUnsigned 32) (Second flags) e mid now depth (number_prefix_code 32) rd
-      (then_first (EncodesReference (first_null flags)) (Third flags depth) e now h.1))
+  pub label_refused : (e : Error) (mid2 new : Reader) (position : ℕ) → Reads (EncodesUnsigned 32) U32Fault (Err e) mid mid2 → position ≡ old.position →
+      new ≡ at_position mid2 position → Reads EncodesCast CastFault (Err e) old new
+  label_refused e mid2 new position (same, h, f) at went =
+      parts_refused e mid new flagged.0 position flagged.2 at (went ∙ ap (λ (r : Reader). at_position r position) same)
+      (then_first (EncodesUnsigned 32) (Second flags) e mid h) (inl (refused_now (EncodesUnsigned 32) e mid h, f))
 
-  pub second_refused : (e : Error) (now last last2 new : Reader) (depth : ℕ) (from : Reference) (position : ℕ) →
-      Reads (EncodesUnsigned 32) (Ok depth) mid now → Reads (EncodesReference (first_null flags)) (Ok from) now last →
-      (last2 ≡ last) × IsRefusal (EncodesReference (second_null flags)) e last → position ≡ old.position → new ≡ at_position last2 position →
-      (new ≡ old) × IsRefusal EncodesCast e old
-  second_refused e now last last2 new depth from position rd rf h at went =
+  pub first_refused : (e : Error) (now now2 new : Reader) (depth position : ℕ) → flags ≤ 3 → HasRead (EncodesUnsigned 32) depth mid now →
+      Reads (EncodesReference (first_null flags)) HeapTypeFault (Err e) now now2 → position ≡ old.position → new ≡ at_position now2 position →
+      Reads EncodesCast CastFault (Err e) old new
+  first_refused e now now2 new depth position low rd (same, h, f) at went =
+      parts_refused e now new (flagged.0 ++ rd.0) position (takes_then old mid now flagged.0 rd.0 flagged.2 rd.2) at (went ∙
+      ap (λ (r : Reader). at_position r position) same)
+      (then_second (EncodesUnsigned 32) (Second flags) e mid now depth (number_prefix_code 32) rd
+      (then_first (EncodesReference (first_null flags)) (Third flags depth) e now h))
+      (inr (depth, now, rd, inr (low, inl (no_heap_type (first_null flags) e now h, f))))
+
+  pub second_refused : (e : Error) (now last last2 new : Reader) (depth : ℕ) (from : Reference) (position : ℕ) → flags ≤ 3 →
+      HasRead (EncodesUnsigned 32) depth mid now → HasRead (EncodesReference (first_null flags)) from now last →
+      Reads (EncodesReference (second_null flags)) HeapTypeFault (Err e) last last2 → position ≡ old.position → new ≡ at_position last2 position →
+      Reads EncodesCast CastFault (Err e) old new
+  second_refused e now last last2 new depth from position low rd rf (same, h, f) at went =
       let taken = takes_then old now last (flagged.0 ++ rd.0) rf.0 (takes_then old mid now flagged.0 rd.0 flagged.2 rd.2) rf.2 in
-      let third = refuses_by (EncodesReference (second_null flags)) (Third flags depth from) e last (λ text c s. (c.to, s.0)) h.1 in
-      parts_refused e last new ((flagged.0 ++ rd.0) ++ rf.0) position taken at (went ∙
-      ap (λ (r : Reader). at_position r position) h.0)
+      let third = refuses_by (EncodesReference (second_null flags)) (Third flags depth from) e last (λ text c s. (c.to, s.0)) h in
+      parts_refused e last new ((flagged.0 ++ rd.0) ++ rf.0) position taken at (went ∙ ap (λ (r : Reader). at_position r position) same)
       (then_second (EncodesUnsigned 32) (Second flags) e mid now depth (number_prefix_code 32) rd
       (then_second (EncodesReference (first_null flags)) (Third flags depth) e now last from (reference_prefix_code (first_null flags)) rf third))
+      (inr (depth, now, rd, inr (low, inr (from.heap_type, last, heap_type_read (first_null flags) from now last rf, f))))
 
-  pub cast_read : (now last new : Reader) (depth : ℕ) (from to : Reference) → flags ≤ 3 → Reads (EncodesUnsigned 32) (Ok depth) mid now →
-      Reads (EncodesReference (first_null flags)) (Ok from) now last → Reads (EncodesReference (second_null flags)) (Ok to) last new →
-      Reads EncodesCast (Ok (cast_of depth from to)) old new
+  pub cast_read : (now last new : Reader) (depth : ℕ) (from to : Reference) → flags ≤ 3 → HasRead (EncodesUnsigned 32) depth mid now →
+      HasRead (EncodesReference (first_null flags)) from now last → HasRead (EncodesReference (second_null flags)) to last new →
+      HasRead EncodesCast (cast_of depth from to) old new
   cast_read now last new depth from to le rd rf rt =
       let byte : cast_flags from.nullable to.nullable ≡ flags = ap (λ z. cast_flags z to.nullable) rf.1.0 ∙ ap (cast_flags (first_null flags)) rt.1.0 ∙
       flags_restored flags le in (

@@ -1,4 +1,4 @@
-use Rattle.std.proofs.Common.{◌≤◌, ◌≡◌, ◌≢◌, ℕ, zero, suc, ◌+◌, ◌<◌, inl, inr, Bool, List, [], ◌∷◌, ◌++◌, length, drop, Result, Ok, Err, IfErr, refl, sym, subst, ap, ◌∙◌, append_assoc, length-append, arith}
+use Rattle.std.proofs.Common.{◌≤◌, ◌≡◌, ◌≢◌, ℕ, zero, suc, ◌+◌, ◌<◌, inl, inr, Bool, List, [], ◌∷◌, ◌++◌, length, drop, refl, sym, subst, ap, ◌∙◌, append_assoc, length-append, arith}
 use Rattle.std.proofs.Math.Seq.{drop-append_seam}
 use Rattle.std.proofs.lemmas.List.{drop-drop, append-nil}
 use Rattle.wasm_below.specs.bytes.error.Error.{Error}
@@ -7,12 +7,11 @@ use Rattle.wasm_below.specs.bytes.message.Message.TheVariants as message
 use Rattle.wasm_below.specs.bytes.message.LeadingByteName.{LeadingByteName}
 use Rattle.wasm_below.specs.Fault.{ManyFault}
 use Rattle.wasm_below.specs.Number.{EncodesSigned}
-use Rattle.wasm_below.specs.Source.{Reader, rest, end_of, at_position, Takes, BeginsWith, NoPrefix, MayFollow, Refuses, IsRefusal, IsEndHere, Reads, IsByte, S33Fault, last_offset}
+use Rattle.wasm_below.specs.Source.{Reader, rest, end_of, at_position, Takes, BeginsWith, NoPrefix, MayFollow, Refuses, IsRefusal, IsEndHere, HasRead, IsByte, S33Fault, last_offset}
 use Rattle.wasm_below.specs.Reference.{Reference}
 use Rattle.wasm_below.specs.TypeEncoding.{EncodesHeapType}
 use Rattle.wasm_below.proofs.Blocks.{refused_now}
 use Rattle.wasm_below.proofs.Prefixes.{end_refused}
-use Rattle.wasm_imm_control.specs.declared.block_type.BlockType.{BlockType}
 use Rattle.wasm_imm_control.specs.Lists.{EncodesEach}
 use Rattle.wasm_imm_control.specs.BlockTypeFaults.{LeadsValType, FunctionTypeFault, BlockTypeFault}
 use Rattle.wasm_imm_control.specs.Casts.{EncodesReference}
@@ -68,8 +67,8 @@ pub no_heap_type : (nullable : Bool) (e : Error) (r : Reader) → IsRefusal (Enc
 no_heap_type nullable e r h text more ty p eq =
     refused_now (EncodesReference nullable) e r h text more (record { nullable = nullable; heap_type = ty }) (refl, p) eq
 
-pub heap_type_read : (nullable : Bool) (reference : Reference) (old new : Reader) → Reads (EncodesReference nullable) (Ok reference) old new →
-    Reads EncodesHeapType (Ok reference.heap_type) old new
+pub heap_type_read : (nullable : Bool) (reference : Reference) (old new : Reader) → HasRead (EncodesReference nullable) reference old new →
+    HasRead EncodesHeapType reference.heap_type old new
 heap_type_read nullable reference old new (text, p, takes) = (text, p.1, takes)
 
 pub block_ended : (e : Error) (r : Reader) → IsEndHere e r → BlockTypeFault e.message r e.offset
@@ -79,7 +78,6 @@ block_ended e r h =
     let fault : S33Fault e.message r e.offset = subst (λ m. S33Fault m r e.offset) (sym h.0) ((h.1 ∙ h.2, near), tt) in
     inr (λ byte lead prefix. no_byte r byte h.2 prefix, inl (refused_now (EncodesSigned 33) e r (end_refused (EncodesSigned 33) e r (λ x p. p) h), fault))
 
-pub index_fault : (result : Result BlockType Error) (r : Reader) (b : ℕ) → BeginsWith b (rest r) → (LeadsValType b → ⊥) →
-    IfErr result (λ e. FunctionTypeFault e.message r e.offset) → IfErr result (λ e. BlockTypeFault e.message r e.offset)
-index_fault (Ok t) r b prefix far h = tt
-index_fault (Err e) r b (after, prefix) far h = inr (λ byte lead (more, same). far (let is : byte ≡ b = cc (same, prefix) in subst LeadsValType is lead), h)
+pub index_fault : (r : Reader) (b : ℕ) → BeginsWith b (rest r) → (LeadsValType b → ⊥) → (m : Message) (offset : ℕ) → FunctionTypeFault m r offset →
+    BlockTypeFault m r offset
+index_fault r b (after, prefix) far m offset h = inr (λ byte lead (more, same). far (let is : byte ≡ b = cc (same, prefix) in subst LeadsValType is lead), h)

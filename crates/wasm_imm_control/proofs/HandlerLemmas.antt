@@ -1,17 +1,20 @@
-use Rattle.std.proofs.Common.{◌≡◌, ℕ, ◌≤◌, List, ◌∷◌, ◌++◌, Ok, refl, sym, ap, ◌∙◌, append_assoc, arith}
+use Rattle.std.proofs.Common.{◌≡◌, ℕ, ◌≤◌, List, [], ◌∷◌, ◌++◌, Err, inl, refl, sym, ap, ◌∙◌, append_assoc, arith}
 use Rattle.wasm_below.specs.bytes.error.Error.{Error}
 use Rattle.wasm_below.specs.Number.{EncodesUnsigned}
 use Rattle.wasm_below.specs.Sequence.{Then, PrefixCode}
-use Rattle.wasm_below.specs.Source.{Reader, at_position, IsRefusal, Reads}
+use Rattle.wasm_below.specs.Source.{Reader, at_position, HasRead, Reads, IsByte, U32Fault, EndFault}
 use Rattle.wasm_below.proofs.PrefixCode.{unsigned_prefix_code}
 use Rattle.wasm_below.proofs.TakesLemmas.{same_rest, takes_then}
-use Rattle.wasm_below.proofs.Sequences.{refuses_by}
 use Rattle.wasm_imm_control.specs.declared.handlers.Catch.{Catch}
 use Rattle.wasm_imm_control.specs.declared.handlers.Catch.TheVariants as clause
 use Rattle.wasm_imm_control.specs.declared.handlers.Handle.{Handle}
 use Rattle.wasm_imm_control.specs.declared.handlers.Handle.TheVariants as handle
 use Rattle.wasm_imm_control.specs.Handlers.{EncodesPair, catch_byte, EncodesCatchIndices, EncodesCatch, handle_byte, EncodesHandleIndices, EncodesHandle, IsCatchAfterByte, IsHandleAfterByte}
-use Rattle.wasm_below.proofs.Steps.{number_prefix_code, second_refused}
+use Rattle.wasm_below.proofs.Prefixes.{end_refused}
+use Rattle.wasm_below.proofs.Steps.{number_prefix_code, first_missing, second_missing, missing_as}
+use Rattle.wasm_below.specs.bytes.message.LeadingByteName.TheVariants as leading_name
+use Rattle.wasm_imm_control.specs.HandlerFaults.{PairFault, CatchFault, HandleFault}
+use Rattle.wasm_imm_control.proofs.Faults.{leading_ended}
 
 pub pair_prefix_code : PrefixCode EncodesPair
 pair_prefix_code a b x y m n (a1, a2, ea, pa, qa) (b1, b2, eb, pb, qb) e =
@@ -23,18 +26,24 @@ pair_prefix_code a b x y m n (a1, a2, ea, pa, qa) (b1, b2, eb, pb, qb) e =
 abbrev second_of : ℕ → List ℕ → ℕ × ℕ → Type 0
 second_of first text p = EncodesUnsigned 32 text p.1
 
-pub pair_refused : (e : Error) (old mid mid2 new : Reader) (first position : ℕ) → Reads (EncodesUnsigned 32) (Ok first) old mid →
-    (mid2 ≡ mid) × IsRefusal (EncodesUnsigned 32) e mid → position ≡ old.position → new ≡ at_position mid2 position →
-    (new ≡ old) × IsRefusal EncodesPair e old
-pair_refused e old mid mid2 new first position r h at went =
-    let s = second_refused (EncodesUnsigned 32) second_of e old mid mid2 new first position (number_prefix_code 32) r (
-      h.0,
-      refuses_by (EncodesUnsigned 32) (second_of first) e mid (λ text p q. (p.1, q)) h.1,
-    ) at went in
-    (s.0, refuses_by (Then (EncodesUnsigned 32) second_of) EncodesPair e old (λ text p (a, b, ab, pa, pb). (p, (a, b, p.0, ab, pa, pb))) s.1)
+pair_as : (e : Error) (old new : Reader) → Reads (Then (EncodesUnsigned 32) second_of) PairFault (Err e) old new → Reads EncodesPair PairFault (Err e) old new
+pair_as e old new =
+    missing_as (Then (EncodesUnsigned 32) second_of) EncodesPair PairFault PairFault e old new (λ text p (a, b, ab, pa, pb). (p, (a, b, p.0, ab, pa, pb)))
+    (λ m offset h. h)
 
-pub pair_read : (old mid new : Reader) (first second : ℕ) → Reads (EncodesUnsigned 32) (Ok first) old mid → Reads (EncodesUnsigned 32) (Ok second) mid new →
-    Reads EncodesPair (Ok (first, second)) old new
+pub pair_missing : (e : Error) (old new : Reader) → Reads (EncodesUnsigned 32) U32Fault (Err e) old new → Reads EncodesPair PairFault (Err e) old new
+pair_missing e old new h = pair_as e old new (first_missing (EncodesUnsigned 32) second_of U32Fault (λ tag. U32Fault) e old new h)
+
+pub pair_refused : (e : Error) (old mid mid2 new : Reader) (first position : ℕ) → HasRead (EncodesUnsigned 32) first old mid →
+    Reads (EncodesUnsigned 32) U32Fault (Err e) mid mid2 → position ≡ old.position → new ≡ at_position mid2 position →
+    Reads EncodesPair PairFault (Err e) old new
+pair_refused e old mid mid2 new first position r h at went =
+    let second = missing_as (EncodesUnsigned 32) (second_of first) U32Fault U32Fault e mid mid2 (λ text p q. (p.1, q)) (λ m offset f. f) h in
+    pair_as e old new (second_missing (EncodesUnsigned 32) second_of U32Fault (λ tag. U32Fault) e old mid mid2 new first position (number_prefix_code 32) r
+    second at went)
+
+pub pair_read : (old mid new : Reader) (first second : ℕ) → HasRead (EncodesUnsigned 32) first old mid → HasRead (EncodesUnsigned 32) second mid new →
+    HasRead EncodesPair (first, second) old new
 pair_read old mid new first second (a, p, s) (b, q, t) = (a ++ b, (a, b, refl, p, q), takes_then old mid new a b s t)
 
 catch_indices_prefix_code : (a b x y : List ℕ) (m n : Catch) → EncodesCatchIndices a m → EncodesCatchIndices b n → catch_byte m ≡ catch_byte n →
@@ -91,3 +100,18 @@ handle_prefix_code a b x y m n (a2, ea, p) (b2, eb, q) e =
 pub handle_pair : (byte : ℕ) → byte ≡ 0 → (text : List ℕ) (h : Handle) → IsHandleAfterByte byte text h → (p : ℕ × ℕ) × EncodesPair text p
 handle_pair byte none text (handle.OnLabel tag label) h = ((tag, label), h.1)
 handle_pair byte none text (handle.OnSwitch tag) h = absurd (omega (arith, h.0))
+
+-- the data ends at the first byte
+pub catch_missing : (e : Error) (old new : Reader) → Reads IsByte EndFault (Err e) old new → Reads EncodesCatch CatchFault (Err e) old new
+catch_missing e old new (same, h, f) = (
+  same,
+  end_refused EncodesCatch e old (λ c p. let none : [] ≡ catch_byte c ∷ p.0 = p.1 in cc none) f,
+  inl (leading_ended leading_name.Catch 3 e old h f),
+)
+
+pub handle_missing : (e : Error) (old new : Reader) → Reads IsByte EndFault (Err e) old new → Reads EncodesHandle HandleFault (Err e) old new
+handle_missing e old new (same, h, f) = (
+  same,
+  end_refused EncodesHandle e old (λ c p. let none : [] ≡ handle_byte c ∷ p.0 = p.1 in cc none) f,
+  inl (leading_ended leading_name.OnClause 1 e old h f),
+)

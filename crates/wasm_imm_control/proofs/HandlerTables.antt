@@ -1,11 +1,18 @@
-use Rattle.std.proofs.Common.{◌≡◌, ◌≢◌, ℕ, ◌+◌, ◌<◌, true, List, [], ◌∷◌, ◌++◌, length, Ok, refl, sym, ap, ◌∙◌, append_assoc, arith}
+use Rattle.std.proofs.Common.{◌≡◌, ◌≢◌, ℕ, ◌+◌, ◌<◌, inl, true, List, [], ◌∷◌, ◌++◌, length, Err, refl, sym, subst, ap, ◌∙◌, append_assoc, arith}
+use Rattle.std.specs.Prelude.{⊤}
 use Rattle.wasm_below.specs.bytes.error.Error.{Error}
 use Rattle.wasm_below.specs.declared.types.ValType.{ValType}
-use Rattle.wasm_below.specs.FromReader.{IsRefused}
+use Rattle.wasm_below.specs.FromReader.{ReadsValue}
+use Rattle.wasm_below.specs.bytes.message.SizeName.TheVariants as size_name
+use Rattle.wasm_below.specs.Fault.{ManyFault}
 use Rattle.wasm_below.specs.Number.{EncodesSize}
+use Rattle.wasm_below.proofs.Blocks.{refused_now}
+use Rattle.wasm_imm_control.specs.BlockTypeFaults.{BlockTypeFault}
+use Rattle.wasm_imm_control.specs.HandlerFaults.{CatchFault}
+use Rattle.wasm_imm_control.specs.ListFaults.{ListFault, TryTableFault, SelectFault}
 use Rattle.wasm_below.specs.Sequence.{Then, PrefixCode}
-use Rattle.wasm_below.specs.Source.{Reader, rest, at_position, NoPrefix, IsRefusal, Reads}
-use Rattle.wasm_below.specs.TypeEncoding.{EncodesValType}
+use Rattle.wasm_below.specs.Source.{Reader, rest, at_position, NoPrefix, SomePrefix, IsRefusal, HasRead, Reads, CountFault}
+use Rattle.wasm_below.specs.TypeEncoding.{EncodesValType, ValTypeFault}
 use Rattle.wasm_below.proofs.PrefixCode.{unsigned_prefix_code, size_prefix_code}
 use Rattle.wasm_below.proofs.TakesLemmas.{same_rest, takes_then}
 use Rattle.wasm_below.proofs.TypePrefixCodes.{value_prefix_code}
@@ -18,14 +25,14 @@ use Rattle.wasm_imm_control.specs.declared.select.Select.{Select}
 use Rattle.wasm_imm_control.specs.declared.select.Select.TheVariants as select
 use Rattle.wasm_imm_control.specs.BlockTypes.{EncodesBlockType}
 use Rattle.wasm_imm_control.specs.Handlers.{EncodesCatch, EncodesHandle}
-use Rattle.wasm_imm_control.specs.HandlerTables.{max_catches, max_handlers, max_select_types, EncodesTryTable, EncodesResumeTable, EncodesSelect, EncodesOne}
-use Rattle.wasm_imm_control.specs.Lists.{EncodesEach, EncodesMany, EncodesList}
+use Rattle.wasm_imm_control.specs.HandlerTables.{max_catches, max_handlers, max_select_types, EncodesTryTable, EncodesTryTableCount, EncodesResumeTable, EncodesSelect, EncodesOne, SelectAllocates}
+use Rattle.wasm_imm_control.specs.Lists.{EncodesEach, EncodesMany, EncodesList, HasCount}
 use Rattle.wasm_imm_control.specs.OutOfMemory.{IsRefusedFrom}
 use Rattle.wasm_imm_control.proofs.BlockTypes.{block_prefix_code, block_empty}
 use Rattle.wasm_imm_control.proofs.HandlerLemmas.{catch_prefix_code, handle_prefix_code}
 use Rattle.wasm_imm_control.proofs.ListLemmas.{list_prefix_code}
-use Rattle.wasm_imm_control.proofs.ListRefusals.{begun_refused, refused_by, as_refused}
-use Rattle.wasm_below.proofs.Steps.{unsigned_some, second_refused}
+use Rattle.wasm_imm_control.proofs.ListRefusals.{begun_refused, refused_by, as_refused, some_read, some_then}
+use Rattle.wasm_below.proofs.Steps.{unsigned_some, first_missing, second_missing}
 
 resume_of : List Handle → ResumeTable
 resume_of handlers = record { handlers = handlers }
@@ -53,15 +60,35 @@ block_some (c ∷ text) t p = omega arith
 abbrev after_type : BlockType → List ℕ → TryTable → Type 0
 after_type ty text t = EncodesList max_catches EncodesCatch text t.catches
 
-pub catches_refused : (e f : Error) (old mid mid2 new : Reader) (ty : BlockType) (position : ℕ) → Reads EncodesBlockType (Ok ty) old mid →
-    (mid2 ≡ mid) × IsRefused (EncodesList max_catches EncodesCatch) true e mid → position ≡ old.position → new ≡ at_position mid2 position →
-    IsRefusedFrom (mid2.start + position) e f → (new ≡ old) × IsRefused EncodesTryTable true f old
+pub type_missing : (e : Error) (old new : Reader) → Reads EncodesBlockType BlockTypeFault (Err e) old new →
+    ReadsValue EncodesTryTable TryTableFault (λ r. SomePrefix EncodesTryTableCount (rest r)) (Err e) old new
+type_missing e old new h =
+    let Memory = λ (r : Reader). SomePrefix EncodesTryTableCount (rest r) in
+    let s = first_missing EncodesBlockType after_type BlockTypeFault (λ ty. ListFault size_name.Catches max_catches EncodesCatch CatchFault) e old new h in (
+      s.0,
+      refused_by (Then EncodesBlockType after_type) EncodesTryTable TryTableFault TryTableFault Memory Memory e old
+          (λ text t (a, b, ab, pa, pb). (t, (a, b, t.ty, ab, pa, pb))) (λ m offset x. x) (λ x. x)
+          (as_refused (Then EncodesBlockType after_type) TryTableFault Memory e old s.1 s.2),
+    )
+
+pub catches_refused : (e f : Error) (old mid mid2 new : Reader) (ty : BlockType) (position : ℕ) → HasRead EncodesBlockType ty old mid →
+    ReadsValue (EncodesList max_catches EncodesCatch) (ListFault size_name.Catches max_catches EncodesCatch CatchFault) (HasCount max_catches) (Err e) mid mid2 →
+    position ≡ old.position → new ≡ at_position mid2 position → IsRefusedFrom (mid2.start + position) e f →
+    ReadsValue EncodesTryTable TryTableFault (λ r. SomePrefix EncodesTryTableCount (rest r)) (Err f) old new
 catches_refused e f old mid mid2 new ty position r h at went begun =
-    let s = begun_refused EncodesBlockType after_type e f old mid mid2 new ty position block_prefix_code (λ text p. block_some text ty p) r (
+    let Catches = ListFault size_name.Catches max_catches EncodesCatch CatchFault in
+    let Memory = λ (r : Reader). SomePrefix EncodesTryTableCount (rest r) in
+    let memory = λ (k : HasCount max_catches mid). some_then EncodesBlockType (λ ty. EncodesSize max_catches) old mid ty r k in
+    let s = begun_refused EncodesBlockType after_type BlockTypeFault (λ ty. Catches) (HasCount max_catches) Memory e f old mid mid2 new ty position
+    block_prefix_code (λ text p. block_some text ty p) r (
       h.0,
-      refused_by (EncodesList max_catches EncodesCatch) (after_type ty) true e mid (λ text t q. (t.catches, q)) h.1,
-    ) at went begun in
-    (s.0, refused_by (Then EncodesBlockType after_type) EncodesTryTable true f old (λ text t (a, b, ab, pa, pb). (t, (a, b, t.ty, ab, pa, pb))) s.1)
+      refused_by (EncodesList max_catches EncodesCatch) (after_type ty) Catches Catches (HasCount max_catches) (HasCount max_catches) e mid
+          (λ text t q. (t.catches, q)) (λ m offset x. x) (λ x. x) h.1,
+    ) memory at went begun in (
+      s.0,
+      refused_by (Then EncodesBlockType after_type) EncodesTryTable TryTableFault TryTableFault Memory Memory f old
+          (λ text t (a, b, ab, pa, pb). (t, (a, b, t.ty, ab, pa, pb))) (λ m offset x. x) (λ x. x) s.1,
+    )
 
 types_of : Select → List ValType
 types_of (select.One ty) = ty ∷ []
@@ -83,30 +110,50 @@ select_prefix_code a b x y (select.Multi ts) (select.One u) p q e = let o =
 select_prefix_code a b x y (select.Multi ts) (select.Multi us) p q e = let o =
     list_prefix_code max_select_types EncodesValType value_prefix_code a b x y ts us p.0 q.0 e in (o.0, ap select.Multi o.1)
 
-pub types_refused : (e f : Error) (old mid mid2 new : Reader) (count position : ℕ) → Reads (EncodesSize max_select_types) (Ok count) old mid →
-    (mid2 ≡ mid) × IsRefused (EncodesMany EncodesValType count) true e mid → position ≡ old.position → new ≡ at_position mid2 position →
-    IsRefusedFrom (mid2.start + position) e f → (new ≡ old) × IsRefused EncodesSelect true f old
-types_refused e f old mid mid2 new count position r h at went begun =
-    let s = begun_refused (EncodesSize max_select_types) (EncodesMany EncodesValType) e f old mid mid2 new count position (size_prefix_code max_select_types)
-    (λ text p. unsigned_some 32 text count p.0) r h at went begun in
-    (s.0, refused_by (EncodesList max_select_types EncodesValType) EncodesSelect true f old (λ text t p. (types_of t, select_types text t p)) s.1)
-
-pub type_refused : (e : Error) (old mid mid2 new : Reader) (count position : ℕ) → count ≡ 1 → Reads (EncodesSize max_select_types) (Ok count) old mid →
-    (mid2 ≡ mid) × IsRefusal EncodesValType e mid → position ≡ old.position → new ≡ at_position mid2 position →
-    (new ≡ old) × IsRefused EncodesSelect true e old
-type_refused e old mid mid2 new count position one r h at went =
-    let later : IsRefusal (EncodesMany EncodesValType count) e mid = record {
-      refuses = λ more follow text after tys p eq. lone (rest mid ++ more) text after tys p.0 p.1 (h.1.refuses more follow) eq;
-      fault = h.1.fault;
-      ahead = h.1.ahead;
-    } in
-    let s = second_refused (EncodesSize max_select_types) (EncodesMany EncodesValType) e old mid mid2 new count position (size_prefix_code max_select_types) r
-    (h.0, later) at went in (
+pub count_missing : (e : Error) (old new : Reader) → Reads (EncodesSize max_select_types) (CountFault size_name.SelectTypes max_select_types) (Err e) old new →
+    ReadsValue EncodesSelect SelectFault SelectAllocates (Err e) old new
+count_missing e old new h =
+    let s = first_missing (EncodesSize max_select_types) (EncodesMany EncodesValType) (CountFault size_name.SelectTypes max_select_types)
+    (ManyFault EncodesValType ValTypeFault) e old new h in (
       s.0,
-      refused_by (EncodesList max_select_types EncodesValType) EncodesSelect true e old (λ text t p. (
-        types_of t,
-        select_types text t p,
-      )) (as_refused (EncodesList max_select_types EncodesValType) true e old s.1),
+      refused_by (EncodesList max_select_types EncodesValType) EncodesSelect SelectFault SelectFault SelectAllocates SelectAllocates e old
+          (λ text t p. (types_of t, select_types text t p)) (λ m offset x. x) (λ x. x)
+          (as_refused (EncodesList max_select_types EncodesValType) SelectFault SelectAllocates e old s.1 s.2),
+    )
+
+pub not_one : (old mid : Reader) (count : ℕ) → HasRead (EncodesSize max_select_types) count old mid → count ≢ 1 → NoPrefix EncodesOne (rest old)
+not_one old mid count (text, p, t) other first after n q eq =
+    other ((unsigned_prefix_code text first 32 (rest mid) after count n p.0 q.0 (sym t.parts ∙ eq)).1 ∙ q.1)
+
+pub types_refused : (e f : Error) (old mid mid2 new : Reader) (count position : ℕ) → HasRead (EncodesSize max_select_types) count old mid → count ≢ 1 →
+    ReadsValue (EncodesMany EncodesValType count) (ManyFault EncodesValType ValTypeFault count) (λ r. ⊤) (Err e) mid mid2 → position ≡ old.position →
+    new ≡ at_position mid2 position → IsRefusedFrom (mid2.start + position) e f → ReadsValue EncodesSelect SelectFault SelectAllocates (Err f) old new
+types_refused e f old mid mid2 new count position r other h at went begun =
+    let memory : ⊤ → SelectAllocates old = λ k. (not_one old mid count r other, some_read (EncodesSize max_select_types) old mid count r) in
+    let s = begun_refused (EncodesSize max_select_types) (EncodesMany EncodesValType) (CountFault size_name.SelectTypes max_select_types)
+    (ManyFault EncodesValType ValTypeFault) (λ r. ⊤) SelectAllocates e f old mid mid2 new count position (size_prefix_code max_select_types)
+    (λ text p. unsigned_some 32 text count p.0) r h memory at went begun in (
+      s.0,
+      refused_by (EncodesList max_select_types EncodesValType) EncodesSelect SelectFault SelectFault SelectAllocates SelectAllocates f old
+          (λ text t p. (types_of t, select_types text t p)) (λ m offset x. x) (λ x. x) s.1,
+    )
+
+pub type_refused : (e : Error) (old mid mid2 new : Reader) (count position : ℕ) → count ≡ 1 → HasRead (EncodesSize max_select_types) count old mid →
+    Reads EncodesValType ValTypeFault (Err e) mid mid2 → position ≡ old.position → new ≡ at_position mid2 position →
+    ReadsValue EncodesSelect SelectFault SelectAllocates (Err e) old new
+type_refused e old mid mid2 new count position one r (same, h, f) at went =
+    let later : IsRefusal (EncodesMany EncodesValType count) e mid = record {
+      refuses = λ more follow text after tys p eq. lone (rest mid ++ more) text after tys p.0 p.1 (h.refuses more follow) eq;
+      fault = h.fault;
+      ahead = h.ahead;
+    } in
+    let fault = subst (λ n. ManyFault EncodesValType ValTypeFault n e.message mid e.offset) (sym one) (inl (refused_now EncodesValType e mid h, f)) in
+    let s = second_missing (EncodesSize max_select_types) (EncodesMany EncodesValType) (CountFault size_name.SelectTypes max_select_types)
+    (ManyFault EncodesValType ValTypeFault) e old mid mid2 new count position (size_prefix_code max_select_types) r (same, later, fault) at went in (
+      s.0,
+      refused_by (EncodesList max_select_types EncodesValType) EncodesSelect SelectFault SelectFault SelectAllocates SelectAllocates e old
+          (λ text t p. (types_of t, select_types text t p)) (λ m offset x. x) (λ x. x)
+          (as_refused (EncodesList max_select_types EncodesValType) SelectFault SelectAllocates e old s.1 s.2),
     )
   where
     lone : (bytes text after : List ℕ) (tys : List ValType) → length tys ≡ count → EncodesEach EncodesValType text tys → NoPrefix EncodesValType bytes →
@@ -115,12 +162,8 @@ type_refused e old mid mid2 new count position one r h at went =
     lone bytes text after (ty ∷ tys) l (first, later, e, p, ps) none eq =
         none first (later ++ after) ty p (eq ∙ ap (λ z. z ++ after) e ∙ append_assoc first later after)
 
-pub not_one : (old mid : Reader) (count : ℕ) → Reads (EncodesSize max_select_types) (Ok count) old mid → count ≢ 1 → NoPrefix EncodesOne (rest old)
-not_one old mid count (text, p, t) other first after n q eq =
-    other ((unsigned_prefix_code text first 32 (rest mid) after count n p.0 q.0 (sym t.parts ∙ eq)).1 ∙ q.1)
-
-pub one_read : (old mid new : Reader) (count : ℕ) (ty : ValType) → count ≡ 1 → Reads (EncodesSize max_select_types) (Ok count) old mid →
-    Reads EncodesValType (Ok ty) mid new → Reads EncodesSelect (Ok (select.One ty)) old new
+pub one_read : (old mid new : Reader) (count : ℕ) (ty : ValType) → count ≡ 1 → HasRead (EncodesSize max_select_types) count old mid →
+    HasRead EncodesValType ty mid new → HasRead EncodesSelect (select.One ty) old new
 one_read old mid new count ty one (a, p, s) (b, q, t) =
     (a ++ b, (a, b, count, refl, p, (sym one, (b, [], nil_right b, q, refl))), takes_then old mid new a b s t)
   where

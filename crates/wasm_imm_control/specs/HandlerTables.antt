@@ -2,6 +2,7 @@
 use Rattle.std.specs.Prelude.{◌≡◌, ◌≢◌, ℕ, List, [], ◌∷◌, ◌++◌, length}
 use Rattle.wasm_below.specs.Number.{EncodesUnsigned, EncodesSize}
 use Rattle.wasm_below.specs.Sequence.{Then}
+use Rattle.wasm_below.specs.Source.{Reader, rest, NoPrefix, SomePrefix}
 use Rattle.wasm_below.specs.TypeEncoding.{EncodesValType}
 use Rattle.wasm_imm_control.specs.declared.handler_tables.TryTable.{TryTable}
 use Rattle.wasm_imm_control.specs.declared.handler_tables.ResumeTable.{ResumeTable}
@@ -49,3 +50,7 @@ EncodesSelect text (select.Multi tys) = EncodesList max_select_types EncodesValT
 -- The count 1.
 abbrev pub EncodesOne : List ℕ → ℕ → Type 0
 EncodesOne text n = EncodesUnsigned 32 text n × (n ≡ 1)
+
+-- A count of at most 10 follows, but not 1.
+abbrev pub SelectAllocates : Reader → Type 0
+SelectAllocates r = NoPrefix EncodesOne (rest r) × SomePrefix EncodesTypeCount (rest r)

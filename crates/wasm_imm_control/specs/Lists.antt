@@ -2,6 +2,7 @@
 use Rattle.std.specs.Prelude.{◌≡◌, ℕ, List, [], ◌∷◌, ◌++◌, length}
 use Rattle.wasm_below.specs.Number.{EncodesSize}
 use Rattle.wasm_below.specs.Sequence.{Then}
+use Rattle.wasm_below.specs.Source.{Reader, rest, SomePrefix}
 
 abbrev pub EncodesEach : {X : Type 0} → (List ℕ → X → Type 0) → List ℕ → List X → Type 0
 EncodesEach Encodes text [] = text ≡ []
@@ -10,6 +11,10 @@ EncodesEach Encodes text (x ∷ xs) = (first rest : List ℕ) × (text ≡ first
 -- The encodings of `count` members, in sequence.
 abbrev pub EncodesMany : {X : Type 0} → (List ℕ → X → Type 0) → ℕ → List ℕ → List X → Type 0
 EncodesMany Encodes count text xs = (length xs ≡ count) × EncodesEach Encodes text xs
+
+-- A prefix of the rest encodes a count of at most `limit`.
+abbrev pub HasCount : ℕ → Reader → Type 0
+HasCount limit r = SomePrefix (EncodesSize limit) (rest r)
 
 -- The count, which is at most `limit`, and the members.
 --   list(X) ::= n:u32 (el:X)^n ⇒ el^n

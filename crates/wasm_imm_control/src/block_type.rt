@@ -1,4 +1,4 @@
-ghost use Rattle.std.specs.Prelude.{◌≤◌, [], ◌∷◌, IfErr};
+ghost use Rattle.std.specs.Prelude.{◌≤◌, [], ◌∷◌};
 ghost use Rattle.wasm_below.specs.Source.{Reads};
 ghost use Rattle.wasm_below.specs.TypeEncoding.{EncodesValType};
 ghost use Rattle.wasm_imm_control.specs.BlockTypeFaults.{BlockTypeFault, FunctionTypeFault};
@@ -23,8 +23,7 @@ impl BlockType {
     /// `read_var_s33`, or with `InvalidFunctionType` after a negative number.
     #[inline(always)]
     pub fn read(reader: &mut BinaryReader<'_>) -> Result<BlockType>
-        ensures reads { Reads EncodesBlockType result reader.old reader.new }
-        ensures fault { IfErr result (λ e. BlockTypeFault e.message reader.old e.offset) }
+        ensures { Reads EncodesBlockType BlockTypeFault result reader.old reader.new }
     {
         match reader.peek() {
             Ok(0x40) => {
@@ -62,8 +61,7 @@ fn short_value_type(byte: u8) -> ValType
 /// Reads by a copy, so that `read` keeps its reader in registers.
 #[inline(always)]
 fn read_by_copy(reader: &mut BinaryReader<'_>) -> Result<BlockType>
-    ensures reads { Reads EncodesBlockType result reader.old reader.new }
-    ensures fault { IfErr result (λ e. BlockTypeFault e.message reader.old e.offset) }
+    ensures { Reads EncodesBlockType BlockTypeFault result reader.old reader.new }
 {
     let mut lent = reader.clone();
     let outcome = read_other(&mut lent);
@@ -73,8 +71,7 @@ fn read_by_copy(reader: &mut BinaryReader<'_>) -> Result<BlockType>
 
 #[inline(never)]
 fn read_other(reader: &mut BinaryReader<'_>) -> Result<BlockType>
-    ensures reads { Reads EncodesBlockType result reader.old reader.new }
-    ensures fault { IfErr result (λ e. BlockTypeFault e.message reader.old e.offset) }
+    ensures { Reads EncodesBlockType BlockTypeFault result reader.old reader.new }
 {
     let byte = match reader.peek() {
         Ok(byte) => byte,
@@ -94,8 +91,7 @@ fn read_other(reader: &mut BinaryReader<'_>) -> Result<BlockType>
 }
 
 fn read_function_type(reader: &mut BinaryReader<'_>) -> Result<BlockType>
-    ensures reads { Reads EncodesFunctionType result reader.old reader.new }
-    ensures fault { IfErr result (λ e. FunctionTypeFault e.message reader.old e.offset) }
+    ensures { Reads EncodesFunctionType FunctionTypeFault result reader.old reader.new }
 {
     let start = reader.current_position();
     let index = reader.read_var_s33()?;

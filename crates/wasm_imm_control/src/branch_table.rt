@@ -1,4 +1,4 @@
-ghost use Rattle.std.specs.Prelude.{◌≡◌, ◌↔◌, ◌+◌, ◌≤◌, ℕ, List, map, length, IsTrue, IfErr, IfSome, Ok};
+ghost use Rattle.std.specs.Prelude.{◌≡◌, ◌↔◌, ◌+◌, ◌≤◌, ℕ, List, map, length, IsTrue, IfSome, Ok};
 ghost use Rattle.std.specs.Iterator.{YieldsFirst, at_most, UpTo};
 ghost use Rattle.std.specs.Iterator.SizeHint.{IsWithinCount};
 ghost use Rattle.wasm_below.specs.Fault.{ManyFault};
@@ -41,8 +41,7 @@ impl<'a> BrTable<'a> {
     ///
     /// Fails like `read_size` with the limit 7654321, or like `read_var_u32` at a target.
     pub fn read(reader: &mut BinaryReader<'a>) -> Result<BrTable<'a>>
-        ensures reads { Reads EncodesBranchTable result reader.old reader.new }
-        ensures fault { IfErr result (λ e. BranchTableFault e.message reader.old e.offset) }
+        ensures { Reads EncodesBranchTable BranchTableFault result reader.old reader.new }
     {
         let start = reader.current_position();
         let count = reader.read_size(MAX_TARGETS, SizeName::BrTable)?;
@@ -98,9 +97,7 @@ impl<'a> BrTable<'a> {
 
 #[inline(always)]
 fn read_targets(reader: &mut BinaryReader<'_>, count: usize) -> Result<usize>
-    ensures reads { Reads (EncodesTargets count) result reader.old reader.new }
-    ensures fault { IfErr result (λ e.
-        ManyFault (EncodesUnsigned 32) U32Fault count e.message reader.old e.offset) }
+    ensures { Reads (EncodesTargets count) (ManyFault (EncodesUnsigned 32) U32Fault count) result reader.old reader.new }
 {
     let start = reader.current_position();
     let passed = pass_targets(reader.remaining_buffer(), count);

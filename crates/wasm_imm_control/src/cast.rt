@@ -1,4 +1,3 @@
-ghost use Rattle.std.specs.Prelude.{IfErr};
 ghost use Rattle.wasm_below.specs.Source.{Reads};
 ghost use Rattle.wasm_below.specs.TypeEncoding.{HeapTypeFault};
 ghost use Rattle.wasm_imm_control.specs.CastFaults.{CastFault};
@@ -23,8 +22,7 @@ impl Cast {
     /// `InvalidCastFlags` at flags above 3, then like `HeapType::read`.
     #[inline(never)]
     pub fn read(reader: &mut BinaryReader<'_>) -> Result<Cast>
-        ensures reads { Reads EncodesCast result reader.old reader.new }
-        ensures fault { IfErr result (λ e. CastFault e.message reader.old e.offset) }
+        ensures { Reads EncodesCast CastFault result reader.old reader.new }
     {
         let start = reader.current_position();
         let flags = match reader.read_u8() {
@@ -63,8 +61,7 @@ impl Cast {
 }
 
 fn read_reference(reader: &mut BinaryReader<'_>, nullable: bool) -> Result<RefType>
-    ensures reads { Reads (EncodesReference nullable) result reader.old reader.new }
-    ensures fault { IfErr result (λ e. HeapTypeFault e.message reader.old e.offset) }
+    ensures { Reads (EncodesReference nullable) HeapTypeFault result reader.old reader.new }
 {
     match HeapType::read(reader) {
         Ok(heap_type) => match RefType::new(nullable, heap_type) {

@@ -1,4 +1,4 @@
-ghost use Rattle.std.specs.Prelude.{◌<◌, ◌≤◌, IfErr};
+ghost use Rattle.std.specs.Prelude.{◌<◌, ◌≤◌};
 ghost use Rattle.wasm_below.specs.Source.{Reads};
 ghost use Rattle.wasm_imm_control.specs.HandlerFaults.{PairFault, IndicesFault, CatchFault, HandleFault};
 ghost use Rattle.wasm_imm_control.specs.Handlers.{EncodesPair, EncodesCatch, EncodesHandle, IsCatchAfterByte, IsHandleAfterByte};
@@ -27,8 +27,7 @@ impl Catch {
     /// `read_var_u32`.
     #[inline(always)]
     pub fn read(reader: &mut BinaryReader<'_>) -> Result<Catch>
-        ensures reads { Reads EncodesCatch result reader.old reader.new }
-        ensures fault { IfErr result (λ e. CatchFault e.message reader.old e.offset) }
+        ensures { Reads EncodesCatch CatchFault result reader.old reader.new }
     {
         let start = reader.current_position();
         let byte = match reader.read_u8() {
@@ -53,8 +52,7 @@ impl Catch {
     #[inline(always)]
     fn read_after_byte(reader: &mut BinaryReader<'_>, byte: u8) -> Result<Catch>
         requires { byte ≤ 3 }
-        ensures reads { Reads (IsCatchAfterByte byte) result reader.old reader.new }
-        ensures fault { IfErr result (λ e. IndicesFault 1 byte e.message reader.old e.offset) }
+        ensures { Reads (IsCatchAfterByte byte) (IndicesFault 1 byte) result reader.old reader.new }
     {
         if byte <= 1 {
             return match read_pair(reader) {
@@ -111,8 +109,7 @@ impl Handle {
     /// `read_var_u32`.
     #[inline(always)]
     pub fn read(reader: &mut BinaryReader<'_>) -> Result<Handle>
-        ensures reads { Reads EncodesHandle result reader.old reader.new }
-        ensures fault { IfErr result (λ e. HandleFault e.message reader.old e.offset) }
+        ensures { Reads EncodesHandle HandleFault result reader.old reader.new }
     {
         let start = reader.current_position();
         let byte = match reader.read_u8() {
@@ -137,8 +134,7 @@ impl Handle {
     #[inline(always)]
     fn read_after_byte(reader: &mut BinaryReader<'_>, byte: u8) -> Result<Handle>
         requires { byte ≤ 1 }
-        ensures reads { Reads (IsHandleAfterByte byte) result reader.old reader.new }
-        ensures fault { IfErr result (λ e. IndicesFault 0 byte e.message reader.old e.offset) }
+        ensures { Reads (IsHandleAfterByte byte) (IndicesFault 0 byte) result reader.old reader.new }
     {
         if byte == 0 {
             return match read_pair(reader) {
@@ -173,8 +169,7 @@ impl<'a> FromReader<'a> for Handle {
 
 #[inline(always)]
 fn read_pair(reader: &mut BinaryReader<'_>) -> Result<(u32, u32)>
-    ensures reads { Reads EncodesPair result reader.old reader.new }
-    ensures fault { IfErr result (λ e. PairFault e.message reader.old e.offset) }
+    ensures { Reads EncodesPair PairFault result reader.old reader.new }
 {
     let start = reader.current_position();
     let first = match reader.read_var_u32() {

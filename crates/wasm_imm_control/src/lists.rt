@@ -1,10 +1,9 @@
-ghost use Rattle.std.specs.Prelude.{◌≡◌, ◌+◌, ◌≤◌, false, true, IfErr};
-ghost use Rattle.wasm_below.specs.Fault.{HasFault, ManyFault};
+ghost use Rattle.std.specs.Prelude.{◌≡◌, ◌+◌, ◌≤◌, ⊤, false};
+ghost use Rattle.wasm_below.specs.Fault.{ManyFault};
 ghost use Rattle.wasm_below.specs.FromReader.{ReadsValue};
-ghost use Rattle.wasm_below.specs.Number.{EncodesSize};
-ghost use Rattle.wasm_below.specs.Source.{at_position, offset_of, end_of, rest, SomePrefix};
+ghost use Rattle.wasm_below.specs.Source.{at_position, offset_of, end_of};
 ghost use Rattle.wasm_imm_control.specs.ListFaults.{ListFault};
-ghost use Rattle.wasm_imm_control.specs.Lists.{EncodesMany, EncodesList};
+ghost use Rattle.wasm_imm_control.specs.Lists.{HasCount, EncodesMany, EncodesList};
 ghost use Rattle.wasm_imm_control.specs.OutOfMemory.{IsRefusedFrom};
 
 use crate::members::Members;
@@ -22,12 +21,8 @@ pub fn read_list<'a, T: FromReader<'a>>(
     desc: SizeName,
 ) -> Result<Members<T>>
     requires { T.Memory.TAKES ≡ false }
-    ensures reads { ReadsValue (EncodesList limit (T.encodes reader.old.features)) true
-        result reader.old reader.new }
-    ensures fault { IfErr result (λ e.
-        HasFault (ListFault desc limit (T.encodes reader.old.features) T.fault) e reader.old) }
-    ensures memory { IfErr result (λ e. e.message ≡ Message.OutOfMemory
-        → SomePrefix (EncodesSize limit) (rest reader.old)) }
+    ensures { ReadsValue (EncodesList limit (T.encodes reader.old.features))
+        (ListFault desc limit (T.encodes reader.old.features) T.fault) (HasCount limit) result reader.old reader.new }
 {
     let start = reader.current_position();
     let count = match reader.read_size(limit, desc) {
@@ -47,10 +42,8 @@ pub fn read_members<'a, T: FromReader<'a>>(
 ) -> Result<Members<T>>
     requires lean { T.Memory.TAKES ≡ false }
     requires within { offset_of reader.old ≤ end_of reader.old }
-    ensures reads { ReadsValue (EncodesMany (T.encodes reader.old.features) count) true
-        result reader.old reader.new }
-    ensures fault { IfErr result (λ e.
-        HasFault (ManyFault (T.encodes reader.old.features) T.fault count) e reader.old) }
+    ensures { ReadsValue (EncodesMany (T.encodes reader.old.features) count)
+        (ManyFault (T.encodes reader.old.features) T.fault count) (λ old. ⊤) result reader.old reader.new }
 {
     T::is_prefix_code();
     let start = reader.current_position();

@@ -1,8 +1,5 @@
-ghost use Rattle.std.specs.Prelude.{◌≡◌, true, IfErr};
-ghost use Rattle.wasm_below.specs.Fault.{HasFault};
 ghost use Rattle.wasm_below.specs.FromReader.{ReadsValue};
-ghost use Rattle.wasm_below.specs.Source.{NoPrefix, SomePrefix, rest};
-ghost use Rattle.wasm_imm_control.specs.HandlerTables.{EncodesSelect, EncodesOne, EncodesTypeCount};
+ghost use Rattle.wasm_imm_control.specs.HandlerTables.{EncodesSelect, SelectAllocates};
 ghost use Rattle.wasm_imm_control.specs.ListFaults.{SelectFault};
 
 use crate::lists::{read_members, refuse_from};
@@ -27,12 +24,7 @@ impl Select {
     /// nor a count above 10 allocates.
     #[inline(never)]
     pub fn read(alloc: Global, reader: &mut BinaryReader<'_>) -> Result<Select>
-        ensures reads { ReadsValue EncodesSelect true result reader.old reader.new }
-        ensures lone { IfErr result (λ e. e.message ≡ Message.OutOfMemory
-            → NoPrefix EncodesOne (rest reader.old)) }
-        ensures memory { IfErr result (λ e. e.message ≡ Message.OutOfMemory
-            → SomePrefix EncodesTypeCount (rest reader.old)) }
-        ensures fault { IfErr result (λ e. HasFault SelectFault e reader.old) }
+        ensures { ReadsValue EncodesSelect SelectFault SelectAllocates result reader.old reader.new }
     {
         let start = reader.current_position();
         let count = match reader.read_size(MAX_SELECT_TYPES, SizeName::SelectTypes) {

@@ -1,4 +1,4 @@
-use Rattle.std.proofs.Common.{◌≡◌, ℕ, ◌<◌, ◌≤◌, ◌⊎◌, Bool, true, false, List, [], ◌∷◌, ◌++◌, inl, inr, Ok, Err, refl, ap, sym, ◌∙◌, arith}
+use Rattle.std.proofs.Common.{◌≡◌, ℕ, ◌<◌, ◌≤◌, ◌⊎◌, Bool, true, false, List, [], ◌∷◌, ◌++◌, inl, inr, Err, refl, ap, sym, ◌∙◌, arith}
 use Rattle.wasm_below.specs.bytes.error.Error.{Error}
 use Rattle.wasm_below.specs.bytes.message.Message.{Message}
 use Rattle.wasm_below.specs.bytes.message.Message.TheVariants as message
@@ -12,7 +12,7 @@ use Rattle.wasm_below.specs.declared.types.ValType.TheVariants as value
 use Rattle.wasm_below.specs.Fault.{DeterminesRefusal}
 use Rattle.wasm_below.specs.Reference.{Reference}
 use Rattle.wasm_below.specs.Sequence.{PrefixCode}
-use Rattle.wasm_below.specs.Source.{Reader, rest, MayFollow, Reads, IsByte, EndFault}
+use Rattle.wasm_below.specs.Source.{Reader, rest, MayFollow, HasRead, Reads, IsByte, EndFault}
 use Rattle.wasm_below.specs.TypeEncoding.{heap_type_byte, EncodesShort, ref_byte, EncodesRefType, EncodesValType, LedBy, ByteFault, ValTypeFault}
 use Rattle.wasm_module.specs.Imports.{SomeOf}
 use Rattle.wasm_module.specs.Types.{IsPackedByte, IsPacked, IsStorage, IsField, FieldFault}
@@ -93,7 +93,7 @@ packed_small : (byte : ℕ) → IsPackedByte byte → byte < 256
 packed_small byte (inl p) = omega (arith, p)
 packed_small byte (inr p) = omega (arith, p)
 
-pub packed_read : (old new : Reader) (byte : ℕ) → LedBy IsPackedByte (rest old) → Reads IsByte (Ok byte) old new → Reads IsStorage (Ok tt) old new
+pub packed_read : (old new : Reader) (byte : ℕ) → LedBy IsPackedByte (rest old) → HasRead IsByte byte old new → HasRead IsStorage tt old new
 packed_read old new byte (other, packed, begins) (a, p, t) =
     let is = p.0 in
     let parts = t.parts in
@@ -101,10 +101,10 @@ packed_read old new byte (other, packed, begins) (a, p, t) =
     let same : byte ≡ other = cc (is, parts, starts) in
     (a, inr (other, packed, is ∙ ap (λ c. c ∷ []) same), t)
 
-pub packed_there : (old new : Reader) (e : Error) → LedBy IsPackedByte (rest old) → Reads IsByte (Err e) old new → ⊥
-packed_there old new e (byte, packed, begins) (same, h) = refused_now IsByte e old h (byte ∷ []) begins.0 byte (refl, packed_small byte packed) begins.1
+pub packed_there : (old new : Reader) (e : Error) → LedBy IsPackedByte (rest old) → Reads IsByte EndFault (Err e) old new → ⊥
+packed_there old new e (byte, packed, begins) (same, h, f) = refused_now IsByte e old h (byte ∷ []) begins.0 byte (refl, packed_small byte packed) begins.1
 
-pub storage_read : (old new : Reader) (t : ValType) → Reads EncodesValType (Ok t) old new → Reads IsStorage (Ok tt) old new
+pub storage_read : (old new : Reader) (t : ValType) → HasRead EncodesValType t old new → HasRead IsStorage tt old new
 storage_read old new t (a, p, k) = (a, inl (t, p), k)
 
 byte_ends : (m : Message) (r : Reader) (offset : ℕ) → ByteFault type_name.ValueType m r offset → rest r ≡ [] → (more : List ℕ) → MayFollow m more → more ≡ []
@@ -122,9 +122,9 @@ none_packed [] more text after not none (byte, packed, is) whole = let nothing =
 none_packed (c ∷ bytes) more text after not none (byte, packed, is) whole =
     let same : c ≡ byte = cc (is, whole) in not (byte, packed, (bytes, ap (λ v. v ∷ bytes) same))
 
-pub storage_refused : (e : Error) (old new : Reader) → (LedBy IsPackedByte (rest old) → ⊥) → ValTypeFault e.message old e.offset →
-    Reads EncodesValType (Err e) old new → Reads IsStorage (Err e) old new
-storage_refused e old new not fault (same, h) = (same, record { refuses = refuses; fault = h.fault; ahead = h.ahead })
+pub storage_refused : (e : Error) (old new : Reader) → (LedBy IsPackedByte (rest old) → ⊥) →
+    Reads EncodesValType ValTypeFault (Err e) old new → Reads IsStorage ValTypeFault (Err e) old new
+storage_refused e old new not (same, h, fault) = (same, record { refuses = refuses; fault = h.fault; ahead = h.ahead }, fault)
   where
     refuses : (more : List ℕ) → MayFollow e.message more → (text after : List ℕ) (done : Unit {0}) → IsStorage text done →
         rest old ++ more ≡ text ++ after → ⊥

@@ -1,14 +1,14 @@
 -- Values of one kind, as a loop reads them, and lists of which only the length is kept.
-use Rattle.std.proofs.Common.{◌≡◌, ℕ, zero, suc, ◌+◌, ◌<◌, ◌≤◌, List, [], length, inl, inr, Ok, Err, refl, ap, sym, subst, ◌∙◌, arith}
+use Rattle.std.proofs.Common.{◌≡◌, ℕ, zero, suc, ◌+◌, ◌<◌, ◌≤◌, List, [], length, inl, inr, Err, refl, ap, sym, subst, ◌∙◌, arith}
 use Rattle.wasm_below.specs.bytes.error.Error.{Error}
 use Rattle.wasm_below.specs.bytes.message.Message.{Message}
 use Rattle.wasm_below.specs.Fault.{ManyFault, DeterminesRefusal}
 use Rattle.wasm_below.specs.Number.{EncodesUnsigned}
 use Rattle.wasm_below.specs.Sequence.{PrefixCode}
-use Rattle.wasm_below.specs.Source.{Reader, at_position, Takes, IsRefusal, Reads, U32Fault}
+use Rattle.wasm_below.specs.Source.{Reader, at_position, Takes, IsRefusal, HasRead, Reads, U32Fault}
 use Rattle.wasm_module.specs.Types.{IsMany, EncodesCounted, EncodesLength, LengthFault}
 use Rattle.wasm_module.proofs.Parts.{refused_now, then_determines}
-use Rattle.wasm_module.proofs.Sequences.{then_read, then_first, then_refused, then_code, refused_as}
+use Rattle.wasm_module.proofs.Sequences.{then_read, then_none, then_refused, then_code, refused_as}
 
 takes_none : (r : Reader) → Takes r r []
 takes_none r = record { moved = ap (at_position r) (let same : r.position ≡ r.position + 0 = omega arith in same); parts = refl }
@@ -19,7 +19,7 @@ pub record IsOnTheWay {X : Type 0} (P : List ℕ → X → Type 0) (Fault : Mess
   pub all : i + left ≡ count
   pub moved : now ≡ at_position old now.position
   pub forward : old.position ≤ now.position
-  pub read : (new : Reader) → Reads (IsMany P left) (Ok tt) now new → Reads (IsMany P count) (Ok tt) old new
+  pub read : (new : Reader) → HasRead (IsMany P left) tt now new → HasRead (IsMany P count) tt old new
   pub refused : (e : Error) → IsRefusal (IsMany P left) e now → IsRefusal (IsMany P count) e old
   pub fault : (m : Message) (offset : ℕ) → ManyFault P Fault left m now offset → ManyFault P Fault count m old offset
 
@@ -42,14 +42,14 @@ module _ {X : Type 0} (P : List ℕ → X → Type 0) (Fault : Message → Reade
 
   abbrev Left : ℕ → ℕ → Reader → Reader → Type 0
   Left count left old now =
-      ((new : Reader) → Reads (IsMany P left) (Ok tt) now new → Reads (IsMany P count) (Ok tt) old new)
+      ((new : Reader) → HasRead (IsMany P left) tt now new → HasRead (IsMany P count) tt old new)
       × ((e : Error) → IsRefusal (IsMany P left) e now → IsRefusal (IsMany P count) e old)
       × ((m : Message) (offset : ℕ) → ManyFault P Fault left m now offset → ManyFault P Fault count m old offset)
 
   left_at : (count i : ℕ) (old now : Reader) (w : IsOnTheWay P Fault count i old now) (k : ℕ) → w.left ≡ k → Left count k old now
   left_at count i old now w k same = subst (λ n. Left count n old now) same (w.read, w.refused, w.fault)
 
-  pub way_goes_on : PrefixCode P → (count i : ℕ) (old now new : Reader) (x : X) → i < count → IsOnTheWay P Fault count i old now → Reads P (Ok x) now new →
+  pub way_goes_on : PrefixCode P → (count i : ℕ) (old now new : Reader) (x : X) → i < count → IsOnTheWay P Fault count i old now → HasRead P x now new →
       IsOnTheWay P Fault count (i + 1) old new
   way_goes_on code count i old now new x more w h =
       let less = one_less count i w.left w.all more in
@@ -69,32 +69,30 @@ module _ {X : Type 0} (P : List ℕ → X → Type 0) (Fault : Message → Reade
         fault = λ m offset f. here.2 m offset (inr (x, new, h, f));
       }
 
-  pub way_ends : (count i : ℕ) (old now : Reader) → count ≤ i → IsOnTheWay P Fault count i old now → Reads (IsMany P count) (Ok tt) old now
+  pub way_ends : (count i : ℕ) (old now : Reader) → count ≤ i → IsOnTheWay P Fault count i old now → HasRead (IsMany P count) tt old now
   way_ends count i old now none w =
       let all = w.all in
       let here = left_at count i old now w zero (omega (arith, all, none)) in
       here.0 now ([], refl, takes_none now)
 
   pub way_refused : (count i : ℕ) (old now same new : Reader) (e : Error) (position : ℕ) → i < count → IsOnTheWay P Fault count i old now →
-      Reads P (Err e) now same → position ≡ old.position → new ≡ at_position same position → Reads (IsMany P count) (Err e) old new
+      Reads P Fault (Err e) now same → position ≡ old.position → new ≡ at_position same position →
+      Reads (IsMany P count) (ManyFault P Fault count) (Err e) old new
   way_refused count i old now same new e position more w h at went =
       let less = one_less count i w.left w.all more in
       let here = left_at count i old now w (suc less.0) less.1 in (
         went ∙ ap (λ r. at_position r position) (h.0 ∙ w.moved) ∙ ap (at_position old) at,
-        here.1 e (then_first P (λ v. IsMany P less.0) e now same h).1,
+        here.1 e (then_none P (λ v. IsMany P less.0) e now h.1),
+        here.2 e.message e.offset (inl (refused_now P e now h.1, h.2)),
       )
 
-  pub way_fault : (count i : ℕ) (old now same : Reader) (e : Error) → i < count → IsOnTheWay P Fault count i old now → Reads P (Err e) now same →
-      Fault e.message now e.offset → ManyFault P Fault count e.message old e.offset
-  way_fault count i old now same e more w h f =
-      let less = one_less count i w.left w.all more in
-      (left_at count i old now w (suc less.0) less.1).2 e.message e.offset (inl (refused_now P e now h.1, f))
-
-  pub counted_read : (count : ℕ) (old new : Reader) → Reads (IsMany P count) (Ok tt) old new → Reads (EncodesCounted P count) (Ok count) old new
+  pub counted_read : (count : ℕ) (old new : Reader) → HasRead (IsMany P count) tt old new → HasRead (EncodesCounted P count) count old new
   counted_read count old new (a, p, t) = (a, (refl, p), t)
 
-  pub counted_refused : (count : ℕ) (e : Error) (old new : Reader) → Reads (IsMany P count) (Err e) old new → Reads (EncodesCounted P count) (Err e) old new
-  counted_refused count = refused_as (IsMany P count) (EncodesCounted P count) (λ text n b. (tt, b.1))
+  pub counted_refused : (count : ℕ) (e : Error) (old new : Reader) → Reads (IsMany P count) (ManyFault P Fault count) (Err e) old new →
+      Reads (EncodesCounted P count) (ManyFault P Fault count) (Err e) old new
+  counted_refused count e old new =
+      refused_as (IsMany P count) (EncodesCounted P count) (ManyFault P Fault count) (ManyFault P Fault count) (λ text n b. (tt, b.1)) e old new (λ f. f)
 
   module _ (code : PrefixCode P) where
     many_code : (n : ℕ) → PrefixCode (IsMany P n)

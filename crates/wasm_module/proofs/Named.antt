@@ -9,8 +9,9 @@ use Rattle.wasm_module.specs.Names.{IsBytes, EncodesName, NameFault, NameParts, 
 use Rattle.wasm_module.proofs.Parts.{then_determines, byte_prefix_code, short_determines, end_determines}
 use Rattle.wasm_module.proofs.Sequences.{then_code, both_code, refused_as}
 
-pub bytes_refused : (n : ℕ) (e : Error) (old new : Reader) → Reads (IsBlock n) (Err e) old new → Reads (IsBytes n) (Err e) old new
-bytes_refused n = refused_as (IsBlock n) (IsBytes n) (λ text z b. (record { ref_ptr = (0, 0); now = text }, (refl, b.1)))
+pub bytes_refused : (n : ℕ) (e : Error) (old new : Reader) → Reads (IsBlock n) (EndsWithin n) (Err e) old new → Reads (IsBytes n) (EndsWithin n) (Err e) old new
+bytes_refused n e old new =
+    refused_as (IsBlock n) (IsBytes n) (EndsWithin n) (EndsWithin n) (λ text z b. (record { ref_ptr = (0, 0); now = text }, (refl, b.1))) e old new (λ f. f)
 
 bytes_code : (n : ℕ) → PrefixCode (IsBytes n)
 bytes_code n a b x y m k p q e = let same = same_start a b x y (p.1 ∙ sym q.1) e in (same, p.0 ∙ same ∙ sym q.0)

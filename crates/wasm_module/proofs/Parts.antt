@@ -1,4 +1,4 @@
-use Rattle.std.proofs.Common.{◌≡◌, ℕ, ◌+◌, inl, inr, List, [], ◌∷◌, ◌++◌, length, Ok, refl, ap, sym, subst, ◌∙◌, append_assoc, arith}
+use Rattle.std.proofs.Common.{◌≡◌, ℕ, ◌+◌, inl, inr, List, [], ◌∷◌, ◌++◌, length, refl, ap, sym, subst, ◌∙◌, append_assoc, arith}
 use Rattle.std.proofs.lemmas.List.{append-nil, length-append}
 use Rattle.wasm_below.specs.bytes.error.Error.{Error}
 use Rattle.wasm_below.specs.bytes.message.Message.{Message}
@@ -6,7 +6,7 @@ use Rattle.wasm_below.specs.bytes.message.Message.TheVariants as message
 use Rattle.wasm_below.specs.Fault.{ThenFault, DeterminesRefusal}
 use Rattle.wasm_below.specs.Refusal.{IsReadFault}
 use Rattle.wasm_below.specs.Sequence.{PrefixCode}
-use Rattle.wasm_below.specs.Source.{Reader, rest, at_position, Takes, NoPrefix, MayFollow, IsRefusal, Reads, IsByte, EndFault, EndsWithin}
+use Rattle.wasm_below.specs.Source.{Reader, rest, at_position, Takes, NoPrefix, MayFollow, IsRefusal, HasRead, IsByte, EndFault, EndsWithin}
 
 pub takes_both : (a b c : Reader) (x y : List ℕ) → Takes a b x → Takes b c y → Takes a c (x ++ y)
 takes_both a b c x y p q =
@@ -34,10 +34,10 @@ pub first_fault : {X : Type 0} (P : List ℕ → X → Type 0) (First : Message 
 first_fault P First After e r h fault = inl (refused_now P e r h, fault)
 
 pub second_fault : {X : Type 0} (P : List ℕ → X → Type 0) (First : Message → Reader → ℕ → Type 0) (After : X → Message → Reader → ℕ → Type 0) (e : Error)
-    (old mid : Reader) (x : X) → Reads P (Ok x) old mid → After x e.message mid e.offset → ThenFault P First After e.message old e.offset
+    (old mid : Reader) (x : X) → HasRead P x old mid → After x e.message mid e.offset → ThenFault P First After e.message old e.offset
 second_fault P First After e old mid x reads fault = inr (x, mid, reads, fault)
 
-same_after : {X : Type 0} (P : List ℕ → X → Type 0) → PrefixCode P → (r s t : Reader) (x y : X) → Reads P (Ok x) r s → Reads P (Ok y) r t →
+same_after : {X : Type 0} (P : List ℕ → X → Type 0) → PrefixCode P → (r s t : Reader) (x y : X) → HasRead P x r s → HasRead P y r t →
     (x ≡ y) × (s ≡ t)
 same_after P code r s t x y (a, p, h) (b, q, k) =
     let o = code a b (rest s) (rest t) x y p q (sym h.parts ∙ k.parts) in

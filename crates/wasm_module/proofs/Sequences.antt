@@ -1,33 +1,33 @@
 -- Values that are read one after the other: only the last is kept, or both are.
-use Rattle.std.proofs.Common.{◌≡◌, ℕ, ◌+◌, List, ◌++◌, length, Ok, Err, refl, ap, sym, subst, ◌∙◌, append_assoc, arith}
+use Rattle.std.proofs.Common.{◌≡◌, ℕ, ◌+◌, List, ◌++◌, length, Err, inl, inr, refl, ap, sym, subst, ◌∙◌, append_assoc, arith}
 use Rattle.std.proofs.lemmas.List.{append_cancel_left}
 use Rattle.wasm_below.specs.bytes.error.Error.{Error}
+use Rattle.wasm_below.specs.bytes.message.Message.{Message}
+use Rattle.wasm_below.specs.Fault.{ThenFault}
 use Rattle.wasm_below.specs.Sequence.{Then, PrefixCode}
-use Rattle.wasm_below.specs.Source.{Reader, rest, end_of, at_position, IsRefusal, Reads}
+use Rattle.wasm_below.specs.Source.{Reader, rest, end_of, at_position, IsRefusal, HasRead, Reads}
 use Rattle.wasm_module.specs.Both.{Both}
-use Rattle.wasm_module.specs.Imports.{SomeOf, IsExternTypeAfterByte, EncodesExternTypeAfterByte}
-use Rattle.wasm_module.proofs.Parts.{takes_both, back}
+use Rattle.wasm_module.specs.Imports.{SomeOf, IsExternTypeAfterByte, EncodesExternTypeAfterByte, ExternTypeFaultAfterByte}
+use Rattle.wasm_module.proofs.Parts.{takes_both, back, refused_now}
 
 first_text : (a b x y : List ℕ) → a ≡ b → a ++ x ≡ b ++ y → x ≡ y
 first_text a b x y same e = append_cancel_left a x y (e ∙ ap (λ t. t ++ y) (sym same))
 
 module _ {X Y : Type 0} (P : List ℕ → X → Type 0) (Q : X → List ℕ → Y → Type 0) where
-  pub then_read : (old mid new : Reader) (x : X) (y : Y) → Reads P (Ok x) old mid → Reads (Q x) (Ok y) mid new → Reads (Then P Q) (Ok y) old new
+  pub then_read : (old mid new : Reader) (x : X) (y : Y) → HasRead P x old mid → HasRead (Q x) y mid new → HasRead (Then P Q) y old new
   then_read old mid new x y (a, p, t) (b, q, u) = (a ++ b, (a, b, x, refl, p, q), takes_both old mid new a b t u)
 
-  pub then_first : (e : Error) (old new : Reader) → Reads P (Err e) old new → Reads (Then P Q) (Err e) old new
-  then_first e old new (same, h) = (
-    same,
-    record {
-      refuses = λ more follow text after z b whole.
-          h.refuses more follow b.0 (b.1 ++ after) b.2 b.4 (whole ∙ ap (λ t. t ++ after) b.3 ∙ append_assoc b.0 b.1 after);
-      fault = h.fault;
-      ahead = h.ahead;
-    },
-  )
+  pub then_none : (e : Error) (old : Reader) → IsRefusal P e old → IsRefusal (Then P Q) e old
+  then_none e old h =
+      record {
+        refuses = λ more follow text after z b whole.
+            h.refuses more follow b.0 (b.1 ++ after) b.2 b.4 (whole ∙ ap (λ t. t ++ after) b.3 ∙ append_assoc b.0 b.1 after);
+        fault = h.fault;
+        ahead = h.ahead;
+      }
 
   module _ (code : PrefixCode P) where
-    pub then_refused : (e : Error) (old mid : Reader) (x : X) → Reads P (Ok x) old mid → IsRefusal (Q x) e mid → IsRefusal (Then P Q) e old
+    pub then_refused : (e : Error) (old mid : Reader) (x : X) → HasRead P x old mid → IsRefusal (Q x) e mid → IsRefusal (Then P Q) e old
     then_refused e old mid x (a, p, t) h =
         let start : mid.start ≡ old.start = ap (λ (r : Reader). r.start) t.moved in
         let position : mid.position ≡ old.position + length a = ap (λ (r : Reader). r.position) t.moved in
@@ -44,11 +44,6 @@ module _ {X Y : Type 0} (P : List ℕ → X → Type 0) (Q : X → List ℕ → 
           ahead = (omega (arith, low, start, position), omega (arith, high, end));
         }
 
-    pub then_second : (e : Error) (old mid now new : Reader) (x : X) (position : ℕ) → Reads P (Ok x) old mid → Reads (Q x) (Err e) mid now →
-        position ≡ old.position → new ≡ at_position now position → Reads (Then P Q) (Err e) old new
-    then_second e old mid now new x position first second at went =
-        (back old mid now new first.0 position first.2 second.0 at went, then_refused e old mid x first second.1)
-
     pub then_code : ((x : X) → PrefixCode (Q x)) → PrefixCode (Then P Q)
     then_code after a b x y m n p q e =
         let whole : p.0 ++ (p.1 ++ x) ≡ q.0 ++ (q.1 ++ y) =
@@ -57,35 +52,38 @@ module _ {X Y : Type 0} (P : List ℕ → X → Type 0) (Q : X → List ℕ → 
         let second = after p.2 p.1 q.1 x y m n p.5 (subst (λ v. Q v q.1 n) (sym first.1) q.5) (first_text p.0 q.0 (p.1 ++ x) (q.1 ++ y) first.0 whole) in
         (p.3 ∙ ap (λ t. t ++ p.1) first.0 ∙ ap (λ t. q.0 ++ t) second.0 ∙ sym q.3, second.1)
 
-pub refused_as : {X Z : Type 0} (P : List ℕ → X → Type 0) (Q : List ℕ → Z → Type 0) → ((text : List ℕ) (z : Z) → Q text z → (x : X) × P text x) →
-    (e : Error) (old new : Reader) → Reads P (Err e) old new → Reads Q (Err e) old new
-refused_as P Q has e old new (same, h) = (
+module _ {X Y : Type 0} (P : List ℕ → X → Type 0) (Q : X → List ℕ → Y → Type 0) (F : Message → Reader → ℕ → Type 0)
+    (G : X → Message → Reader → ℕ → Type 0) where
+  pub then_first : (e : Error) (old new : Reader) → Reads P F (Err e) old new → Reads (Then P Q) (ThenFault P F G) (Err e) old new
+  then_first e old new (same, h, f) = (same, then_none P Q e old h, inl (refused_now P e old h, f))
+
+  pub then_second : PrefixCode P → (e : Error) (old mid now new : Reader) (x : X) (position : ℕ) → HasRead P x old mid →
+      Reads (Q x) (G x) (Err e) mid now → position ≡ old.position → new ≡ at_position now position → Reads (Then P Q) (ThenFault P F G) (Err e) old new
+  then_second code e old mid now new x position first (same, h, f) at went =
+      (back old mid now new first.0 position first.2 same at went, then_refused P Q code e old mid x first h, inr (x, mid, first, f))
+
+pub refused_as : {X Z : Type 0} (P : List ℕ → X → Type 0) (Q : List ℕ → Z → Type 0) (F G : Message → Reader → ℕ → Type 0) →
+    ((text : List ℕ) (z : Z) → Q text z → (x : X) × P text x) → (e : Error) (old new : Reader) → (F e.message old e.offset → G e.message old e.offset) →
+    Reads P F (Err e) old new → Reads Q G (Err e) old new
+refused_as P Q F G has e old new faults (same, h, f) = (
   same,
   record {
     refuses = λ more follow text after z b. h.refuses more follow text after (has text z b).0 (has text z b).1;
     fault = h.fault;
     ahead = h.ahead;
   },
+  faults f,
 )
 
 module _ {X Y Z : Type 0} (P : List ℕ → X → Type 0) (Q : List ℕ → Y → Type 0) (parts : Z → X × Y) where
-  abbrev Whole : List ℕ → Z → Type 0
+  abbrev pub Whole : List ℕ → Z → Type 0
   Whole text z = Both P Q text (parts z)
 
-  abbrev Second : X → List ℕ → Z → Type 0
+  abbrev pub Second : X → List ℕ → Z → Type 0
   Second x text z = (x ≡ (parts z).0) × Q text (parts z).1
 
-  abbrev one_after : (text : List ℕ) (z : Z) → Whole text z → (same : Z) × Then P Second text same
+  abbrev pub one_after : (text : List ℕ) (z : Z) → Whole text z → (same : Z) × Then P Second text same
   one_after text z b = (z, (b.0, b.1, (parts z).0, b.2, b.3, (refl, b.4)))
-
-  pub both_first : (e : Error) (old new : Reader) → Reads P (Err e) old new → Reads Whole (Err e) old new
-  both_first e old new h = refused_as (Then P Second) Whole one_after e old new (then_first P Second e old new h)
-
-  pub both_second : PrefixCode P → (e : Error) (old mid now new : Reader) (x : X) (position : ℕ) → Reads P (Ok x) old mid → Reads Q (Err e) mid now →
-      position ≡ old.position → new ≡ at_position now position → Reads Whole (Err e) old new
-  both_second code e old mid now new x position first second at went =
-      refused_as (Then P Second) Whole one_after e old new
-      (then_second P Second code e old mid now new x position first (refused_as Q (Second x) (λ text z b. ((parts z).1, b.1)) e mid now second) at went)
 
   pub both_code : PrefixCode P → PrefixCode Q → (make : X × Y → Z) → ((z : Z) → make (parts z) ≡ z) → PrefixCode Whole
   both_code first second make made a b x y m n p q e =
@@ -97,22 +95,39 @@ module _ {X Y Z : Type 0} (P : List ℕ → X → Type 0) (Q : List ℕ → Y �
           let same : parts m ≡ parts n = ap (λ k. (k, (parts m).1)) (sym p.0 ∙ q.0) ∙ ap (λ k. ((parts n).0, k)) o.1 in
           (o.0, sym (made m) ∙ ap make same ∙ made n)
 
-pub both_read : {X Y : Type 0} (P : List ℕ → X → Type 0) (Q : List ℕ → Y → Type 0) (old mid new : Reader) (x : X) (y : Y) → Reads P (Ok x) old mid →
-    Reads Q (Ok y) mid new → Reads (Both P Q) (Ok (x, y)) old new
+module _ {X Y Z : Type 0} (P : List ℕ → X → Type 0) (Q : List ℕ → Y → Type 0) (F : Message → Reader → ℕ → Type 0)
+    (G : X → Message → Reader → ℕ → Type 0) (parts : Z → X × Y) where
+  pub both_first : (e : Error) (old new : Reader) → Reads P F (Err e) old new → Reads (Whole P Q parts) (ThenFault P F G) (Err e) old new
+  both_first e old new h =
+      refused_as (Then P (Second P Q parts)) (Whole P Q parts) (ThenFault P F G) (ThenFault P F G) (one_after P Q parts) e old new (λ f. f)
+      (then_first P (Second P Q parts) F G e old new h)
+
+  pub both_second : PrefixCode P → (e : Error) (old mid now new : Reader) (x : X) (position : ℕ) → HasRead P x old mid → Reads Q (G x) (Err e) mid now →
+      position ≡ old.position → new ≡ at_position now position → Reads (Whole P Q parts) (ThenFault P F G) (Err e) old new
+  both_second code e old mid now new x position first second at went =
+      refused_as (Then P (Second P Q parts)) (Whole P Q parts) (ThenFault P F G) (ThenFault P F G) (one_after P Q parts) e old new (λ f. f)
+      (then_second P (Second P Q parts) F G code e old mid now new x position first
+      (refused_as Q (Second P Q parts x) (G x) (G x) (λ text z b. ((parts z).1, b.1)) e mid now (λ f. f) second) at went)
+
+pub both_read : {X Y : Type 0} (P : List ℕ → X → Type 0) (Q : List ℕ → Y → Type 0) (old mid new : Reader) (x : X) (y : Y) → HasRead P x old mid →
+    HasRead Q y mid new → HasRead (Both P Q) (x, y) old new
 both_read P Q old mid new x y (a, p, t) (b, q, u) = (a ++ b, (a, b, refl, p, q), takes_both old mid new a b t u)
 
 module _ {X : Type 0} (P : List ℕ → X → Type 0) where
-  pub some_read : (old new : Reader) (x : X) → Reads P (Ok x) old new → Reads (SomeOf P) (Ok tt) old new
+  pub some_read : (old new : Reader) (x : X) → HasRead P x old new → HasRead (SomeOf P) tt old new
   some_read old new x (a, p, t) = (a, (x, p), t)
 
-  pub some_refused : (e : Error) (old new : Reader) → Reads P (Err e) old new → Reads (SomeOf P) (Err e) old new
-  some_refused = refused_as P (SomeOf P) (λ text z b. b)
+  pub some_refused : (F : Message → Reader → ℕ → Type 0) (e : Error) (old new : Reader) → Reads P F (Err e) old new → Reads (SomeOf P) F (Err e) old new
+  some_refused F e old new = refused_as P (SomeOf P) F F (λ text z b. b) e old new (λ f. f)
 
   pub some_code : PrefixCode P → PrefixCode (SomeOf P)
   some_code code a b x y m n p q e = ((code a b x y p.0 q.0 p.1 q.1 e).0, refl)
 
-pub extern_type_after_byte_read : (byte : ℕ) (old new : Reader) → Reads (IsExternTypeAfterByte byte) (Ok tt) old new → Reads (EncodesExternTypeAfterByte byte) (Ok byte) old new
+pub extern_type_after_byte_read : (byte : ℕ) (old new : Reader) → HasRead (IsExternTypeAfterByte byte) tt old new → HasRead (EncodesExternTypeAfterByte byte) byte old new
 extern_type_after_byte_read byte old new (a, p, t) = (a, (refl, p), t)
 
-pub extern_type_after_byte_refused : (byte : ℕ) (e : Error) (old new : Reader) → Reads (IsExternTypeAfterByte byte) (Err e) old new → Reads (EncodesExternTypeAfterByte byte) (Err e) old new
-extern_type_after_byte_refused byte = refused_as (IsExternTypeAfterByte byte) (EncodesExternTypeAfterByte byte) (λ text z b. (tt, b.1))
+pub extern_type_after_byte_refused : (byte : ℕ) (e : Error) (old new : Reader) → Reads (IsExternTypeAfterByte byte) (ExternTypeFaultAfterByte byte) (Err e) old new →
+    Reads (EncodesExternTypeAfterByte byte) (ExternTypeFaultAfterByte byte) (Err e) old new
+extern_type_after_byte_refused byte e old new =
+    refused_as (IsExternTypeAfterByte byte) (EncodesExternTypeAfterByte byte) (ExternTypeFaultAfterByte byte) (ExternTypeFaultAfterByte byte)
+    (λ text z b. (tt, b.1)) e old new (λ f. f)

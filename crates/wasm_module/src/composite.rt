@@ -25,9 +25,7 @@ const OPEN: u8 = 0x50;
 const REC_TYPE: u8 = 0x4e;
 
 fn skip_value_types(reader: &mut BinaryReader<'_>, count: u32) -> Result<()>
-    ensures reads { Reads (IsMany EncodesValType count) result reader.old reader.new }
-    ensures fault { IfErr result (λ e.
-        ManyFault EncodesValType ValTypeFault count e.message reader.old e.offset) }
+    ensures { Reads (IsMany EncodesValType count) (ManyFault EncodesValType ValTypeFault count) result reader.old reader.new }
 {
     value_types();
     let start = reader.current_position();
@@ -44,8 +42,7 @@ fn skip_value_types(reader: &mut BinaryReader<'_>, count: u32) -> Result<()>
 }
 
 fn count_value_types(reader: &mut BinaryReader<'_>) -> Result<u32>
-    ensures reads { Reads EncodesValueTypes result reader.old reader.new }
-    ensures fault { IfErr result (λ e. ValueTypesFault e.message reader.old e.offset) }
+    ensures { Reads EncodesValueTypes ValueTypesFault result reader.old reader.new }
 {
     unsigned_numbers();
     let start = reader.current_position();
@@ -63,8 +60,7 @@ fn count_value_types(reader: &mut BinaryReader<'_>) -> Result<u32>
 }
 
 fn read_signature(reader: &mut BinaryReader<'_>) -> Result<(u32, u32)>
-    ensures reads { Reads EncodesSignature result reader.old reader.new }
-    ensures fault { IfErr result (λ e. SignatureFault e.message reader.old e.offset) }
+    ensures { Reads EncodesSignature SignatureFault result reader.old reader.new }
 {
     unsigned_numbers();
     value_types();
@@ -83,9 +79,7 @@ fn read_signature(reader: &mut BinaryReader<'_>) -> Result<(u32, u32)>
 }
 
 fn skip_indices(reader: &mut BinaryReader<'_>, count: u32) -> Result<()>
-    ensures reads { Reads (IsMany (EncodesUnsigned 32) count) result reader.old reader.new }
-    ensures fault { IfErr result (λ e.
-        ManyFault (EncodesUnsigned 32) U32Fault count e.message reader.old e.offset) }
+    ensures { Reads (IsMany (EncodesUnsigned 32) count) (ManyFault (EncodesUnsigned 32) U32Fault count) result reader.old reader.new }
 {
     unsigned_numbers();
     let start = reader.current_position();
@@ -102,8 +96,7 @@ fn skip_indices(reader: &mut BinaryReader<'_>, count: u32) -> Result<()>
 }
 
 fn count_indices(reader: &mut BinaryReader<'_>) -> Result<u32>
-    ensures reads { Reads EncodesIndices result reader.old reader.new }
-    ensures fault { IfErr result (λ e. IndicesFault e.message reader.old e.offset) }
+    ensures { Reads EncodesIndices IndicesFault result reader.old reader.new }
 {
     unsigned_numbers();
     let start = reader.current_position();
@@ -131,8 +124,7 @@ pub enum CompositeType {
 }
 
 fn read_after_byte(reader: &mut BinaryReader<'_>, kind: u8) -> Result<CompositeType>
-    ensures reads { Reads (EncodesAfterByte kind) result reader.old reader.new }
-    ensures fault { IfErr result (λ e. FaultAfterByte kind e.message reader.old e.offset) }
+    ensures { Reads (EncodesAfterByte kind) (FaultAfterByte kind) result reader.old reader.new }
 {
     match kind {
         FUNCTION => match read_signature(reader) {
@@ -155,8 +147,7 @@ fn read_after_byte(reader: &mut BinaryReader<'_>, kind: u8) -> Result<CompositeT
 }
 
 fn read_composite(reader: &mut BinaryReader<'_>) -> Result<CompositeType>
-    ensures reads { Reads EncodesComposite result reader.old reader.new }
-    ensures fault { IfErr result (λ e. CompositeFault e.message reader.old e.offset) }
+    ensures { Reads EncodesComposite CompositeFault result reader.old reader.new }
 {
     let start = reader.current_position();
     let kind = match reader.read_u8() {
@@ -173,8 +164,7 @@ fn read_composite(reader: &mut BinaryReader<'_>) -> Result<CompositeType>
 }
 
 fn read_with_supertypes(reader: &mut BinaryReader<'_>) -> Result<CompositeType>
-    ensures reads { Reads EncodesWithSupertypes result reader.old reader.new }
-    ensures fault { IfErr result (λ e. WithSupertypesFault e.message reader.old e.offset) }
+    ensures { Reads EncodesWithSupertypes WithSupertypesFault result reader.old reader.new }
 {
     unsigned_numbers();
     let start = reader.current_position();
@@ -192,8 +182,7 @@ fn read_with_supertypes(reader: &mut BinaryReader<'_>) -> Result<CompositeType>
 }
 
 fn read_sub_after_byte(reader: &mut BinaryReader<'_>, kind: u8) -> Result<CompositeType>
-    ensures reads { Reads (EncodesSubAfterByte kind) result reader.old reader.new }
-    ensures fault { IfErr result (λ e. SubFaultAfterByte kind e.message reader.old e.offset) }
+    ensures { Reads (EncodesSubAfterByte kind) (SubFaultAfterByte kind) result reader.old reader.new }
 {
     match kind {
         FINAL | OPEN => read_with_supertypes(reader),
@@ -206,8 +195,7 @@ impl CompositeType {
     ///
     /// Fails at the first part in error: with `EndOfData`, or like the read of a number or a type.
     pub fn read(reader: &mut BinaryReader<'_>) -> Result<CompositeType>
-        ensures reads { Reads EncodesSubType result reader.old reader.new }
-        ensures fault { IfErr result (λ e. SubTypeFault e.message reader.old e.offset) }
+        ensures { Reads EncodesSubType SubTypeFault result reader.old reader.new }
     {
         let start = reader.current_position();
         let kind = match reader.read_u8() {
@@ -236,7 +224,7 @@ fn is_rec_type_list_next(reader: &BinaryReader<'_>) -> bool
 /// After the byte 0x4e, fails like `read_var_u32`.
 pub fn read_rec_type_len(reader: &mut BinaryReader<'_>) -> Result<u32>
     ensures rec_type { BeginsWith REC_TYPE (rest reader.old)
-        → Reads EncodesRecTypeLength result reader.old reader.new }
+        → Reads EncodesRecTypeLength RecTypeLengthFault result reader.old reader.new }
     ensures one { ¬ BeginsWith REC_TYPE (rest reader.old)
         → (result ≡ Ok 1) × (reader.new ≡ reader.old) }
     ensures fault { IfErr result (λ e. RecTypeLengthFault e.message reader.old e.offset) }

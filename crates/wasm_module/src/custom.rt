@@ -1,5 +1,5 @@
 ghost use Rattle.std.specs.Prelude.{◌≡◌, Ok, IfOk, IfErr};
-ghost use Rattle.wasm_below.specs.Source.{Reads, IsRefusal};
+ghost use Rattle.wasm_below.specs.Source.{HasRead, IsRefusal};
 ghost use Rattle.wasm_module.specs.Names.{EncodesName, NameFault};
 
 use crate::name::Name;
@@ -25,7 +25,7 @@ impl<'a> CustomSection<'a> {
     /// Reads the name from the contents of a section with the number 0. Specification: Custom
     /// Section. Fails like `Name::read`.
     pub fn new(mut reader: BinaryReader<'a>) -> Result<CustomSection<'a>>
-        ensures name { IfOk result (λ s. Reads EncodesName (Ok s.name) reader.entry s.contents) }
+        ensures name { IfOk result (λ s. HasRead EncodesName s.name reader.entry s.contents) }
         ensures refused { IfErr result (λ e. IsRefusal EncodesName e reader.entry) }
         ensures fault { IfErr result (λ e. NameFault e.message reader.entry e.offset) }
     {

@@ -1,6 +1,6 @@
-ghost use Rattle.std.specs.Prelude.{◌≡◌, ⊤, false, IfOk, IfErr};
+ghost use Rattle.std.specs.Prelude.{◌≡◌, ⊤, IfOk};
 ghost use Rattle.wasm_below.specs.bytes.features.WasmFeatures.{WasmFeatures};
-ghost use Rattle.wasm_below.specs.Fault.{HasFault, NeedsMemory, DeterminesRefusal};
+ghost use Rattle.wasm_below.specs.Fault.{DeterminesRefusal};
 ghost use Rattle.wasm_below.specs.FromReader.{ReadsValue};
 ghost use Rattle.wasm_below.specs.Sequence.{PrefixCode};
 ghost use Rattle.wasm_below.specs.Source.{Reads};
@@ -14,8 +14,7 @@ use wasm_below::byte_laws::unsigned_numbers;
 use wasm_below::{BinaryReader, FromReader, MemoryUse, Never, Result, UsesMemory};
 
 fn read_extern_index(reader: &mut BinaryReader<'_>) -> Result<(u8, u32)>
-    ensures reads { Reads EncodesExternIndex result reader.old reader.new }
-    ensures fault { IfErr result (λ e. ExternIndexFault e.message reader.old e.offset) }
+    ensures { Reads EncodesExternIndex ExternIndexFault result reader.old reader.new }
 {
     let start = reader.current_position();
     let kind = match reader.read_u8() {
@@ -74,8 +73,7 @@ impl<'a> Export<'a> {
     ///
     /// Fails like `Name::read`, with `EndOfData` at the byte, or like `read_var_u32`.
     pub fn read(reader: &mut BinaryReader<'a>) -> Result<Export<'a>>
-        ensures reads { Reads EncodesExport result reader.old reader.new }
-        ensures fault { IfErr result (λ e. ExportFault e.message reader.old e.offset) }
+        ensures { Reads EncodesExport ExportFault result reader.old reader.new }
     {
         unsigned_numbers();
         let start = reader.current_position();
@@ -103,9 +101,7 @@ impl<'a> FromReader<'a> for Export<'a> {
     ghost fault = { λ m r offset. ExportFault m r offset };
 
     fn from_reader(_alloc: Global, reader: &mut BinaryReader<'a>) -> Result<Export<'a>>
-        ensures reads { ReadsValue EncodesExport false result reader.old reader.new }
-        ensures fault { IfErr result (λ e. HasFault ExportFault e reader.old) }
-        ensures memory { IfErr result (λ e. NeedsMemory (λ old. ⊤) e reader.old) }
+        ensures reads { ReadsValue EncodesExport ExportFault (λ old. ⊥) result reader.old reader.new }
         ensures placed { IfOk result (λ value. ⊤) }
     {
         Export::read(reader)

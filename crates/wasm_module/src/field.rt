@@ -1,4 +1,4 @@
-ghost use Rattle.std.specs.Prelude.{◌↔◌, IsTrue, IfErr};
+ghost use Rattle.std.specs.Prelude.{◌↔◌, IsTrue};
 ghost use Rattle.wasm_below.specs.Fault.{ManyFault};
 ghost use Rattle.wasm_below.specs.Source.{Reads, rest};
 ghost use Rattle.wasm_below.specs.TypeEncoding.{LedBy, ValTypeFault};
@@ -20,8 +20,7 @@ fn is_packed_next(reader: &BinaryReader<'_>) -> bool
 
 fn skip_packed(reader: &mut BinaryReader<'_>) -> Result<()>
     requires { LedBy IsPackedByte (rest reader.old) }
-    ensures reads { Reads IsStorage result reader.old reader.new }
-    ensures fault { IfErr result (λ e. ValTypeFault e.message reader.old e.offset) }
+    ensures { Reads IsStorage ValTypeFault result reader.old reader.new }
 {
     match reader.read_u8() {
         Ok(_) => Ok(()),
@@ -30,8 +29,7 @@ fn skip_packed(reader: &mut BinaryReader<'_>) -> Result<()>
 }
 
 fn skip_storage(reader: &mut BinaryReader<'_>) -> Result<()>
-    ensures reads { Reads IsStorage result reader.old reader.new }
-    ensures fault { IfErr result (λ e. ValTypeFault e.message reader.old e.offset) }
+    ensures { Reads IsStorage ValTypeFault result reader.old reader.new }
 {
     if is_packed_next(reader) {
         return skip_packed(reader);
@@ -43,8 +41,7 @@ fn skip_storage(reader: &mut BinaryReader<'_>) -> Result<()>
 }
 
 pub fn skip_field(reader: &mut BinaryReader<'_>) -> Result<()>
-    ensures reads { Reads IsField result reader.old reader.new }
-    ensures fault { IfErr result (λ e. FieldFault e.message reader.old e.offset) }
+    ensures { Reads IsField FieldFault result reader.old reader.new }
 {
     value_types();
     let start = reader.current_position();
@@ -62,9 +59,7 @@ pub fn skip_field(reader: &mut BinaryReader<'_>) -> Result<()>
 }
 
 fn skip_fields(reader: &mut BinaryReader<'_>, count: u32) -> Result<()>
-    ensures reads { Reads (IsMany IsField count) result reader.old reader.new }
-    ensures fault { IfErr result (λ e.
-        ManyFault IsField FieldFault count e.message reader.old e.offset) }
+    ensures { Reads (IsMany IsField count) (ManyFault IsField FieldFault count) result reader.old reader.new }
 {
     value_types();
     let start = reader.current_position();
@@ -81,8 +76,7 @@ fn skip_fields(reader: &mut BinaryReader<'_>, count: u32) -> Result<()>
 }
 
 pub fn count_fields(reader: &mut BinaryReader<'_>) -> Result<u32>
-    ensures reads { Reads EncodesFields result reader.old reader.new }
-    ensures fault { IfErr result (λ e. FieldsFault e.message reader.old e.offset) }
+    ensures { Reads EncodesFields FieldsFault result reader.old reader.new }
 {
     unsigned_numbers();
     let start = reader.current_position();

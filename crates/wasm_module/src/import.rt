@@ -1,6 +1,6 @@
-ghost use Rattle.std.specs.Prelude.{◌≡◌, ⊤, false, IfOk, IfErr};
+ghost use Rattle.std.specs.Prelude.{◌≡◌, ⊤, IfOk};
 ghost use Rattle.wasm_below.specs.bytes.features.WasmFeatures.{WasmFeatures};
-ghost use Rattle.wasm_below.specs.Fault.{HasFault, NeedsMemory, DeterminesRefusal};
+ghost use Rattle.wasm_below.specs.Fault.{DeterminesRefusal};
 ghost use Rattle.wasm_below.specs.FromReader.{ReadsValue};
 ghost use Rattle.wasm_below.specs.Sequence.{PrefixCode};
 ghost use Rattle.wasm_below.specs.Source.{Reads};
@@ -15,8 +15,7 @@ use wasm_below::byte_laws::unsigned_numbers;
 use wasm_below::{BinaryReader, FromReader, MemoryUse, Never, Result, UsesMemory};
 
 fn skip_extern_type_after_byte(reader: &mut BinaryReader<'_>, kind: u8) -> Result<()>
-    ensures reads { Reads (IsExternTypeAfterByte kind) result reader.old reader.new }
-    ensures fault { IfErr result (λ e. ExternTypeFaultAfterByte kind e.message reader.old e.offset) }
+    ensures { Reads (IsExternTypeAfterByte kind) (ExternTypeFaultAfterByte kind) result reader.old reader.new }
 {
     match kind {
         0 => match reader.read_var_u32() {
@@ -32,8 +31,7 @@ fn skip_extern_type_after_byte(reader: &mut BinaryReader<'_>, kind: u8) -> Resul
 }
 
 fn read_extern_type(reader: &mut BinaryReader<'_>) -> Result<u8>
-    ensures reads { Reads EncodesExternType result reader.old reader.new }
-    ensures fault { IfErr result (λ e. ExternTypeFault e.message reader.old e.offset) }
+    ensures { Reads EncodesExternType ExternTypeFault result reader.old reader.new }
 {
     let start = reader.current_position();
     let kind = match reader.read_u8() {
@@ -50,8 +48,7 @@ fn read_extern_type(reader: &mut BinaryReader<'_>) -> Result<u8>
 }
 
 fn read_named<'a>(reader: &mut BinaryReader<'a>) -> Result<(Name<'a>, u8)>
-    ensures reads { Reads EncodesNamed result reader.old reader.new }
-    ensures fault { IfErr result (λ e. NamedFault e.message reader.old e.offset) }
+    ensures { Reads EncodesNamed NamedFault result reader.old reader.new }
 {
     unsigned_numbers();
     let start = reader.current_position();
@@ -111,8 +108,7 @@ impl<'a> Import<'a> {
     /// After a byte that is none of the five kinds, nothing is read. Fails at the first part in
     /// error: with `EndOfData`, or like the read of a number or a type.
     pub fn read(reader: &mut BinaryReader<'a>) -> Result<Import<'a>>
-        ensures reads { Reads EncodesImport result reader.old reader.new }
-        ensures fault { IfErr result (λ e. ImportFault e.message reader.old e.offset) }
+        ensures { Reads EncodesImport ImportFault result reader.old reader.new }
     {
         unsigned_numbers();
         let start = reader.current_position();
@@ -144,9 +140,7 @@ impl<'a> FromReader<'a> for Import<'a> {
     ghost fault = { λ m r offset. ImportFault m r offset };
 
     fn from_reader(_alloc: Global, reader: &mut BinaryReader<'a>) -> Result<Import<'a>>
-        ensures reads { ReadsValue EncodesImport false result reader.old reader.new }
-        ensures fault { IfErr result (λ e. HasFault ImportFault e reader.old) }
-        ensures memory { IfErr result (λ e. NeedsMemory (λ old. ⊤) e reader.old) }
+        ensures reads { ReadsValue EncodesImport ImportFault (λ old. ⊥) result reader.old reader.new }
         ensures placed { IfOk result (λ value. ⊤) }
     {
         Import::read(reader)

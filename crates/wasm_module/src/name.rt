@@ -1,6 +1,6 @@
-ghost use Rattle.std.specs.Prelude.{◌≡◌, ⊤, false, IfOk, IfErr};
+ghost use Rattle.std.specs.Prelude.{◌≡◌, ⊤, IfOk};
 ghost use Rattle.wasm_below.specs.bytes.features.WasmFeatures.{WasmFeatures};
-ghost use Rattle.wasm_below.specs.Fault.{HasFault, NeedsMemory, DeterminesRefusal};
+ghost use Rattle.wasm_below.specs.Fault.{DeterminesRefusal};
 ghost use Rattle.wasm_below.specs.FromReader.{ReadsValue};
 ghost use Rattle.wasm_below.specs.Sequence.{PrefixCode};
 ghost use Rattle.wasm_below.specs.Source.{Reads};
@@ -37,8 +37,7 @@ impl<'a> Name<'a> {
     ///
     /// Fails like `read_var_u32`, or with `EndOfData` at the start of the bytes.
     pub fn read(reader: &mut BinaryReader<'a>) -> Result<Name<'a>>
-        ensures reads { Reads EncodesName result reader.old reader.new }
-        ensures fault { IfErr result (λ e. NameFault e.message reader.old e.offset) }
+        ensures { Reads EncodesName NameFault result reader.old reader.new }
     {
         unsigned_numbers();
         let start = reader.current_position();
@@ -86,8 +85,7 @@ impl<'a> NameAssociation<'a> {
     /// Reads an index and its name. Specification: Name Section, Name Maps. Fails like
     /// `read_var_u32`, then like `Name::read`.
     pub fn read(reader: &mut BinaryReader<'a>) -> Result<NameAssociation<'a>>
-        ensures reads { Reads EncodesNameAssociation result reader.old reader.new }
-        ensures fault { IfErr result (λ e. NameAssociationFault e.message reader.old e.offset) }
+        ensures { Reads EncodesNameAssociation NameAssociationFault result reader.old reader.new }
     {
         unsigned_numbers();
         let start = reader.current_position();
@@ -115,9 +113,7 @@ impl<'a> FromReader<'a> for NameAssociation<'a> {
     ghost fault = { λ m r offset. NameAssociationFault m r offset };
 
     fn from_reader(_alloc: Global, reader: &mut BinaryReader<'a>) -> Result<NameAssociation<'a>>
-        ensures reads { ReadsValue EncodesNameAssociation false result reader.old reader.new }
-        ensures fault { IfErr result (λ e. HasFault NameAssociationFault e reader.old) }
-        ensures memory { IfErr result (λ e. NeedsMemory (λ old. ⊤) e reader.old) }
+        ensures reads { ReadsValue EncodesNameAssociation NameAssociationFault (λ old. ⊥) result reader.old reader.new }
         ensures placed { IfOk result (λ value. ⊤) }
     {
         NameAssociation::read(reader)

@@ -1,4 +1,4 @@
-ghost use Rattle.std.specs.Prelude.{◌≡◌, IfErr};
+ghost use Rattle.std.specs.Prelude.{◌≡◌};
 ghost use Rattle.wasm_below.specs.Source.{Reads};
 ghost use Rattle.wasm_module.specs.Module.{EncodesPreamble, PreambleFault, preamble_kind};
 
@@ -63,8 +63,7 @@ impl fmt::Display for PreambleKind {
 /// Reads a preamble of any kind. Specification: Modules. Fails with `EndOfData` at the start of the
 /// number that the data lacks.
 pub fn read_preamble(reader: &mut BinaryReader<'_>) -> Result<Preamble>
-    ensures reads { Reads EncodesPreamble result reader.old reader.new }
-    ensures fault { IfErr result (λ e. PreambleFault e.message reader.old e.offset) }
+    ensures { Reads EncodesPreamble PreambleFault result reader.old reader.new }
 {
     fixed_numbers();
     let start = reader.current_position();

@@ -1,4 +1,4 @@
-ghost use Rattle.std.specs.Prelude.{◌≡◌, IfOk, IfErr};
+ghost use Rattle.std.specs.Prelude.{◌≡◌, IfOk};
 ghost use Rattle.wasm_below.specs.Source.{Reads, offset_of, end_of};
 ghost use Rattle.wasm_module.specs.Module.{EncodesSection, SectionFault};
 
@@ -40,9 +40,8 @@ impl<'a> Section<'a> {
 ///
 /// Fails with `EndOfData` at the end of the data, otherwise like `read_reader` after the number.
 pub fn read_section<'a>(reader: &mut BinaryReader<'a>) -> Result<Section<'a>>
-    ensures reads { Reads (EncodesSection reader.old.features) result reader.old reader.new }
+    ensures reads { Reads (EncodesSection reader.old.features) SectionFault result reader.old reader.new }
     ensures placed { IfOk result (λ s. end_of s.contents ≡ offset_of reader.new) }
-    ensures fault { IfErr result (λ e. SectionFault e.message reader.old e.offset) }
 {
     let start = reader.current_position();
     let id = match reader.read_u8() {

@@ -1,5 +1,4 @@
 //! Skips the type of an import after the byte of its kind.
-ghost use Rattle.std.specs.Prelude.{IfErr};
 ghost use Rattle.wasm_below.specs.Source.{Reads};
 ghost use Rattle.wasm_module.specs.Imports.{IsMost, MostFault, IsBounds, BoundsFault, IsLimits, LimitsFault, IsTable, TableFault, IsGlobal, GlobalFault, IsTag, TagFault};
 
@@ -8,8 +7,7 @@ use wasm_below::type_laws::{reference_types, value_types};
 use wasm_below::{BinaryReader, RefType, Result, ValType};
 
 fn skip_most(reader: &mut BinaryReader<'_>, flags: u8) -> Result<()>
-    ensures reads { Reads (IsMost flags) result reader.old reader.new }
-    ensures fault { IfErr result (λ e. MostFault flags e.message reader.old e.offset) }
+    ensures { Reads (IsMost flags) (MostFault flags) result reader.old reader.new }
 {
     if flags % 2 != 1 {
         return Ok(());
@@ -21,8 +19,7 @@ fn skip_most(reader: &mut BinaryReader<'_>, flags: u8) -> Result<()>
 }
 
 fn skip_bounds(reader: &mut BinaryReader<'_>, flags: u8) -> Result<()>
-    ensures reads { Reads (IsBounds flags) result reader.old reader.new }
-    ensures fault { IfErr result (λ e. BoundsFault flags e.message reader.old e.offset) }
+    ensures { Reads (IsBounds flags) (BoundsFault flags) result reader.old reader.new }
 {
     unsigned_numbers();
     let start = reader.current_position();
@@ -40,8 +37,7 @@ fn skip_bounds(reader: &mut BinaryReader<'_>, flags: u8) -> Result<()>
 }
 
 pub fn skip_limits(reader: &mut BinaryReader<'_>) -> Result<()>
-    ensures reads { Reads IsLimits result reader.old reader.new }
-    ensures fault { IfErr result (λ e. LimitsFault e.message reader.old e.offset) }
+    ensures { Reads IsLimits LimitsFault result reader.old reader.new }
 {
     let start = reader.current_position();
     let flags = match reader.read_u8() {
@@ -58,8 +54,7 @@ pub fn skip_limits(reader: &mut BinaryReader<'_>) -> Result<()>
 }
 
 pub fn skip_table(reader: &mut BinaryReader<'_>) -> Result<()>
-    ensures reads { Reads IsTable result reader.old reader.new }
-    ensures fault { IfErr result (λ e. TableFault e.message reader.old e.offset) }
+    ensures { Reads IsTable TableFault result reader.old reader.new }
 {
     reference_types();
     let start = reader.current_position();
@@ -77,8 +72,7 @@ pub fn skip_table(reader: &mut BinaryReader<'_>) -> Result<()>
 }
 
 pub fn skip_global(reader: &mut BinaryReader<'_>) -> Result<()>
-    ensures reads { Reads IsGlobal result reader.old reader.new }
-    ensures fault { IfErr result (λ e. GlobalFault e.message reader.old e.offset) }
+    ensures { Reads IsGlobal GlobalFault result reader.old reader.new }
 {
     value_types();
     let start = reader.current_position();
@@ -96,8 +90,7 @@ pub fn skip_global(reader: &mut BinaryReader<'_>) -> Result<()>
 }
 
 pub fn skip_tag(reader: &mut BinaryReader<'_>) -> Result<()>
-    ensures reads { Reads IsTag result reader.old reader.new }
-    ensures fault { IfErr result (λ e. TagFault e.message reader.old e.offset) }
+    ensures { Reads IsTag TagFault result reader.old reader.new }
 {
     let start = reader.current_position();
     match reader.read_u8() {

@@ -1,7 +1,7 @@
 use Rattle.std.proofs.Common.{◌≡◌, ◌+◌, Bool, true, false, Some, Result, Ok, sym, subst, ◌∙◌}
 use Rattle.wasm_disassembly.specs.operators.below.bytes.error.Error.{Error}
-use Rattle.wasm_disassembly.specs.operators.below.FromReader.{ReadsValue, EncodesReader, ReaderFault}
-use Rattle.wasm_disassembly.specs.operators.below.Source.{Reader, offset_of, end_of}
+use Rattle.wasm_disassembly.specs.operators.below.FromReader.{EncodesReader, ReaderFault}
+use Rattle.wasm_disassembly.specs.operators.below.Source.{Reader, offset_of, end_of, HasRead}
 use Rattle.wasm_disassembly.specs.operators.Section.{SectionItems, StepsSection}
 use Rattle.wasm_module_listing.specs.declared.fault.Fault.{Fault}
 use Rattle.wasm_module_listing.specs.declared.fault.Fault.TheVariants as fault
@@ -14,11 +14,11 @@ pub not_asked_for : (A B : Type 0) (asked given : Bool) → asked ≡ given → 
 not_asked_for A B asked given same is b = subst (λ b. WhereAsked b A B) (sym is ∙ same) b
 
 pub item_read : (item : Result Reader Error) (body : Reader) (old new : SectionItems) → item ≡ Ok body →
-    StepsSection (EncodesReader old.reader.features) ReaderFault (λ o b n. end_of b ≡ offset_of n) false (Some item) old new →
+    StepsSection (EncodesReader old.reader.features) ReaderFault (λ r. ⊥) (λ o b n. end_of b ≡ offset_of n) (Some item) old new →
     (old.refused ≡ false) × (new.refused ≡ false) × (old.remaining ≡ new.remaining + 1) ×
-    ReadsValue (EncodesReader old.reader.features) false (Ok body) old.reader new.reader × (end_of body ≡ offset_of new.reader)
+    HasRead (EncodesReader old.reader.features) body old.reader new.reader × (end_of body ≡ offset_of new.reader)
 item_read item body old new is steps =
-    subst (λ (x : Result Reader Error). StepsSection (EncodesReader old.reader.features) ReaderFault (λ o b n. end_of b ≡ offset_of n) false (Some x) old new) is steps
+    subst (λ (x : Result Reader Error). StepsSection (EncodesReader old.reader.features) ReaderFault (λ r. ⊥) (λ o b n. end_of b ≡ offset_of n) (Some x) old new) is steps
 
 pub asked_only : (A B : Type 0) (asked given : Bool) → asked ≡ given → asked ≡ true → WhereAsked given A B → A
 asked_only A B asked given same is requested = subst (λ b. WhereAsked b A B) (sym same ∙ is) requested

@@ -2,13 +2,13 @@ use Rattle.std.proofs.Common.{◌≡◌, ℕ, false, List, [], ◌∷◌, ◌++�
 use Rattle.std.specs.Prelude.{◌&&◌}
 use Rattle.std.specs.Io.KnownBytes.{Appends, Keeps}
 use Rattle.wasm_disassembly.specs.operators.below.bytes.error.Error.{Error}
-use Rattle.wasm_disassembly.specs.operators.below.FromReader.{ReadsValue, EncodesReader}
-use Rattle.wasm_disassembly.specs.operators.below.Source.{Reader, offset_of, end_of}
+use Rattle.wasm_disassembly.specs.operators.below.FromReader.{EncodesReader}
+use Rattle.wasm_disassembly.specs.operators.below.Source.{Reader, offset_of, end_of, HasRead}
 use Rattle.wasm_module_listing.specs.Listing.{BodiesOccur, Refusals, Reported, are_none}
 
 pub body_more : (r : Reader) (bs : List Reader) (mid new b : Reader) → BodiesOccur r bs mid →
-    ReadsValue (EncodesReader mid.features) false (Ok b) mid new → end_of b ≡ offset_of new → BodiesOccur r (bs ++ b ∷ []) new
-body_more r [] mid new b same reads placed = (new, subst (λ z. ReadsValue (EncodesReader z.features) false (Ok b) z new) same reads, placed, refl)
+    HasRead (EncodesReader mid.features) b mid new → end_of b ≡ offset_of new → BodiesOccur r (bs ++ b ∷ []) new
+body_more r [] mid new b same reads placed = (new, subst (λ z. HasRead (EncodesReader z.features) b z new) same reads, placed, refl)
 body_more r (c ∷ cs) mid new b (next, first, occurs, others) reads placed = (next, first, occurs, body_more next cs mid new b others reads placed)
 
 pub reported_both : {S : Type 0} (reports : S → ℕ → Error → S → Type 0) (a b : Refusals) (old mid new : S) → Reported reports a old mid → Reported reports b mid new →

@@ -1,14 +1,14 @@
 -- A code section has at most one list of bodies.
-use Rattle.std.proofs.Common.{◌≡◌, ℕ, ◌+◌, ◌<◌, true, false, List, [], ◌∷◌, ◌++◌, length, get_or, drop, Ok, refl, sym, subst, ap, ◌∙◌, append_assoc, append-nil, arith, inl, inr}
+use Rattle.std.proofs.Common.{◌≡◌, ℕ, ◌+◌, ◌<◌, List, [], ◌∷◌, ◌++◌, length, get_or, drop, refl, sym, subst, ap, ◌∙◌, append_assoc, append-nil, arith, inl, inr}
 use Rattle.wasm_disassembly.specs.operators.below.bytes.error.Error.{Error}
 use Rattle.wasm_disassembly.specs.operators.below.bytes.features.WasmFeatures.{WasmFeatures}
 use Rattle.wasm_disassembly.specs.operators.below.bytes.message.Message.{Message}
 use Rattle.wasm_disassembly.specs.operators.below.bytes.message.Message.TheVariants as message
-use Rattle.wasm_disassembly.specs.operators.below.FromReader.{ReadsValue, EncodesReader, IsRefused}
+use Rattle.wasm_disassembly.specs.operators.below.FromReader.{EncodesReader, ReaderFault, IsRefused}
 use Rattle.wasm_disassembly.specs.operators.below.Number.{EncodesUnsigned}
 use Rattle.wasm_disassembly.specs.operators.below.Refusal.{IsReadFault}
 use Rattle.wasm_disassembly.specs.operators.below.Sequence.{PrefixCode}
-use Rattle.wasm_disassembly.specs.operators.below.Source.{Reader, rest, offset_of, end_of, at_position, MayFollow, IsRefusal, Reads}
+use Rattle.wasm_disassembly.specs.operators.below.Source.{Reader, rest, offset_of, end_of, at_position, MayFollow, IsRefusal, HasRead}
 use Rattle.wasm_module_listing.specs.Listing.{BodiesOccur, IsCode, StopsCode, RefusesCode}
 
 may_end : (m : Message) → (m ≡ message.OutOfMemory → ⊥) → MayFollow m []
@@ -16,15 +16,16 @@ may_end message.EndOfData h = refl
 may_end message.OutOfMemory h = absurd (h refl)
 may_end _ h = tt
 
-pub not_refused : {X : Type 0} (P : List ℕ → X → Type 0) (e : Error) (r b : Reader) (x : X) → IsRefused P false e r → ReadsValue P false (Ok x) r b → ⊥
-not_refused P e r b x refused (text, is, takes) =
-    let memory : e.message ≡ message.OutOfMemory → ⊥ = λ m. let h : false ≡ true = (refused.memory m).0 in cc in
+pub not_refused : {X : Type 0} (P : List ℕ → X → Type 0) (F : Message → Reader → ℕ → Type 0) (e : Error) (r b : Reader) (x : X) → IsRefused P F (λ s. ⊥) e r →
+    HasRead P x r b → ⊥
+not_refused P F e r b x refused (text, is, takes) =
+    let memory : e.message ≡ message.OutOfMemory → ⊥ = λ m. (refused.memory m).0 in
     refused.refuses [] (may_end e.message memory) text (rest b) x is (append-nil (rest r) ∙ takes.parts)
 
 no_memory : (m : Message) → IsReadFault m → m ≡ message.OutOfMemory → ⊥
 no_memory m h is = subst IsReadFault is h
 
-number_not_refused : (e : Error) (r b : Reader) (n : ℕ) → IsRefusal (EncodesUnsigned 32) e r → Reads (EncodesUnsigned 32) (Ok n) r b → ⊥
+number_not_refused : (e : Error) (r b : Reader) (n : ℕ) → IsRefusal (EncodesUnsigned 32) e r → HasRead (EncodesUnsigned 32) n r b → ⊥
 number_not_refused e r b n refused (text, is, takes) =
     refused.refuses [] (may_end e.message (no_memory e.message refused.fault)) text (rest b) n is (append-nil (rest r) ∙ takes.parts)
 
@@ -48,12 +49,12 @@ same_reader b c features start buffer position =
     ap (λ z. reader_by c.features c.start c.buffer z) position
 
 module _ (numbers : PrefixCode (EncodesUnsigned 32)) where
-  one_number : (r a b : Reader) (n m : ℕ) → Reads (EncodesUnsigned 32) (Ok n) r a → Reads (EncodesUnsigned 32) (Ok m) r b → (n ≡ m) × (a ≡ b)
+  one_number : (r a b : Reader) (n m : ℕ) → HasRead (EncodesUnsigned 32) n r a → HasRead (EncodesUnsigned 32) m r b → (n ≡ m) × (a ≡ b)
   one_number r a b n m (text, is, takes) (other, is_other, takes_other) =
       let same = numbers text other (rest a) (rest b) n m is is_other (sym takes.parts ∙ takes_other.parts) in
       (same.1, takes.moved ∙ ap (λ (z : List ℕ). at_position r (r.position + length z)) same.0 ∙ sym takes_other.moved)
 
-  one_body : (r mid next b c : Reader) → ReadsValue (EncodesReader r.features) false (Ok b) r mid → ReadsValue (EncodesReader r.features) false (Ok c) r next →
+  one_body : (r mid next b c : Reader) → HasRead (EncodesReader r.features) b r mid → HasRead (EncodesReader r.features) c r next →
       end_of b ≡ offset_of mid → end_of c ≡ offset_of next → (b ≡ c) × (mid ≡ next)
   one_body r mid next b c (text, (n, body, size, q, number, (f, buffer, start, long)), takes)
       (text', (n', body', size', q', number', (f', buffer', start', long')), takes') placed placed' =
@@ -82,10 +83,10 @@ module _ (numbers : PrefixCode (EncodesUnsigned 32)) where
       (ap (λ z. z ∷ bs) first.0 ∙ ap (λ zs. c ∷ zs) more.0, more.1)
 
   one_more : (r : Reader) (bs cs : List Reader) (mid end : Reader) → BodiesOccur r bs mid → BodiesOccur r cs end → length bs < length cs →
-      (c : Reader) × (next : Reader) × ReadsValue (EncodesReader mid.features) false (Ok c) mid next
+      (c : Reader) × (next : Reader) × HasRead (EncodesReader mid.features) c mid next
   one_more r bs [] mid end a b l = absurd (omega (arith, l))
   one_more r [] (c ∷ cs) mid end a (next, reads, placed, others) l =
-      (c, next, subst (λ z. ReadsValue (EncodesReader z.features) false (Ok c) z next) (sym a) reads)
+      (c, next, subst (λ z. HasRead (EncodesReader z.features) c z next) (sym a) reads)
   one_more r (b ∷ bs) (c ∷ cs) mid end (n, reads, placed, others) (n', reads', placed', others') l =
       let first = one_body r n n' b c reads reads' placed placed' in
       one_more n bs cs mid end others (subst (λ z. BodiesOccur z cs end) (sym first.1) others') (omega (arith, l))
@@ -100,10 +101,10 @@ module _ (numbers : PrefixCode (EncodesUnsigned 32)) where
       let same = one_number contents s.first h.first (length before + s.remaining) (length all) s.count h.count in
       let occur = subst (λ z. BodiesOccur z all h.end) (sym same.1) h.occur in
       elim s.stops [
-        | inl (more, refused, fault) ↦
+        | inl (more, refused) ↦
             let fewer : length before < length all = let e = same.0 in omega (arith, more, e) in
             let (c, next, reads) = one_more s.first before all s.end h.end s.occur occur fewer in
-            not_refused (EncodesReader s.end.features) e s.end next c refused reads
+            not_refused (EncodesReader s.end.features) ReaderFault e s.end next c refused reads
         | inr (none, (left, message, offset)) ↦
             let as_many : length before ≡ length all = let e = same.0 in omega (arith, none, e) in
             let ends = (same_bodies s.first before all s.end h.end s.occur occur as_many).1 in

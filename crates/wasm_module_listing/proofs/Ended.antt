@@ -1,16 +1,16 @@
-use Rattle.std.proofs.Common.{◌≡◌, ◌+◌, true, false, List, length, Option, Some, Result, Ok, Err, sym, subst, ap, ◌∙◌, arith, inl, inr}
+use Rattle.std.proofs.Common.{◌≡◌, ◌+◌, true, false, List, length, Option, Some, Result, Err, sym, subst, ap, ◌∙◌, arith, inl, inr}
 use Rattle.wasm_disassembly.specs.operators.below.bytes.error.Error.{Error}
 use Rattle.wasm_disassembly.specs.operators.below.FromReader.{EncodesReader, ReaderFault}
 use Rattle.wasm_disassembly.specs.operators.below.Number.{EncodesUnsigned}
-use Rattle.wasm_disassembly.specs.operators.below.Source.{Reader, offset_of, end_of, Reads}
+use Rattle.wasm_disassembly.specs.operators.below.Source.{Reader, offset_of, end_of, HasRead}
 use Rattle.wasm_disassembly.specs.operators.Section.{Section, SectionItems, items_of, IsDone, StepsSection}
 use Rattle.wasm_module_listing.specs.Listing.{BodiesOccur, IsCode, StopsCode}
 
 abbrev Steps : Option (Result Reader Error) → SectionItems → SectionItems → Type 0
-Steps item old new = StepsSection (EncodesReader old.reader.features) ReaderFault (λ o b n. end_of b ≡ offset_of n) false item old new
+Steps item old new = StepsSection (EncodesReader old.reader.features) ReaderFault (λ r. ⊥) (λ o b n. end_of b ≡ offset_of n) item old new
 
 -- The end after the last body.
-pub all_read : (contents : Reader) (s : Section) (begun left : SectionItems) (bodies : List Reader) → Reads (EncodesUnsigned 32) (Ok s.count) contents s.reader →
+pub all_read : (contents : Reader) (s : Section) (begun left : SectionItems) (bodies : List Reader) → HasRead (EncodesUnsigned 32) s.count contents s.reader →
     begun ≡ items_of s → BodiesOccur begun.reader bodies left.reader → length bodies + left.remaining ≡ begun.remaining → left.refused ≡ false → IsDone left →
     IsCode contents bodies
 all_read contents s begun left bodies count gives occur sum open_still (inl refused) = absurd (let h : true ≡ false = sym refused ∙ open_still in cc)
@@ -19,7 +19,7 @@ all_read contents s begun left bodies count gives occur sum open_still (inr (non
     let as_many : s.count ≡ length bodies = omega (arith, all, sum, none) in
     record {
       first = s.reader;
-      count = subst (λ n. Reads (EncodesUnsigned 32) (Ok n) contents s.reader) as_many count;
+      count = subst (λ n. HasRead (EncodesUnsigned 32) n contents s.reader) as_many count;
       end = left.reader;
       occur = subst (λ (i : SectionItems). BodiesOccur i.reader bodies left.reader) gives occur;
       all = end;
@@ -27,7 +27,7 @@ all_read contents s begun left bodies count gives occur sum open_still (inr (non
 
 -- The end at an error.
 pub stopped_after : (contents : Reader) (s : Section) (begun left new : SectionItems) (bodies : List Reader) (e : Error) (item : Result Reader Error) →
-    Reads (EncodesUnsigned 32) (Ok s.count) contents s.reader → begun ≡ items_of s → BodiesOccur begun.reader bodies left.reader →
+    HasRead (EncodesUnsigned 32) s.count contents s.reader → begun ≡ items_of s → BodiesOccur begun.reader bodies left.reader →
     length bodies + left.remaining ≡ begun.remaining → item ≡ Err e → Steps (Some item) left new → StopsCode e contents bodies
 stopped_after contents s begun left new bodies e item count gives occur sum is steps =
     let all : begun.remaining ≡ s.count = ap (λ (i : SectionItems). i.remaining) gives in
@@ -36,7 +36,7 @@ stopped_after contents s begun left new bodies e item count gives occur sum is s
     record {
       first = s.reader;
       remaining = left.remaining;
-      count = subst (λ n. Reads (EncodesUnsigned 32) (Ok n) contents s.reader) as_many count;
+      count = subst (λ n. HasRead (EncodesUnsigned 32) n contents s.reader) as_many count;
       end = left.reader;
       occur = subst (λ (i : SectionItems). BodiesOccur i.reader bodies left.reader) gives occur;
       stops = stopped.2;

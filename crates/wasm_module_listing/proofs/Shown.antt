@@ -1,7 +1,7 @@
 use Rattle.std.proofs.Common.{◌≡◌, ℕ, List, [], ◌∷◌, ◌++◌, Option, Result, Ok, Err, IfErr, refl, sym, ap, ◌∙◌, append_assoc, append-nil}
 use Rattle.std.specs.Io.KnownBytes.{Appends}
 use Rattle.wasm_disassembly.specs.operators.below.bytes.features.WasmFeatures.{WasmFeatures}
-use Rattle.wasm_disassembly.specs.operators.below.Source.{Reader, offset_of, end_of, reader_of, Reads}
+use Rattle.wasm_disassembly.specs.operators.below.Source.{Reader, offset_of, end_of, reader_of, HasRead}
 use Rattle.wasm_functions.specs.of_module.Module.{SectionParts, EncodesSection}
 use Rattle.wasm_functions.specs.Sections.{BeginsModule, SectionsOccur}
 use Rattle.wasm_module_listing.specs.declared.fault.Fault.{Fault}
@@ -14,7 +14,7 @@ use Rattle.wasm_module_listing.proofs.Bodies.{appends_both, appends_none}
 -- What the law `next_section` states of sections and the next.
 abbrev pub OfNext : Type 0
 OfNext = (first : Reader) (sections : List SectionParts) (mid new : Reader) (next : SectionParts) → SectionsOccur first sections mid →
-    Reads (EncodesSection mid.features) (Ok next) mid new → end_of next.contents ≡ offset_of new → SectionsOccur first (sections ++ next ∷ []) new
+    HasRead (EncodesSection mid.features) next mid new → end_of next.contents ≡ offset_of new → SectionsOccur first (sections ++ next ∷ []) new
 
 shown_more : (ss : List SectionParts) (s : SectionParts) (d : Detail) (text : List ℕ) → AreShown ss text → HasDetail s (Ok d) →
     AreShown (ss ++ s ∷ []) (text ++ section_line s d)
@@ -31,7 +31,7 @@ pub shows_none : (first : Reader) (old : Option (List ℕ)) → ShowsSections fi
 shows_none first old = record { sections = []; occur = refl; text = []; shown = refl; appends = appends_none old }
 
 pub shows_more : OfNext → (first mid new : Reader) (s : SectionParts) (d : Detail) (old between after : Option (List ℕ)) → ShowsSections first mid old between →
-    Reads (EncodesSection mid.features) (Ok s) mid new → end_of s.contents ≡ offset_of new → HasDetail s (Ok d) → Appends between after (section_line s d) →
+    HasRead (EncodesSection mid.features) s mid new → end_of s.contents ≡ offset_of new → HasDetail s (Ok d) → Appends between after (section_line s d) →
     ShowsSections first new old after
 shows_more one_more first mid new s d old between after h reads placed has wrote = record {
   sections = h.sections ++ s ∷ [];

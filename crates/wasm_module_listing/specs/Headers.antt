@@ -5,7 +5,7 @@ use Rattle.std.specs.Io.KnownBytes.{Appends}
 use Rattle.wasm_disassembly.specs.operators.below.bytes.error.Error.{Error}
 use Rattle.wasm_disassembly.specs.operators.below.bytes.features.WasmFeatures.{WasmFeatures}
 use Rattle.wasm_disassembly.specs.operators.below.Number.{EncodesUnsigned}
-use Rattle.wasm_disassembly.specs.operators.below.Source.{Reader, rest, offset_of, end_of, reader_of, IsRefusal, Reads}
+use Rattle.wasm_disassembly.specs.operators.below.Source.{Reader, rest, offset_of, end_of, reader_of, IsRefusal, HasRead}
 use Rattle.wasm_disassembly.specs.lines.text.Values.{byte_text}
 use Rattle.wasm_functions.specs.of_module.Module.{SectionParts, EncodesSection}
 use Rattle.wasm_functions.specs.of_module.Names.{EncodesName}
@@ -54,9 +54,9 @@ is_numbered id = if id == 0 then 0 else (if nat_lt id 14 then 1 else 2)
 
 -- The section's `Detail`, or the error of reading a name or number.
 abbrev pub HasDetail : SectionParts → Result Detail Error → Type 0
-HasDetail s (Ok (detail.Custom name)) = (s.id ≡ 0) × (after : Reader) × Reads EncodesName (Ok name.now) s.contents after
-HasDetail s (Ok (detail.Start index)) = (s.id ≡ 8) × (after : Reader) × Reads (EncodesUnsigned 32) (Ok index) s.contents after
-HasDetail s (Ok (detail.Count number)) = (s.id ≡ 8 → ⊥) × (is_numbered s.id ≡ 1) × (after : Reader) × Reads (EncodesUnsigned 32) (Ok number) s.contents after
+HasDetail s (Ok (detail.Custom name)) = (s.id ≡ 0) × (after : Reader) × HasRead EncodesName name.now s.contents after
+HasDetail s (Ok (detail.Start index)) = (s.id ≡ 8) × (after : Reader) × HasRead (EncodesUnsigned 32) index s.contents after
+HasDetail s (Ok (detail.Count number)) = (s.id ≡ 8 → ⊥) × (is_numbered s.id ≡ 1) × (after : Reader) × HasRead (EncodesUnsigned 32) number s.contents after
 HasDetail s (Ok (detail.Unknown id)) = (s.id ≡ id) × (is_numbered id ≡ 2)
 HasDetail s (Err e) = ((s.id ≡ 0) × IsRefusal EncodesName e s.contents) ⊎ ((is_numbered s.id ≡ 1) × IsRefusal (EncodesUnsigned 32) e s.contents)
 
@@ -81,7 +81,7 @@ pub record ShowsSections (first next : Reader) (old new : Option (List ℕ)) : T
 abbrev pub StopsSections : Error → Reader → Type 0
 StopsSections e next =
     IsRefusal (EncodesSection next.features) e next ⊎
-    ((s : SectionParts) × (later : Reader) × Reads (EncodesSection next.features) (Ok s) next later × HasDetail s (Err e))
+    ((s : SectionParts) × (later : Reader) × HasRead (EncodesSection next.features) s next later × HasDetail s (Err e))
 
 -- The lines of all sections are appended, or of those before an error, unless writing or allocation
 -- failed.

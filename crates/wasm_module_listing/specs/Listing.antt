@@ -4,9 +4,9 @@ use Rattle.std.specs.Prelude.{◌≡◌, ◌==◌, ◌⊎◌, ℕ, ◌+◌, Bool
 use Rattle.std.specs.Io.KnownBytes.{Appends, Keeps}
 use Rattle.wasm_disassembly.specs.operators.below.bytes.error.Error.{Error}
 use Rattle.wasm_disassembly.specs.operators.below.bytes.features.WasmFeatures.{WasmFeatures}
-use Rattle.wasm_disassembly.specs.operators.below.FromReader.{ReadsValue, EncodesReader, ReaderFault}
+use Rattle.wasm_disassembly.specs.operators.below.FromReader.{EncodesReader, ReaderFault}
 use Rattle.wasm_disassembly.specs.operators.below.Number.{EncodesUnsigned}
-use Rattle.wasm_disassembly.specs.operators.below.Source.{Reader, rest, offset_of, end_of, reader_of, source_of, Reads, IsRefusal}
+use Rattle.wasm_disassembly.specs.operators.below.Source.{Reader, rest, offset_of, end_of, reader_of, source_of, HasRead, IsRefusal}
 use Rattle.wasm_disassembly.specs.operators.Body.{EncodesBody}
 use Rattle.wasm_disassembly.specs.operators.Expression.{Placed}
 use Rattle.wasm_disassembly.specs.operators.Locals.{Declaration, max_locals}
@@ -26,12 +26,12 @@ use Rattle.wasm_module_listing.specs.declared.fault.MissingFunction.{MissingFunc
 -- offsets.
 abbrev pub BodiesOccur : Reader → List Reader → Reader → Type 0
 BodiesOccur r [] end = end ≡ r
-BodiesOccur r (b ∷ bs) end = (mid : Reader) × ReadsValue (EncodesReader r.features) false (Ok b) r mid × (end_of b ≡ offset_of mid) × BodiesOccur mid bs end
+BodiesOccur r (b ∷ bs) end = (mid : Reader) × HasRead (EncodesReader r.features) b r mid × (end_of b ≡ offset_of mid) × BodiesOccur mid bs end
 
 -- The contents of a code section are the number of bodies and these bodies.
 pub record IsCode (contents : Reader) (bodies : List Reader) : Type 0 where
   pub first : Reader
-  pub count : Reads (EncodesUnsigned 32) (Ok (length bodies)) contents first
+  pub count : HasRead (EncodesUnsigned 32) (length bodies) contents first
   pub end : Reader
   pub occur : BodiesOccur first bodies end
   pub all : rest end ≡ []
@@ -40,10 +40,10 @@ pub record IsCode (contents : Reader) (bodies : List Reader) : Type 0 where
 pub record StopsCode (e : Error) (contents : Reader) (bodies : List Reader) : Type 0 where
   pub first : Reader
   pub remaining : ℕ
-  pub count : Reads (EncodesUnsigned 32) (Ok (length bodies + remaining)) contents first
+  pub count : HasRead (EncodesUnsigned 32) (length bodies + remaining) contents first
   pub end : Reader
   pub occur : BodiesOccur first bodies end
-  pub stops : StopsSection (EncodesReader end.features) ReaderFault false e (record { remaining = remaining; reader = end; refused = false })
+  pub stops : StopsSection (EncodesReader end.features) ReaderFault (λ r. ⊥) e (record { remaining = remaining; reader = end; refused = false })
 
 -- The number of bodies is in error, or what follows these bodies is.
 abbrev pub RefusesCode : Error → Reader → List Reader → Type 0

@@ -1,12 +1,12 @@
-use Rattle.std.proofs.Common.{◌≡◌, ℕ, ◌+◌, ◌<◌, List, ◌++◌, length, Ok, refl, sym, ap, ◌∙◌, append_assoc, arith, inl, inr}
+use Rattle.std.proofs.Common.{◌≡◌, ℕ, ◌+◌, ◌<◌, List, ◌++◌, length, Err, refl, sym, ap, ◌∙◌, append_assoc, arith, inl, inr}
 use Rattle.wasm_operators_readers.specs.below.bytes.error.Error.{Error}
 use Rattle.wasm_operators_readers.specs.below.Number.{EncodesUnsigned}
 use Rattle.wasm_operators_readers.specs.below.Sequence.{Then, PrefixCode}
-use Rattle.wasm_operators_readers.specs.below.Source.{Reader, rest, at_position, Takes, IsRefusal, Reads, U32Fault}
-use Rattle.wasm_operators_readers.specs.below.TypeEncoding.{EncodesValType}
+use Rattle.wasm_operators_readers.specs.below.Source.{Reader, rest, at_position, Takes, IsRefusal, HasRead, Reads, U32Fault}
+use Rattle.wasm_operators_readers.specs.below.TypeEncoding.{EncodesValType, ValTypeFault}
 use Rattle.wasm_operators_readers.proofs.of_below.Blocks.{refused_now}
-use Rattle.wasm_operators_readers.proofs.of_below.Sequences.{then_prefix_code, then_first, then_second, refuses_by}
-use Rattle.wasm_operators_readers.proofs.of_below.Steps.{number_prefix_code, second_refused}
+use Rattle.wasm_operators_readers.proofs.of_below.Sequences.{then_prefix_code, then_first, then_second}
+use Rattle.wasm_operators_readers.proofs.of_below.Steps.{number_prefix_code, first_missing, second_missing, missing_as}
 use Rattle.wasm_operators_readers.proofs.of_below.TakesLemmas.{takes_then, same_rest}
 use Rattle.wasm_operators_readers.proofs.of_below.TypePrefixCodes.{value_prefix_code}
 use Rattle.wasm_operators_readers.specs.imm.Lists.{EncodesMany}
@@ -38,16 +38,22 @@ Typed number ty d = (d.0 ≡ number) × EncodesValType ty d.1
 split : (text : List ℕ) (d : Declaration) → EncodesDeclaration text d → (e : Declaration) × Then (EncodesUnsigned 32) Typed text e
 split text d (a, b, e, p, q) = (d, (a, b, d.0, e, p, (refl, q)))
 
-pub type_refused : (e : Error) (old mid mid2 new : Reader) (number position : ℕ) → Reads (EncodesUnsigned 32) (Ok number) old mid →
-    (mid2 ≡ mid) × IsRefusal EncodesValType e mid → position ≡ old.position → new ≡ at_position mid2 position →
-    (new ≡ old) × IsRefusal EncodesDeclaration e old
-type_refused e old mid mid2 new number position r (same, h) at went =
-    let typed : IsRefusal (Typed number) e mid = refuses_by EncodesValType (Typed number) e mid (λ text d p. (d.1, p.1)) h in
-    let s = second_refused (EncodesUnsigned 32) Typed e old mid mid2 new number position (number_prefix_code 32) r (same, typed) at went in
-    (s.0, refuses_by (Then (EncodesUnsigned 32) Typed) EncodesDeclaration e old split s.1)
+pub type_refused : (e : Error) (old mid mid2 new : Reader) (number position : ℕ) → HasRead (EncodesUnsigned 32) number old mid →
+    Reads EncodesValType ValTypeFault (Err e) mid mid2 → position ≡ old.position → new ≡ at_position mid2 position →
+    Reads EncodesDeclaration DeclarationFault (Err e) old new
+type_refused e old mid mid2 new number position r h at went =
+    let typed = missing_as EncodesValType (Typed number) ValTypeFault ValTypeFault e mid mid2 (λ text d p. (d.1, p.1)) (λ m offset f. f) h in
+    missing_as (Then (EncodesUnsigned 32) Typed) EncodesDeclaration DeclarationFault DeclarationFault e old new split (λ m offset f. f)
+    (second_missing (EncodesUnsigned 32) Typed U32Fault (λ number. ValTypeFault) e old mid mid2 new number position (number_prefix_code 32) r typed at went)
+
+pub number_missing : (e : Error) (old new : Reader) → Reads (EncodesUnsigned 32) U32Fault (Err e) old new →
+    Reads EncodesDeclaration DeclarationFault (Err e) old new
+number_missing e old new h =
+    missing_as (Then (EncodesUnsigned 32) Typed) EncodesDeclaration DeclarationFault DeclarationFault e old new split (λ m offset f. f)
+    (first_missing (EncodesUnsigned 32) Typed U32Fault (λ number. ValTypeFault) e old new h)
 
 pub declaration_refused : (e : Error) (old mid now : Reader) (count read : ℕ) (text : List ℕ) (done : List Declaration) →
-    Reads (EncodesUnsigned 32) (Ok count) old mid → EncodesMany EncodesDeclaration read text done → read < count → Takes mid now text →
+    HasRead (EncodesUnsigned 32) count old mid → EncodesMany EncodesDeclaration read text done → read < count → Takes mid now text →
     IsRefusal EncodesDeclaration e now → DeclarationFault e.message now e.offset → RefusesLocals e old
 declaration_refused e old mid now count read text done first many lt takes h fault =
     let few : length done < count = omega (arith, many.0, lt) in
@@ -70,7 +76,7 @@ count_refused e old h fault =
       fault = inl (refused_now (EncodesUnsigned 32) e old h, fault);
     }
 
-pub locals_read : (old mid new : Reader) (count : ℕ) (text : List ℕ) (done : List Declaration) → Reads (EncodesUnsigned 32) (Ok count) old mid →
+pub locals_read : (old mid new : Reader) (count : ℕ) (text : List ℕ) (done : List Declaration) → HasRead (EncodesUnsigned 32) count old mid →
     EncodesMany EncodesDeclaration count text done → Takes mid new text → IsPastLocals done old new
 locals_read old mid new count text done (first, p, t) many takes =
     (first ++ text, (first, text, count, refl, p, many), takes_then old mid new first text t takes)

@@ -75,18 +75,6 @@ there_ahead e offset s t placed fresh r no_end stops memory other = elim (is_mem
     at_operator not (inr (inl there)) = ahead_before s.reader t.reader r.text e.offset r.takes there.ahead
     at_operator not (inr (inr needs)) = absurd (not needs.0)
 
-pub refused_there : (e d : Error) (s mid t : State) (placed : Placed) → IsFresh s → TakesOperators s mid placed → HasNoEnd (operators placed) →
-    IsUnchanged mid t → Stops e t →
-    d.message ≡ e.message → (e.message ≡ message.OutOfMemory → d.offset ≡ offset_of s.reader) → ((e.message ≡ message.OutOfMemory → ⊥) → d.offset ≡ e.offset) →
-    IsRefused (EncodesConstantReader s.reader.features) true d s.reader
-refused_there e d s mid t placed fresh r no_end same stops is memory other =
-    let q = ran_unchanged s mid t placed r same in
-    record {
-      refuses = λ more follow. none_follows s t placed more fresh q no_end (stuck e t more stops (subst (λ m. MayFollow m more) is follow));
-      ahead = there_ahead e d.offset s t placed fresh q no_end stops memory other;
-      memory = λ m. (refl, memory (sym is ∙ m));
-    }
-
 pub refused_fault : (e d : Error) (s mid t : State) (placed : Placed) → IsFresh s → TakesOperators s mid placed → HasNoEnd (operators placed) →
     IsUnchanged mid t → Stops e t →
     d.message ≡ e.message → ((e.message ≡ message.OutOfMemory → ⊥) → d.offset ≡ e.offset) → HasFault ConstantFault d s.reader
@@ -95,16 +83,6 @@ refused_fault e d s mid t placed fresh r no_end same stops is other not =
     let q = ran_unchanged s mid t placed r same in
     let at = there_fault e s t placed fresh q no_end stops not_memory in
     subst (λ m. ConstantFault m s.reader d.offset) (sym is) (subst (ConstantFault e.message s.reader) (sym (other not_memory)) at)
-
-pub refused_inside : (d : Error) (s t u : State) (placed : Placed) → IsFresh s → TakesOperators s t placed → HasNoEnd (operators placed) →
-    TakesOperator EncodesAllowed operator.End t u → (u.frames ≡ [] → ⊥) → d.message ≡ message.FramesRemainConst → d.offset ≡ offset_of u.reader →
-    IsRefused (EncodesConstantReader s.reader.features) true d s.reader
-refused_inside d s t u placed fresh r no_end k stays is at =
-    record {
-      refuses = λ more follow. none_inside s t u placed more fresh r no_end k stays;
-      ahead = subst (IsAhead s.reader) (sym at) (ahead_after s t u placed r k);
-      memory = λ m. absurd (cc (sym is ∙ m));
-    }
 
 pub inside_has_fault : (d : Error) (s t u : State) (placed : Placed) → IsFresh s → TakesOperators s t placed → HasNoEnd (operators placed) →
     TakesOperator EncodesAllowed operator.End t u → (u.frames ≡ [] → ⊥) → d.message ≡ message.FramesRemainConst → d.offset ≡ offset_of u.reader →
@@ -117,3 +95,27 @@ pub memory_there : (e d : Error) (s mid t : State) (placed : Placed) → IsFresh
 memory_there e d s mid t placed fresh r no_end same stops is memory =
     let q = ran_unchanged s mid t placed r same in
     (s, t, placed, refl, fresh, q, passes s t placed fresh q no_end, memory_needs EncodesAllowed OperatorFault (NextMayAllocate EncodesAllowed) is_reading e t stops (sym is ∙ memory))
+
+pub refused_there : (e d : Error) (s mid t : State) (placed : Placed) → IsFresh s → TakesOperators s mid placed → HasNoEnd (operators placed) →
+    IsUnchanged mid t → Stops e t →
+    d.message ≡ e.message → (e.message ≡ message.OutOfMemory → d.offset ≡ offset_of s.reader) → ((e.message ≡ message.OutOfMemory → ⊥) → d.offset ≡ e.offset) →
+    IsRefused (EncodesConstantReader s.reader.features) ConstantFault ConstantMayAllocate d s.reader
+refused_there e d s mid t placed fresh r no_end same stops is memory other =
+    let q = ran_unchanged s mid t placed r same in
+    record {
+      refuses = λ more follow. none_follows s t placed more fresh q no_end (stuck e t more stops (subst (λ m. MayFollow m more) is follow));
+      ahead = there_ahead e d.offset s t placed fresh q no_end stops memory other;
+      fault = refused_fault e d s mid t placed fresh r no_end same stops is other;
+      memory = λ m. (memory_there e d s mid t placed fresh r no_end same stops is m, memory (sym is ∙ m));
+    }
+
+pub refused_inside : (d : Error) (s t u : State) (placed : Placed) → IsFresh s → TakesOperators s t placed → HasNoEnd (operators placed) →
+    TakesOperator EncodesAllowed operator.End t u → (u.frames ≡ [] → ⊥) → d.message ≡ message.FramesRemainConst → d.offset ≡ offset_of u.reader →
+    IsRefused (EncodesConstantReader s.reader.features) ConstantFault ConstantMayAllocate d s.reader
+refused_inside d s t u placed fresh r no_end k stays is at =
+    record {
+      refuses = λ more follow. none_inside s t u placed more fresh r no_end k stays;
+      ahead = subst (IsAhead s.reader) (sym at) (ahead_after s t u placed r k);
+      fault = inside_has_fault d s t u placed fresh r no_end k stays is at;
+      memory = λ m. absurd (cc (sym is ∙ m));
+    }

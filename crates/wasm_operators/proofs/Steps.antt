@@ -1,18 +1,19 @@
 -- Readers of locals: one declaration with those before it, and all of them by the iterator.
-use Rattle.std.proofs.Common.{◌≡◌, ℕ, ◌+◌, ◌-◌, ◌<◌, ◌≤◌, List, [], ◌∷◌, ◌++◌, length, Some, Ok, Err, refl, sym, subst, ap, ◌∙◌, append_assoc, length-append, length-drop, arith, inl, inr, false}
+use Rattle.std.proofs.Common.{◌≡◌, ℕ, ◌+◌, ◌-◌, ◌<◌, ◌≤◌, List, [], ◌∷◌, ◌++◌, length, Some, Ok, Err, refl, sym, subst, ap, ◌∙◌, append_assoc, length-append, length-drop, arith, inl, inr}
 use Rattle.wasm_operators_readers.specs.below.bytes.error.Error.{Error}
 use Rattle.wasm_operators_readers.specs.below.bytes.message.Message.TheVariants as message
 use Rattle.wasm_operators_readers.specs.below.declared.types.ValType.{ValType}
-use Rattle.wasm_operators_readers.specs.below.FromReader.{IsRefused, ReadsValue}
+use Rattle.wasm_operators_readers.specs.below.FromReader.{IsRefused}
 use Rattle.wasm_operators_readers.specs.below.Number.{EncodesUnsigned}
-use Rattle.wasm_operators_readers.specs.below.Source.{Reader, rest, offset_of, at_position, Takes, IsRefusal, Reads, U32Fault}
+use Rattle.wasm_operators_readers.specs.below.Source.{Reader, rest, offset_of, at_position, Takes, IsRefusal, HasRead, Reads, U32Fault}
 use Rattle.wasm_operators_readers.specs.below.TypeEncoding.{EncodesValType, ValTypeFault}
 use Rattle.wasm_operators_readers.proofs.of_below.Blocks.{refused_now}
 use Rattle.wasm_operators_readers.proofs.of_below.Steps.{number_prefix_code, unsigned_some}
 use Rattle.wasm_operators_readers.proofs.of_below.TakesLemmas.{takes_none, takes_then, back}
 use Rattle.wasm_operators_readers.specs.imm.Lists.{EncodesEach}
-use Rattle.wasm_operators_readers.proofs.of_imm.ListRefusals.{as_refused, refused_by}
-use Rattle.wasm_operators.specs.Locals.{Declaration, EncodesDeclaration, EncodesNext, max_locals, Locals, ReadsDeclaration, LocalsLeft, StepsLocals, all_left, StepsAlong, HasStepped, IsPastLocals, IsResultPastLocals}
+use Rattle.wasm_operators_readers.proofs.of_imm.ListRefusals.{as_refused}
+use Rattle.wasm_operators_readers.proofs.of_below.Sequences.{refuses_by}
+use Rattle.wasm_operators.specs.Locals.{Declaration, EncodesDeclaration, EncodesNext, NextFault, max_locals, Locals, ReadsDeclaration, LocalsLeft, StepsLocals, all_left, StepsAlong, HasStepped, IsPastLocals, IsResultPastLocals}
 use Rattle.wasm_operators.proofs.LocalsLemmas.{type_refused, locals_read, one_past}
 
 abbrev pub locals_of : Reader → ℕ → ℕ → Locals
@@ -21,8 +22,10 @@ locals_of r count total = record { reader = r; count = count; total = total }
 same_locals : (r s : Reader) (count total : ℕ) → s ≡ r → locals_of s count total ≡ locals_of r count total
 same_locals r s count total e = ap (λ z. locals_of z count total) e
 
-next_refused : (total : ℕ) (e : Error) (old : Reader) → IsRefusal EncodesDeclaration e old → IsRefused (EncodesNext total) false e old
-next_refused total e old h = refused_by EncodesDeclaration (EncodesNext total) false e old (λ text d p. (d, p.0)) (as_refused EncodesDeclaration false e old h)
+next_refused : (total : ℕ) (e : Error) (old : Reader) → IsRefusal EncodesDeclaration e old → NextFault total e.message old e.offset →
+    IsRefused (EncodesNext total) (NextFault total) (λ r. ⊥) e old
+next_refused total e old h =
+    as_refused (EncodesNext total) (NextFault total) (λ r. ⊥) e old (refuses_by EncodesDeclaration (EncodesNext total) e old (λ text d p. (d, p.0)) h)
 
 no_number : (e : Error) (old : Reader) → IsRefusal (EncodesUnsigned 32) e old → IsRefusal EncodesDeclaration e old
 no_number e old h =
@@ -33,19 +36,21 @@ no_number e old h =
       ahead = h.ahead;
     }
 
-pub number_refused_next : (e : Error) (r new : Reader) (count total : ℕ) → (new ≡ r) × IsRefusal (EncodesUnsigned 32) e r → U32Fault e.message r e.offset →
+pub number_refused_next : (e : Error) (r new : Reader) (count total : ℕ) → Reads (EncodesUnsigned 32) U32Fault (Err e) r new →
     ReadsDeclaration (Err e) (locals_of r count total) (locals_of new count total)
-number_refused_next e r new count total (same, h) fault =
-    (same_locals r new count total same, (same, next_refused total e r (no_number e r h)), inl (refused_now (EncodesUnsigned 32) e r h, fault))
+number_refused_next e r new count total (same, h, f) =
+    let fault : NextFault total e.message r e.offset = inl (refused_now (EncodesUnsigned 32) e r h, f) in
+    (same_locals r new count total same, (same, next_refused total e r (no_number e r h) fault), fault)
 
-pub type_refused_next : (e : Error) (r mid mid2 new : Reader) (count total number position : ℕ) → Reads (EncodesUnsigned 32) (Ok number) r mid →
-    total + number ≤ max_locals → (mid2 ≡ mid) × IsRefusal EncodesValType e mid → ValTypeFault e.message mid e.offset → position ≡ r.position →
+pub type_refused_next : (e : Error) (r mid mid2 new : Reader) (count total number position : ℕ) → HasRead (EncodesUnsigned 32) number r mid →
+    total + number ≤ max_locals → Reads EncodesValType ValTypeFault (Err e) mid mid2 → position ≡ r.position →
     new ≡ at_position mid2 position → ReadsDeclaration (Err e) (locals_of r count total) (locals_of new count total)
-type_refused_next e r mid mid2 new count total number position first fits h fault at went =
+type_refused_next e r mid mid2 new count total number position first fits h at went =
     let b = type_refused e r mid mid2 new number position first h at went in
-    (same_locals r new count total b.0, (b.0, next_refused total e r b.1), inr (number, mid, first, inr (fits, fault)))
+    let fault : NextFault total e.message r e.offset = inr (number, mid, first, inr (fits, h.2)) in
+    (same_locals r new count total b.0, (b.0, next_refused total e r b.1 fault), fault)
 
-pub too_many_next : (e : Error) (r mid new : Reader) (count total number position : ℕ) → Reads (EncodesUnsigned 32) (Ok number) r mid →
+pub too_many_next : (e : Error) (r mid new : Reader) (count total number position : ℕ) → HasRead (EncodesUnsigned 32) number r mid →
     max_locals < total + number → e.message ≡ message.TooManyLocals → e.offset ≡ offset_of mid → position ≡ r.position → new ≡ at_position mid position →
     ReadsDeclaration (Err e) (locals_of r count total) (locals_of new count total)
 too_many_next e r mid new count total number position (text, p, t) many is at same went =
@@ -54,19 +59,21 @@ too_many_next e r mid new count total number position (text, p, t) many is at sa
     let left : length r.buffer - r.position ≡ length text + length (rest mid) = sym (length-drop r.position r.buffer) ∙ ap length t.parts ∙
     length-append text (rest mid) in
     let offset : e.offset ≡ offset_of r + length text = at ∙ ap offset_of t.moved ∙ omega arith in
-    let refused : IsRefused (EncodesNext total) false e r = record {
+    let fault : NextFault total e.message r e.offset = inr (number, mid, (text, p, t), inl (many, is, at)) in
+    let refused : IsRefused (EncodesNext total) (NextFault total) (λ r. ⊥) e r = record {
       refuses = λ more follow text2 after d ((a, b, eb, q, ty), fits) eq.
           let whole : text ++ (rest mid ++ more) ≡ a ++ (b ++ after) = sym (append_assoc text (rest mid) more) ∙ ap (λ z. z ++ more) (sym t.parts) ∙ eq ∙
           ap (λ z. z ++ after) eb ∙ append_assoc a b after in
           let one : number ≡ d.0 = (number_prefix_code 32 text a (rest mid ++ more) (b ++ after) number d.0 p q whole).1 in
           omega (arith, one, fits, many);
       ahead = (omega (arith, offset), omega (arith, offset, left, some));
+      fault = λ some. fault;
       memory = λ m. absurd (cc (is, m));
     } in
-    (same_locals r new count total here, (here, refused), inr (number, mid, (text, p, t), inl (many, is, at)))
+    (same_locals r new count total here, (here, refused), fault)
 
-pub declaration_read : (r mid new : Reader) (total number : ℕ) (ty : ValType) → Reads (EncodesUnsigned 32) (Ok number) r mid →
-    Reads EncodesValType (Ok ty) mid new → total + number ≤ max_locals → ReadsValue (EncodesNext total) false (Ok (number, ty)) r new
+pub declaration_read : (r mid new : Reader) (total number : ℕ) (ty : ValType) → HasRead (EncodesUnsigned 32) number r mid →
+    HasRead EncodesValType ty mid new → total + number ≤ max_locals → HasRead (EncodesNext total) (number, ty) r new
 declaration_read r mid new total number ty (a, p, t) (b, q, u) fits = (a ++ b, ((a, b, refl, p, q), fits), takes_then r mid new a b t u)
 
 -- What steps without an error consumed.

@@ -8,7 +8,7 @@ use Rattle.wasm_operators_readers.specs.below.Fault.{ThenFault, ManyFault}
 use Rattle.wasm_operators_readers.specs.below.FromReader.{ReadsValue}
 use Rattle.wasm_operators_readers.specs.below.Number.{EncodesUnsigned}
 use Rattle.wasm_operators_readers.specs.below.Sequence.{Then}
-use Rattle.wasm_operators_readers.specs.below.Source.{Reader, offset_of, Takes, IsRefusal, U32Fault}
+use Rattle.wasm_operators_readers.specs.below.Source.{Reader, offset_of, Takes, IsRefusal, U32Fault, HasRead}
 use Rattle.wasm_operators_readers.specs.below.TypeEncoding.{EncodesValType, ValTypeFault}
 use Rattle.wasm_operators_readers.specs.imm.Lists.{EncodesMany}
 
@@ -80,9 +80,9 @@ NextFault total = ThenFault (EncodesUnsigned 32) U32Fault (NumberedFault total)
 -- The next declaration is read and adds to the total; or reading fails, and nothing changes.
 abbrev pub ReadsDeclaration : Result Declaration Error → Locals → Locals → Type 0
 ReadsDeclaration (Ok d) old new =
-    ReadsValue (EncodesNext old.total) false (Ok d) old.reader new.reader × (new.count ≡ old.count) × (new.total ≡ old.total + d.0)
+    HasRead (EncodesNext old.total) d old.reader new.reader × (new.count ≡ old.count) × (new.total ≡ old.total + d.0)
 ReadsDeclaration (Err e) old new =
-    (new ≡ old) × ReadsValue (EncodesNext old.total) false (Err e) old.reader new.reader × NextFault old.total e.message old.reader e.offset
+    (new ≡ old) × ReadsValue (EncodesNext old.total) (NextFault old.total) (λ r. ⊥) (Err e) old.reader new.reader × NextFault old.total e.message old.reader e.offset
 
 -- An iterator: the reader of locals, and how many items are left.
 pub record LocalsLeft : Type 0 where

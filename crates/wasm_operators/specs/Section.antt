@@ -3,9 +3,8 @@ use Rattle.std.specs.Prelude.{◌≡◌, ℕ, ◌+◌, ◌<◌, ◌⊎◌, Bool,
 use Rattle.wasm_operators_readers.specs.below.bytes.error.Error.{Error}
 use Rattle.wasm_operators_readers.specs.below.bytes.message.Message.{Message}
 use Rattle.wasm_operators_readers.specs.below.bytes.message.Message.TheVariants as message
-use Rattle.wasm_operators_readers.specs.below.Fault.{HasFault}
-use Rattle.wasm_operators_readers.specs.below.FromReader.{ReadsValue, IsRefused}
-use Rattle.wasm_operators_readers.specs.below.Source.{Reader, rest, offset_of}
+use Rattle.wasm_operators_readers.specs.below.FromReader.{IsRefused}
+use Rattle.wasm_operators_readers.specs.below.Source.{Reader, rest, offset_of, HasRead}
 
 pub record Section : Type 0 where
   pub count : ℕ
@@ -32,17 +31,17 @@ abbrev pub IsDataLeft : Error → Reader → Type 0
 IsDataLeft e r = (rest r ≡ [] → ⊥) × (e.message ≡ message.DataAfterSection) × (e.offset ≡ offset_of r)
 
 -- Reading the next item fails; or no item is left, but data is.
-abbrev pub StopsSection : {X : Type 0} → (List ℕ → X → Type 0) → (Message → Reader → ℕ → Type 0) → Bool → Error → SectionItems → Type 0
-StopsSection Encodes Fault takes_memory e s =
-    ((0 < s.remaining) × IsRefused Encodes takes_memory e s.reader × HasFault Fault e s.reader) ⊎
+abbrev pub StopsSection : {X : Type 0} → (List ℕ → X → Type 0) → (Message → Reader → ℕ → Type 0) → (Reader → Type 0) → Error → SectionItems → Type 0
+StopsSection Encodes Fault Memory e s =
+    ((0 < s.remaining) × IsRefused Encodes Fault Memory e s.reader) ⊎
     ((s.remaining ≡ 0) × IsDataLeft e s.reader)
 
 -- A step: an item was read; or an error was returned, once, and nothing consumed; or none follows.
-abbrev pub StepsSection : {X : Type 0} → (List ℕ → X → Type 0) → (Message → Reader → ℕ → Type 0) → (Reader → X → Reader → Type 0) → Bool →
+abbrev pub StepsSection : {X : Type 0} → (List ℕ → X → Type 0) → (Message → Reader → ℕ → Type 0) → (Reader → Type 0) → (Reader → X → Reader → Type 0) →
     Option (Result X Error) → SectionItems → SectionItems → Type 0
-StepsSection Encodes Fault Placed takes_memory None old new = (new ≡ old) × IsDone old
-StepsSection Encodes Fault Placed takes_memory (Some (Ok x)) old new =
+StepsSection Encodes Fault Memory Placed None old new = (new ≡ old) × IsDone old
+StepsSection Encodes Fault Memory Placed (Some (Ok x)) old new =
     (old.refused ≡ false) × (new.refused ≡ false) × (old.remaining ≡ new.remaining + 1) ×
-    ReadsValue Encodes takes_memory (Ok x) old.reader new.reader × Placed old.reader x new.reader
-StepsSection Encodes Fault Placed takes_memory (Some (Err e)) old new =
-    (old.refused ≡ false) × (new ≡ after_error old) × StopsSection Encodes Fault takes_memory e old
+    HasRead Encodes x old.reader new.reader × Placed old.reader x new.reader
+StepsSection Encodes Fault Memory Placed (Some (Err e)) old new =
+    (old.refused ≡ false) × (new ≡ after_error old) × StopsSection Encodes Fault Memory e old

@@ -1,6 +1,6 @@
-ghost use Rattle.std.specs.Prelude.{◌≡◌, ⊤, [], false, IfOk, IfErr};
+ghost use Rattle.std.specs.Prelude.{◌≡◌, ⊤, [], IfOk};
 ghost use Rattle.wasm_operators_readers.specs.below.bytes.features.WasmFeatures.{WasmFeatures};
-ghost use Rattle.wasm_operators_readers.specs.below.Fault.{HasFault, NeedsMemory, DeterminesRefusal};
+ghost use Rattle.wasm_operators_readers.specs.below.Fault.{DeterminesRefusal};
 ghost use Rattle.wasm_operators_readers.specs.below.FromReader.{ReadsValue, EncodesReader, ReaderFault, SameReader};
 ghost use Rattle.wasm_operators_readers.specs.below.Sequence.{PrefixCodeUpTo};
 ghost use Rattle.wasm_operators_readers.specs.below.Source.{Reads, rest, offset_of, end_of};
@@ -55,9 +55,8 @@ impl<'a> FunctionBody<'a> {
     /// Reads a u32 and a body of that length. Specification: Code Section. Fails as `read_reader`
     /// does.
     pub fn read(reader: &mut BinaryReader<'a>) -> Result<FunctionBody<'a>>
-        ensures reads { Reads (EncodesReader reader.old.features) result reader.old reader.new }
+        ensures reads { Reads (EncodesReader reader.old.features) ReaderFault result reader.old reader.new }
         ensures placed { IfOk result (λ body. end_of body ≡ offset_of reader.new) }
-        ensures fault { IfErr result (λ e. ReaderFault e.message reader.old e.offset) }
     {
         match reader.read_reader() {
             Ok(part) => Ok(FunctionBody::new(part)),
@@ -155,9 +154,7 @@ impl<'a> FromReader<'a> for FunctionBody<'a> {
     ghost placed = { λ old body new. end_of body ≡ offset_of new };
 
     fn from_reader(_alloc: Global, reader: &mut BinaryReader<'a>) -> Result<FunctionBody<'a>>
-        ensures reads { ReadsValue (EncodesReader reader.old.features) false result reader.old reader.new }
-        ensures fault { IfErr result (λ e. HasFault ReaderFault e reader.old) }
-        ensures memory { IfErr result (λ e. NeedsMemory (λ old. ⊤) e reader.old) }
+        ensures reads { ReadsValue (EncodesReader reader.old.features) ReaderFault (λ old. ⊥) result reader.old reader.new }
         ensures placed { IfOk result (λ body. end_of body ≡ offset_of reader.new) }
     {
         FunctionBody::read(reader)

@@ -1,8 +1,8 @@
-ghost use Rattle.std.specs.Prelude.{◌≡◌, [], true, IfOk, IfErr};
+ghost use Rattle.std.specs.Prelude.{◌≡◌, [], IfOk};
 ghost use Rattle.wasm_operators_readers.specs.below.FromReader.{ReadsValue, SameReader};
 ghost use Rattle.wasm_operators_readers.specs.below.bytes.features.WasmFeatures.{WasmFeatures};
 ghost use Rattle.wasm_operators_readers.specs.below.Sequence.{PrefixCodeUpTo};
-ghost use Rattle.wasm_operators_readers.specs.below.Fault.{DeterminesRefusal, HasFault, NeedsMemory};
+ghost use Rattle.wasm_operators_readers.specs.below.Fault.{DeterminesRefusal};
 ghost use Rattle.wasm_operators_readers.specs.below.Source.{offset_of};
 ghost use Rattle.wasm_operators_readers.specs.Reading.{IsFresh};
 ghost use Rattle.wasm_operators_readers.specs.MainTheorem.{ReadSoFar};
@@ -53,9 +53,7 @@ impl<'a> ConstExpr<'a> {
     /// constant.get_operators_reader(alloc).read_all(&mut list)?;
     /// ```
     pub fn read(alloc: Global, reader: &mut BinaryReader<'a>) -> Result<ConstExpr<'a>>
-        ensures reads { ReadsValue (EncodesConstantReader reader.old.features) true result reader.old reader.new }
-        ensures fault { IfErr result (λ e. HasFault ConstantFault e reader.old) }
-        ensures memory { IfErr result (λ e. e.message ≡ Message.OutOfMemory → ConstantMayAllocate reader.old) }
+        ensures reads { ReadsValue (EncodesConstantReader reader.old.features) ConstantFault ConstantMayAllocate result reader.old reader.new }
         ensures placed { IfOk result (λ c. c.start ≡ offset_of reader.old) }
     {
         let mut operators = OperatorsReader::new(alloc, reader.clone());
@@ -135,9 +133,7 @@ impl<'a> FromReader<'a> for ConstExpr<'a> {
     ghost allocates = { λ old. ConstantMayAllocate old };
 
     fn from_reader(alloc: Global, reader: &mut BinaryReader<'a>) -> Result<ConstExpr<'a>>
-        ensures reads { ReadsValue (EncodesConstantReader reader.old.features) true result reader.old reader.new }
-        ensures fault { IfErr result (λ e. HasFault ConstantFault e reader.old) }
-        ensures memory { IfErr result (λ e. NeedsMemory ConstantMayAllocate e reader.old) }
+        ensures reads { ReadsValue (EncodesConstantReader reader.old.features) ConstantFault ConstantMayAllocate result reader.old reader.new }
         ensures placed { IfOk result (λ c. c.start ≡ offset_of reader.old) }
     {
         ConstExpr::read(alloc, reader)

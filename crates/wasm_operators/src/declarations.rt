@@ -1,4 +1,3 @@
-ghost use Rattle.std.specs.Prelude.{IfErr};
 ghost use Rattle.wasm_operators_readers.specs.below.Source.{Reads};
 ghost use Rattle.wasm_operators.specs.Locals.{EncodesDeclaration, DeclarationFault};
 
@@ -7,8 +6,7 @@ use wasm_operators_readers::below::{BinaryReader, Result, ValType};
 /// Reads the number of locals and their type. Fails as `read_var_u32` or `ValType::read` does.
 #[inline(always)]
 pub fn read_declaration(reader: &mut BinaryReader<'_>) -> Result<(u32, ValType)>
-    ensures reads { Reads EncodesDeclaration result reader.old reader.new }
-    ensures fault { IfErr result (λ e. DeclarationFault e.message reader.old e.offset) }
+    ensures { Reads EncodesDeclaration DeclarationFault result reader.old reader.new }
 {
     let start = reader.current_position();
     let number = match reader.read_var_u32() {

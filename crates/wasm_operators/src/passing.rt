@@ -17,9 +17,8 @@ pub fn pass_constant(operators: &mut OperatorsReader<'_>) -> Result<()>
     requires { IsFresh operators.old }
     ensures passed { IfOk result (λ _. PassesEnd operators.old operators.new × (operators.new.frames ≡ [])) }
     ensures refused { IfErr result
-        (λ e. IsRefused (EncodesConstantReader operators.old.reader.features) true e operators.old.reader) }
-    ensures fault { IfErr result (λ e. HasFault ConstantFault e operators.old.reader) }
-    ensures memory { IfErr result (λ e. e.message ≡ Message.OutOfMemory → ConstantMayAllocate operators.old.reader) }
+        (λ e. IsRefused (EncodesConstantReader operators.old.reader.features) ConstantFault ConstantMayAllocate
+        e operators.old.reader) }
 {
     let start = operators.original_position();
     loop {

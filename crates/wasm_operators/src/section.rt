@@ -1,7 +1,8 @@
 ghost use Rattle.std.specs.Prelude.{◌≡◌, ◌+◌, cond, Ok, IfOk, IfErr};
 ghost use Rattle.std.specs.Iterator.{at_most};
+ghost use Rattle.wasm_operators_readers.specs.below.FromReader.{AllocatesIf};
 ghost use Rattle.wasm_operators_readers.specs.below.Number.{EncodesUnsigned};
-ghost use Rattle.wasm_operators_readers.specs.below.Source.{Reads, IsRefusal, U32Fault};
+ghost use Rattle.wasm_operators_readers.specs.below.Source.{HasRead, IsRefusal, U32Fault};
 ghost use Rattle.wasm_operators.specs.Section.{StepsSection, items_of};
 
 use std::alloc::Global;
@@ -28,7 +29,7 @@ impl<'a, T> Model for SectionLimited<'a, T> {
 impl<'a, T: FromReader<'a>> SectionLimited<'a, T> {
     /// Reads the number of items; `alloc` is kept for reading them. Fails as `read_var_u32` does.
     pub fn new(alloc: Global, mut reader: BinaryReader<'a>) -> Result<SectionLimited<'a, T>>
-        ensures count { IfOk result (λ s. Reads (EncodesUnsigned 32) (Ok s.count) reader.entry s.reader) }
+        ensures count { IfOk result (λ s. HasRead (EncodesUnsigned 32) s.count reader.entry s.reader) }
         ensures refused { IfErr result (λ e. IsRefusal (EncodesUnsigned 32) e reader.entry) }
         ensures fault { IfErr result (λ e. U32Fault e.message reader.entry e.offset) }
     {
@@ -96,7 +97,7 @@ impl<'a, T: FromReader<'a>> Iterator for SectionLimitedIntoIter<'a, T> {
     type Item = Result<T>;
 
     ghost next_gives = { λ s item t. StepsSection (T.encodes s.reader.features)
-        T.fault T.placed T.Memory.TAKES item s t };
+        T.fault (AllocatesIf T.Memory.TAKES T.allocates) T.placed item s t };
 
     ghost remaining = { λ s. at_most (cond s.refused 0 (s.remaining + 1)) };
 

@@ -1,8 +1,8 @@
 -- What precedes the immediates of an operator.
-use Rattle.std.proofs.Common.{◌≡◌, ℕ, ◌+◌, ◌≤◌, length, Some, Ok, sym, subst, ap, ◌∙◌, arith}
+use Rattle.std.proofs.Common.{◌≡◌, ℕ, ◌+◌, ◌≤◌, length, Some, sym, subst, ap, ◌∙◌, arith}
 use Rattle.wasm_decode.specs.below.bytes.error.Error.{Error}
 use Rattle.wasm_decode.specs.below.bytes.message.Message.TheVariants as message
-use Rattle.wasm_decode.specs.below.Source.{Reader, rest, at_position, BeginsWith, Reads, IsByte}
+use Rattle.wasm_decode.specs.below.Source.{Reader, rest, at_position, BeginsWith, HasRead, IsByte}
 use Rattle.wasm_decode.proofs.of_below.TakesLemmas.{first_byte_read}
 use Rattle.wasm_decode.specs.grammar.declared.frame_kind.FrameKind.{FrameKind}
 use Rattle.wasm_decode.specs.grammar.declared.frame_change.FrameChange.{FrameChange}
@@ -15,14 +15,14 @@ use Rattle.wasm_operators_readers.specs.Next.{StopsNext, state_of}
 use Rattle.wasm_operators_readers.proofs.Taken.{room_refused}
 use Rattle.wasm_decode.proofs.DecodingLemmas.{occurs}
 
-pub back_to : (old mid : Reader) (code start : ℕ) → Reads IsByte (Ok code) old mid → start ≡ old.position → (start ≤ mid.position) × (at_position mid start ≡ old) × BeginsWith code (rest old)
+pub back_to : (old mid : Reader) (code start : ℕ) → HasRead IsByte code old mid → start ≡ old.position → (start ≤ mid.position) × (at_position mid start ≡ old) × BeginsWith code (rest old)
 back_to old mid code start reads same =
     let h = occurs old mid code start reads same in
     let f = first_byte_read old mid code reads in
     (h.1.begun, h.0, (rest mid, f.2.parts))
 
 pub begun_without_room : (Encodes : Taking) (Fault : Refusing) (old mid new : Reader) (s t : OpenFrames) (kind : FrameKind) (code start : ℕ) (c : FrameChange) (e : Error) →
-    innermost s.frames ≡ Some kind → Reads IsByte (Ok code) old mid → start ≡ old.position → c ≡ change_at code → OpensFrame c → s.room ≡ 0 → t ≡ s → new ≡ at_position mid start →
+    innermost s.frames ≡ Some kind → HasRead IsByte code old mid → start ≡ old.position → c ≡ change_at code → OpensFrame c → s.room ≡ 0 → t ≡ s → new ≡ at_position mid start →
     e.message ≡ message.OutOfMemory → e.offset ≡ mid.start + start → StopsNext Encodes Fault e (state_of old s) (state_of new t)
 begun_without_room Encodes Fault old mid new s t kind code start c e open_frame reads same changes opens none stays went is at =
     let b = back_to old mid code start reads same in

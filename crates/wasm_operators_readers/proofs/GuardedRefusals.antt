@@ -1,10 +1,10 @@
 -- A missing feature and a wrong frame are reported if and only if they occur.
-use Rattle.std.proofs.Common.{◌≡◌, ℕ, ◌+◌, ◌<◌, List, [], ◌∷◌, Ok, None, inl, inr, refl, sym, subst, ap, ◌∙◌, arith}
+use Rattle.std.proofs.Common.{◌≡◌, ℕ, ◌+◌, ◌<◌, List, [], ◌∷◌, None, inl, inr, refl, sym, subst, ap, ◌∙◌, arith}
 use Rattle.wasm_decode.specs.below.bytes.features.WasmFeatures.{WasmFeatures}
 use Rattle.wasm_decode.specs.below.bytes.message.FrameName.{FrameName}
 use Rattle.wasm_decode.specs.below.bytes.message.InstructionName.{InstructionName}
 use Rattle.wasm_decode.specs.below.bytes.message.Message.TheVariants as message
-use Rattle.wasm_decode.specs.below.Source.{Reader, rest, offset_of, at_position, IsByte, Reads, BeginsWith}
+use Rattle.wasm_decode.specs.below.Source.{Reader, rest, offset_of, at_position, IsByte, HasRead, BeginsWith}
 use Rattle.wasm_decode.proofs.of_below.Prefixes.{advanced}
 use Rattle.wasm_decode.proofs.of_below.TakesLemmas.{first_byte_read}
 use Rattle.wasm_decode.specs.grammar.declared.frame_kind.FrameKind.{FrameKind}
@@ -25,18 +25,18 @@ Misplaced f k name needed r offset =
     (g : Guard) × BeginsGuarded g r × (¬ LacksFeature f g) × (¬ Allows k (guarded_role g)) × (name ≡ guarded_instruction g) × (needed ≡ needed_frame g) ×
     (offset ≡ offset_of r + 1)
 
-after_code : (r new : Reader) (code : ℕ) → Reads IsByte (Ok code) r new → offset_of new ≡ offset_of r + 1
+after_code : (r new : Reader) (code : ℕ) → HasRead IsByte code r new → offset_of new ≡ offset_of r + 1
 after_code r new code reads =
     let t = (first_byte_read r new code reads).2 in
     ap offset_of t.moved ∙ omega arith
 
-begins : (r new : Reader) (code : ℕ) (g : Guard) (ks : List Kind) → Reads IsByte (Ok code) r new → entry_at None code ≡ guarded g ks → BeginsGuarded g r
+begins : (r new : Reader) (code : ℕ) (g : Guard) (ks : List Kind) → HasRead IsByte code r new → entry_at None code ≡ guarded g ks → BeginsGuarded g r
 begins r new code g ks reads is =
     let first = first_byte_read r new code reads in
     (code, ks, first.1, (rest new, first.0), is)
 
 lacking_entry : (f : WasmFeatures) (k : FrameKind) (name : InstructionName) (r new : Reader) (offset code : ℕ) (e : Entry) → entry_at None code ≡ e →
-    Reads IsByte (Ok code) r new → EntryFault f k (offset_of r) code e (message.FeatureRequired name) new offset → Lacking f name r offset
+    HasRead IsByte code r new → EntryFault f k (offset_of r) code e (message.FeatureRequired name) new offset → Lacking f name r offset
 lacking_entry f k name r new offset code prefixes is reads h = absurd (subopcode_unguarded f (offset_of r) code (message.FeatureRequired name) new offset h)
 lacking_entry f k name r new offset code unknown is reads h = absurd (free_unguarded f (offset_of r) None code unknown (message.FeatureRequired name) new offset h)
 lacking_entry f k name r new offset code (free ks) is reads h =
@@ -52,7 +52,7 @@ lacking_only f k name r offset (inl h) = absurd (end_unguarded (message.FeatureR
 lacking_only f k name r offset (inr (code, new, reads, h)) = lacking_entry f k name r new offset code (entry_at None code) refl reads h
 
 misplaced_entry : (f : WasmFeatures) (k : FrameKind) (name : InstructionName) (needed : FrameName) (r new : Reader) (offset code : ℕ) (e : Entry) →
-    entry_at None code ≡ e → Reads IsByte (Ok code) r new → EntryFault f k (offset_of r) code e (message.WrongFrame name needed) new offset →
+    entry_at None code ≡ e → HasRead IsByte code r new → EntryFault f k (offset_of r) code e (message.WrongFrame name needed) new offset →
     Misplaced f k name needed r offset
 misplaced_entry f k name needed r new offset code prefixes is reads h =
     absurd (subopcode_unguarded f (offset_of r) code (message.WrongFrame name needed) new offset h)
@@ -71,7 +71,7 @@ pub misplaced_only : (f : WasmFeatures) (k : FrameKind) (name : InstructionName)
 misplaced_only f k name needed r offset (inl h) = absurd (end_unguarded (message.WrongFrame name needed) r offset h.1)
 misplaced_only f k name needed r offset (inr (code, new, reads, h)) = misplaced_entry f k name needed r new offset code (entry_at None code) refl reads h
 
-code_read : (r : Reader) (code : ℕ) → code < 256 → BeginsWith code (rest r) → Reads IsByte (Ok code) r (at_position r (r.position + 1))
+code_read : (r : Reader) (code : ℕ) → code < 256 → BeginsWith code (rest r) → HasRead IsByte code r (at_position r (r.position + 1))
 code_read r code small first = (code ∷ [], (refl, small), advanced r (at_position r (r.position + 1)) code first refl)
 
 pub lacking_comes : (f : WasmFeatures) (k : FrameKind) (g : Guard) (r : Reader) → BeginsGuarded g r → LacksFeature f g →

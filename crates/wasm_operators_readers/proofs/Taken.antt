@@ -1,10 +1,10 @@
 -- From the decoder's call after an opcode to one read of the reader of operators.
-use Rattle.std.proofs.Common.{◌≡◌, ℕ, ◌+◌, ◌≤◌, List, ◌++◌, length, Some, None, Ok, inl, inr, refl, sym, subst, ap, ◌∙◌, arith}
+use Rattle.std.proofs.Common.{◌≡◌, ℕ, ◌+◌, ◌≤◌, List, ◌++◌, length, Some, None, inl, inr, refl, sym, subst, ap, ◌∙◌, arith}
 use Rattle.std.specs.Prelude.{IsSome}
 use Rattle.wasm_decode.specs.below.bytes.error.Error.{Error}
 use Rattle.wasm_decode.specs.below.bytes.features.WasmFeatures.{WasmFeatures}
 use Rattle.wasm_decode.specs.below.bytes.message.Message.TheVariants as message
-use Rattle.wasm_decode.specs.below.Source.{Reader, rest, offset_of, at_position, Takes, BeginsWith, Reads}
+use Rattle.wasm_decode.specs.below.Source.{Reader, rest, offset_of, at_position, Takes, BeginsWith, HasRead}
 use Rattle.wasm_decode.specs.grammar.declared.frame_kind.FrameKind.{FrameKind}
 use Rattle.wasm_decode.specs.grammar.Frames.{Allows, change_of, frames_changed, innermost, opened, OpensFrame}
 use Rattle.wasm_decode.proofs.of_grammar.Innermost.{may_follow}
@@ -29,7 +29,7 @@ change_is : (Encodes : Taking) → IsSound Encodes → (f : WasmFeatures) (kind 
     IsAfterCode start None code mid → Encodes f kind text op → Takes (at_position mid start) new text → change_at code ≡ change_of (role_of op)
 change_is Encodes sound f kind op text code start mid new b encodes takes = go b.opcode
   where
-    go : Reads (EncodesOpcode None) (Ok code) (at_position mid start) mid → change_at code ≡ change_of (role_of op)
+    go : HasRead (EncodesOpcode None) code (at_position mid start) mid → change_at code ≡ change_of (role_of op)
     go (head, opcode, t) =
         let first : BeginsWith code (rest (at_position mid start)) = (rest mid, t.parts ∙ ap (λ z. z ++ rest mid) opcode) in
         changes_there f op text (rest new) (rest (at_position mid start)) code (sound f kind text op encodes) takes.parts first

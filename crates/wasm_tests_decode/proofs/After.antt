@@ -1,9 +1,9 @@
-use Rattle.std.proofs.Common.{◌≡◌, ℕ, suc, ◌+◌, [], ◌∷◌, length, Ok, Some, refl, sym, subst, ap, ◌∙◌, arith}
+use Rattle.std.proofs.Common.{◌≡◌, ℕ, suc, ◌+◌, [], ◌∷◌, length, Some, refl, sym, subst, ap, ◌∙◌, arith}
 use Rattle.wasm_decode.specs.below.Number.{EncodesUnsigned}
-use Rattle.wasm_decode.specs.below.Source.{Reader, at_position, Takes, Reads, IsByte}
+use Rattle.wasm_decode.specs.below.Source.{Reader, at_position, Takes, HasRead, IsByte}
 use Rattle.wasm_decode.specs.opcodes.Decoding.{IsAfterCode}
 
-pub after_both : (old mid new : Reader) (start byte code : ℕ) → start ≡ old.position → Reads IsByte (Ok byte) old mid → Reads (EncodesUnsigned 32) (Ok code) mid new →
+pub after_both : (old mid new : Reader) (start byte code : ℕ) → start ≡ old.position → HasRead IsByte byte old mid → HasRead (EncodesUnsigned 32) code mid new →
     IsAfterCode start (Some byte) code new
 after_both old mid new start byte code same (text, is, first) (number, encodes, second) =
     let one : Takes old mid (byte ∷ []) = subst (Takes old mid) is.0 first in

@@ -1,7 +1,7 @@
-ghost use Rattle.std.specs.Prelude.{◌≡◌, ◌≢◌, IsTrue, ◌↔◌, IfSome, IfNone, IfErr};
+ghost use Rattle.std.specs.Prelude.{◌≡◌, ◌≢◌, IsTrue, ◌↔◌, IfSome, IfNone};
 ghost use Rattle.wasm_below.specs.declared.types.AbstractHeapType.{AbstractHeapType};
 ghost use Rattle.wasm_below_bytes.specs.Source.{Reads, BeginsWith, rest};
-ghost use Rattle.wasm_below.specs.TypeEncoding.{heap_type_byte, ref_byte, after_byte, LeadsShort, LeadsRefType, LedBy, EncodesShort, EncodesConcrete, EncodesExact, EncodesHeapType, EncodesShortRef, EncodesLongRef, EncodesRefType, EncodesNumberType, EncodesValType, ShortFault, ByteFault, ExactFault, ConcreteFault, HeapTypeFault, RefTypeFault, ValTypeFault};
+ghost use Rattle.wasm_below.specs.TypeEncoding.{heap_type_byte, ref_byte, LeadsShort, LeadsRefType, LedBy, EncodesShort, EncodesConcrete, EncodesExact, EncodesHeapType, EncodesShortRef, EncodesLongRef, EncodesRefType, EncodesNumberType, EncodesValType, ShortFault, ByteFault, ExactFault, ConcreteFault, HeapTypeFault, RefTypeFault, ValTypeFault};
 
 use super::{AbstractHeapType, HeapType, MAX_TYPE_INDEX, RefType, ValType};
 use wasm_below_bytes::{BinaryReader, Message, Result, TypeName};
@@ -47,8 +47,7 @@ impl HeapType {
     /// `read_var_u32` after 0x62, or like `read_var_s33`.
     #[inline(never)]
     pub fn read(reader: &mut BinaryReader<'_>) -> Result<HeapType>
-        ensures reads { Reads EncodesHeapType result reader.old reader.new }
-        ensures fault { IfErr result (λ e. HeapTypeFault e.message reader.old e.offset) }
+        ensures { Reads EncodesHeapType HeapTypeFault result reader.old reader.new }
     {
         let byte = reader.peek()?;
         if leads_short(byte) {
@@ -61,8 +60,7 @@ impl HeapType {
     }
 
     fn read_short(reader: &mut BinaryReader<'_>, name: TypeName) -> Result<HeapType>
-        ensures reads { Reads EncodesShort result reader.old reader.new }
-        ensures fault { IfErr result (λ e. ShortFault name e.message reader.old e.offset) }
+        ensures { Reads EncodesShort (ShortFault name) result reader.old reader.new }
     {
         let start = reader.current_position();
         let byte = reader.read_u8()?;
@@ -85,8 +83,7 @@ impl HeapType {
     }
 
     fn read_concrete(reader: &mut BinaryReader<'_>) -> Result<HeapType>
-        ensures reads { Reads EncodesConcrete result reader.old reader.new }
-        ensures fault { IfErr result (λ e. ConcreteFault e.message reader.old e.offset) }
+        ensures { Reads EncodesConcrete ConcreteFault result reader.old reader.new }
     {
         let start = reader.current_position();
         let index = reader.read_var_s33()?;
@@ -98,8 +95,7 @@ impl HeapType {
 
     fn read_exact(reader: &mut BinaryReader<'_>) -> Result<HeapType>
         requires { BeginsWith 0x62 (rest reader.old) }
-        ensures reads { Reads EncodesExact result reader.old reader.new }
-        ensures fault { IfErr result (λ e. ExactFault e.message reader.old e.offset) }
+        ensures { Reads EncodesExact ExactFault result reader.old reader.new }
     {
         let start = reader.current_position();
         reader.advance();
@@ -126,8 +122,7 @@ impl RefType {
     /// `HeapType::read` after 0x63 or 0x64.
     #[inline(never)]
     pub fn read(reader: &mut BinaryReader<'_>) -> Result<RefType>
-        ensures reads { Reads EncodesRefType result reader.old reader.new }
-        ensures fault { IfErr result (λ e. RefTypeFault e.message reader.old e.offset) }
+        ensures { Reads EncodesRefType RefTypeFault result reader.old reader.new }
     {
         let byte = reader.peek()?;
         if byte == REF_NULL {
@@ -140,8 +135,7 @@ impl RefType {
     }
 
     fn read_short(reader: &mut BinaryReader<'_>) -> Result<RefType>
-        ensures reads { Reads EncodesShortRef result reader.old reader.new }
-        ensures fault { IfErr result (λ e. ShortFault TypeName.ReferenceType e.message reader.old e.offset) }
+        ensures { Reads EncodesShortRef (ShortFault TypeName.ReferenceType) result reader.old reader.new }
     {
         let heap_type = HeapType::read_short(reader, TypeName::ReferenceType)?;
         Ok(RefType::of(true, heap_type))
@@ -149,8 +143,7 @@ impl RefType {
 
     fn read_long(reader: &mut BinaryReader<'_>, nullable: bool) -> Result<RefType>
         requires { BeginsWith (ref_byte nullable) (rest reader.old) }
-        ensures reads { Reads EncodesLongRef result reader.old reader.new }
-        ensures fault { IfErr result (λ e. HeapTypeFault e.message (after_byte reader.old) e.offset) }
+        ensures { Reads EncodesLongRef RefTypeFault result reader.old reader.new }
     {
         let start = reader.current_position();
         reader.advance();
@@ -170,8 +163,7 @@ impl ValType {
     /// Fails with `InvalidType` at a first byte that starts none, otherwise like `RefType::read`.
     #[inline(always)]
     pub fn read(reader: &mut BinaryReader<'_>) -> Result<ValType>
-        ensures reads { Reads EncodesValType result reader.old reader.new }
-        ensures fault { IfErr result (λ e. ValTypeFault e.message reader.old e.offset) }
+        ensures { Reads EncodesValType ValTypeFault result reader.old reader.new }
     {
         let byte = reader.peek()?;
         if leads_ref_type(byte) {
@@ -185,8 +177,7 @@ impl ValType {
     #[inline(always)]
     fn read_reference(reader: &mut BinaryReader<'_>) -> Result<ValType>
         requires { LedBy LeadsRefType (rest reader.old) }
-        ensures reads { Reads EncodesValType result reader.old reader.new }
-        ensures fault { IfErr result (λ e. RefTypeFault e.message reader.old e.offset) }
+        ensures { Reads EncodesValType ValTypeFault result reader.old reader.new }
     {
         match RefType::read(reader) {
             Ok(ty) => Ok(ValType::Ref(ty)),
@@ -196,8 +187,7 @@ impl ValType {
 
     #[inline(always)]
     fn read_number(reader: &mut BinaryReader<'_>) -> Result<ValType>
-        ensures reads { Reads EncodesNumberType result reader.old reader.new }
-        ensures fault { IfErr result (λ e. ByteFault TypeName.ValueType e.message reader.old e.offset) }
+        ensures { Reads EncodesNumberType (ByteFault TypeName.ValueType) result reader.old reader.new }
     {
         let start = reader.current_position();
         match reader.read_u8()? {

@@ -1,5 +1,5 @@
 //! Specification: Values, Integers.
-ghost use Rattle.std.specs.Prelude.{◌≡◌, ◌<◌, [], ◌∷◌, IfErr, IfSome, IfNone};
+ghost use Rattle.std.specs.Prelude.{◌≡◌, ◌<◌, [], ◌∷◌, IfSome, IfNone};
 ghost use Rattle.wasm_below_bytes.specs.Source.{Takes, Reads, U32Fault, U64Fault, I32Fault, S33Fault, I64Fault, as_too_long, offset_of, end_of};
 ghost use Rattle.wasm_below_bytes.specs.Number.{EncodesUnsigned, EncodesSigned};
 ghost use Rattle.wasm_below_bytes.specs.Leb128.{HasPlace, refusal_message, refusal_of_code, refusal_offset};
@@ -17,8 +17,7 @@ impl<'a> BinaryReader<'a> {
     /// at the fifth byte.
     #[inline(always)]
     pub fn read_var_u32(&mut self) -> Result<u32>
-        ensures reads { Reads (EncodesUnsigned 32) result self.old self.new }
-        ensures fault { IfErr result (λ e. U32Fault e.message self.old e.offset) }
+        ensures { Reads (EncodesUnsigned 32) U32Fault result self.old self.new }
     {
         if let Some(byte) = self.take_last_byte() {
             return Ok(u32::from(byte));
@@ -30,8 +29,7 @@ impl<'a> BinaryReader<'a> {
     /// tenth byte.
     #[inline(always)]
     pub fn read_var_u64(&mut self) -> Result<u64>
-        ensures reads { Reads (EncodesUnsigned 64) result self.old self.new }
-        ensures fault { IfErr result (λ e. U64Fault e.message self.old e.offset) }
+        ensures { Reads (EncodesUnsigned 64) U64Fault result self.old self.new }
     {
         if let Some(byte) = self.take_last_byte() {
             return Ok(u64::from(byte));
@@ -42,8 +40,7 @@ impl<'a> BinaryReader<'a> {
     /// Reads a signed LEB128 number of at most five bytes. Fails like `read_var_u32`.
     #[inline(always)]
     pub fn read_var_i32(&mut self) -> Result<i32>
-        ensures reads { Reads (EncodesSigned 32) result self.old self.new }
-        ensures fault { IfErr result (λ e. I32Fault e.message self.old e.offset) }
+        ensures { Reads (EncodesSigned 32) I32Fault result self.old self.new }
     {
         if let Some(byte) = self.take_last_byte() {
             return Ok(last_value(byte) as i32);
@@ -55,8 +52,7 @@ impl<'a> BinaryReader<'a> {
     /// with `IntegerTooLong` for any wrong fifth byte.
     #[inline(always)]
     pub fn read_var_s33(&mut self) -> Result<i64>
-        ensures reads { Reads (EncodesSigned 33) result self.old self.new }
-        ensures fault { IfErr result (λ e. S33Fault e.message self.old e.offset) }
+        ensures { Reads (EncodesSigned 33) S33Fault result self.old self.new }
     {
         if let Some(byte) = self.take_last_byte() {
             return Ok(last_value(byte));
@@ -67,8 +63,7 @@ impl<'a> BinaryReader<'a> {
     /// Reads a signed LEB128 number of at most ten bytes. Fails like `read_var_u64`.
     #[inline(always)]
     pub fn read_var_i64(&mut self) -> Result<i64>
-        ensures reads { Reads (EncodesSigned 64) result self.old self.new }
-        ensures fault { IfErr result (λ e. I64Fault e.message self.old e.offset) }
+        ensures { Reads (EncodesSigned 64) I64Fault result self.old self.new }
     {
         if let Some(byte) = self.take_last_byte() {
             return Ok(last_value(byte));
@@ -94,8 +89,7 @@ impl<'a> BinaryReader<'a> {
 
     #[inline(always)]
     fn read_long_u32(&mut self) -> Result<u32>
-        ensures reads { Reads (EncodesUnsigned 32) result self.old self.new }
-        ensures fault { IfErr result (λ e. U32Fault e.message self.old e.offset) }
+        ensures { Reads (EncodesUnsigned 32) U32Fault result self.old self.new }
     {
         if let Some(number) = two_bytes(self.buffer, self.position) {
             self.position = number.after;
@@ -111,8 +105,7 @@ impl<'a> BinaryReader<'a> {
 
     #[inline(always)]
     fn read_long_u64(&mut self) -> Result<u64>
-        ensures reads { Reads (EncodesUnsigned 64) result self.old self.new }
-        ensures fault { IfErr result (λ e. U64Fault e.message self.old e.offset) }
+        ensures { Reads (EncodesUnsigned 64) U64Fault result self.old self.new }
     {
         if let Some(number) = two_bytes(self.buffer, self.position) {
             self.position = number.after;
@@ -128,8 +121,7 @@ impl<'a> BinaryReader<'a> {
 
     #[inline(always)]
     fn read_long_i32(&mut self) -> Result<i32>
-        ensures reads { Reads (EncodesSigned 32) result self.old self.new }
-        ensures fault { IfErr result (λ e. I32Fault e.message self.old e.offset) }
+        ensures { Reads (EncodesSigned 32) I32Fault result self.old self.new }
     {
         match long_i32(self.buffer, self.position) {
             Ok(number) => {
@@ -142,8 +134,7 @@ impl<'a> BinaryReader<'a> {
 
     #[inline(always)]
     fn read_long_s33(&mut self) -> Result<i64>
-        ensures reads { Reads (EncodesSigned 33) result self.old self.new }
-        ensures fault { IfErr result (λ e. S33Fault e.message self.old e.offset) }
+        ensures { Reads (EncodesSigned 33) S33Fault result self.old self.new }
     {
         match long_s33(self.buffer, self.position) {
             Ok(number) => {
@@ -156,8 +147,7 @@ impl<'a> BinaryReader<'a> {
 
     #[inline(always)]
     fn read_long_i64(&mut self) -> Result<i64>
-        ensures reads { Reads (EncodesSigned 64) result self.old self.new }
-        ensures fault { IfErr result (λ e. I64Fault e.message self.old e.offset) }
+        ensures { Reads (EncodesSigned 64) I64Fault result self.old self.new }
     {
         let number = long_i64(self.buffer, self.position);
         if number.after == 0 {

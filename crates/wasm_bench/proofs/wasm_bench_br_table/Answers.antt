@@ -17,12 +17,12 @@ loop-reader-preserved c =
     let counts : c.from.result + c.from-in-Ok.result ≡ c.in-Ok.table.count + c.in-Ok.table.default =
     omega (arith, c.from.ensures, c.len.ensures, c.from-in-Ok.ensures, c.default.ensures) in
     one_more EncodesBranchTable table_counts c.new-reader.result c.loop-reader.reader c.read.new.reader c.loop-reader.sum _ c.in-Ok.table
-    c.loop-reader.invariant c.in-Ok.ensures.reads (ap (λ n. (c.loop-reader.sum + n) % 2 ^ 64) counts)
+    c.loop-reader.invariant c.in-Ok.ensures (ap (λ n. (c.loop-reader.sum + n) % 2 ^ 64) counts)
 
 pub returns-in-Err : goal.returns-in-Err
 returns-in-Err c =
     summed EncodesBranchTable table_counts table_prefix_code table_some c.args.bytes.now c.new-reader.result c.loop-reader.reader c.loop-reader.sum
-    (ap rest c.new-reader.ensures) c.loop-reader.invariant (refused_now EncodesBranchTable c.in-Err.field-0 c.loop-reader.reader c.in-Err.ensures.reads.1)
+    (ap rest c.new-reader.ensures) c.loop-reader.invariant (refused_now EncodesBranchTable c.in-Err.field-0 c.loop-reader.reader c.in-Err.ensures.1)
 
 pub returns : goal.returns
 returns c =

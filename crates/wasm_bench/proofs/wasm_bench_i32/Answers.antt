@@ -14,13 +14,13 @@ loop-reader-preserved c =
     let fits : SFits w32 c.in-Ok.number = search rules in
     let bits = c.from-sum.ensures ∙ c.cast_unsigned.ensures ∙ ap (cast_unsigned w32) (to_z-of_z w32 c.in-Ok.number fits) in
     one_more (EncodesSigned 32) (cast_unsigned w32) c.new-reader.result c.loop-reader.reader c.read_var_i32.new.self c.loop-reader.sum _ c.in-Ok.number
-    c.loop-reader.invariant c.in-Ok.ensures.reads (ap (λ n. (c.loop-reader.sum + n) % 2 ^ 64) bits)
+    c.loop-reader.invariant c.in-Ok.ensures (ap (λ n. (c.loop-reader.sum + n) % 2 ^ 64) bits)
 
 pub returns-in-Err : goal.returns-in-Err
 returns-in-Err c =
     summed (EncodesSigned 32) (cast_unsigned w32) (λ a b x y m n p q e. signed_prefix_code a b 32 x y m n p q e) (λ text n p. signed_some text 32 n p)
     c.args.bytes.now c.new-reader.result c.loop-reader.reader c.loop-reader.sum (ap rest c.new-reader.ensures) c.loop-reader.invariant
-    (refused_now (EncodesSigned 32) c.in-Err.field-0 c.loop-reader.reader c.in-Err.ensures.reads.1)
+    (refused_now (EncodesSigned 32) c.in-Err.field-0 c.loop-reader.reader c.in-Err.ensures.1)
 
 pub returns : goal.returns
 returns c =

@@ -1,6 +1,6 @@
 use Rattle.std.proofs.Common.{◌+◌, ◌%◌, ◌^◌, ap}
 use Rattle.std.proofs.Common.{◌≡◌, ◌∙◌, subst, Ok}
-use Rattle.wasm_operators_readers.specs.below.Source.{Reader, rest, Reads, IsRefusal}
+use Rattle.wasm_operators_readers.specs.below.Source.{Reader, rest, HasRead, IsRefusal}
 use Rattle.wasm_operators_readers.specs.below.bytes.features.WasmFeatures.{WasmFeatures}
 use Rattle.wasm_operators_readers.proofs.of_below.Blocks.{refused_now}
 use Rattle.wasm_bench.proofs.Reading.{one_more, summed, none_at_end, then_some}
@@ -19,8 +19,8 @@ loop-reader-preserved c =
     ap (λ (r : Reader). r.features) c.new-reader.ensures in
     one_more (EncodesMemArg all_features kind.Plain 2) argument_counts c.new-reader.result c.loop-reader.reader c.read.new.reader c.loop-reader.sum _
     c.in-Ok.argument c.loop-reader.invariant
-    (subst (λ (f : WasmFeatures). Reads (EncodesMemArg f kind.Plain 2) (Ok c.in-Ok.argument) c.loop-reader.reader c.read.new.reader) same
-    c.in-Ok.ensures.reads) (ap (λ n. (c.loop-reader.sum + (c.in-Ok.argument.offset + n) % 2 ^ 64) % 2 ^ 64) c.from.ensures)
+    (subst (λ (f : WasmFeatures). HasRead (EncodesMemArg f kind.Plain 2) c.in-Ok.argument c.loop-reader.reader c.read.new.reader) same
+    c.in-Ok.ensures) (ap (λ n. (c.loop-reader.sum + (c.in-Ok.argument.offset + n) % 2 ^ 64) % 2 ^ 64) c.from.ensures)
 
 pub returns-in-Err : goal.returns-in-Err
 returns-in-Err c =
@@ -30,7 +30,7 @@ returns-in-Err c =
     (then_some (EncodesUnsigned 32) _ (unsigned_some 32)) c.args.bytes.now c.new-reader.result c.loop-reader.reader c.loop-reader.sum
     (ap rest c.new-reader.ensures) c.loop-reader.invariant
     (refused_now (EncodesMemArg all_features kind.Plain 2) c.in-Err.field-0 c.loop-reader.reader
-    (subst (λ (f : WasmFeatures). IsRefusal (EncodesMemArg f kind.Plain 2) c.in-Err.field-0 c.loop-reader.reader) same c.in-Err.ensures.reads.1))
+    (subst (λ (f : WasmFeatures). IsRefusal (EncodesMemArg f kind.Plain 2) c.in-Err.field-0 c.loop-reader.reader) same c.in-Err.ensures.1))
 
 pub returns : goal.returns
 returns c =

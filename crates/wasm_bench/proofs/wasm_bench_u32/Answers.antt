@@ -10,13 +10,13 @@ use Rattle.wasm_bench.proofs.wasm_bench_u32.Goals as goal
 pub loop-reader-preserved : goal.loop-reader-preserved
 loop-reader-preserved c =
     one_more (EncodesUnsigned 32) itself c.new-reader.result c.loop-reader.reader c.read_var_u32.new.self c.loop-reader.sum _ c.in-Ok.number
-    c.loop-reader.invariant c.in-Ok.ensures.reads (ap (λ n. (c.loop-reader.sum + n) % 2 ^ 64) c.from-sum.ensures)
+    c.loop-reader.invariant c.in-Ok.ensures (ap (λ n. (c.loop-reader.sum + n) % 2 ^ 64) c.from-sum.ensures)
 
 pub returns-in-Err : goal.returns-in-Err
 returns-in-Err c =
     summed (EncodesUnsigned 32) itself (number_prefix_code 32) (unsigned_some 32) c.args.bytes.now c.new-reader.result c.loop-reader.reader c.loop-reader.sum
     (ap rest c.new-reader.ensures) c.loop-reader.invariant
-    (refused_now (EncodesUnsigned 32) c.in-Err.field-0 c.loop-reader.reader c.in-Err.ensures.reads.1)
+    (refused_now (EncodesUnsigned 32) c.in-Err.field-0 c.loop-reader.reader c.in-Err.ensures.1)
 
 pub returns : goal.returns
 returns c =

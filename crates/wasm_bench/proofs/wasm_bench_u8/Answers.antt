@@ -9,7 +9,7 @@ use Rattle.wasm_bench.proofs.wasm_bench_u8.Goals as goal
 pub loop-reader-preserved : goal.loop-reader-preserved
 loop-reader-preserved c =
     one_more IsByte itself c.new-reader.result c.loop-reader.reader c.read_u8.new.self c.loop-reader.sum _ c.in-Ok.byte c.loop-reader.invariant
-    c.in-Ok.ensures.reads (ap (λ n. (c.loop-reader.sum + n) % 2 ^ 64) c.from-sum.ensures)
+    c.in-Ok.ensures (ap (λ n. (c.loop-reader.sum + n) % 2 ^ 64) c.from-sum.ensures)
 
 pub returns : goal.returns
 returns c =

@@ -18,5 +18,5 @@ returns-clause-size c = λ text more constant parts known.
 pub returns-in_err-_constant-clause-refused : goal.returns-in_err-_constant-clause-refused
 returns-in_err-_constant-clause-refused c = λ m offset known.
     let p = err_from_is_err_and c.from_residual.result c.from_residual.ensures.1 in
-    let fault = rw c.clone-ahead.ensures at c.in_err-_constant.ensures.fault in
-    value_fault_known ConstantFault c.from_residual.result c.args.reader.now m offset c.constant_refusals.ensures (rw (p.1, p.2) fault) known
+    let reads = rw c.clone-ahead.ensures at c.in_err-_constant.ensures.reads in
+    value_fault_known ConstantFault c.from_residual.result c.args.reader.now m offset c.constant_refusals.ensures (rw (p.1, p.2) reads.1.fault) known

@@ -5,10 +5,10 @@ use Rattle.uses_steps.proofs.numbers.peek_branch_table.Goals as goal
 
 pub returns-clause-reads : goal.returns-clause-reads
 returns-clause-reads c = λ table text more parts known.
-    let reads = rw c.clone.ensures at c.read.ensures.reads in
-    reads_known EncodesBranchTable c.read.result c.args.reader.now _ table text more c.branch_tables.ensures reads parts known
+    let reads = rw c.clone.ensures at c.read.ensures in
+    reads_known EncodesBranchTable BranchTableFault c.read.result c.args.reader.now _ table text more c.branch_tables.ensures reads parts known
 
 pub returns-clause-refused : goal.returns-clause-refused
 returns-clause-refused c = λ m offset known.
-    let fault = rw c.clone.ensures at c.read.ensures.fault in
-    fault_known BranchTableFault c.read.result c.args.reader.now m offset c.control_refusals.ensures.table fault known
+    let reads = rw c.clone.ensures at c.read.ensures in
+    fault_known EncodesBranchTable BranchTableFault c.read.result c.args.reader.now _ m offset c.control_refusals.ensures.table reads known

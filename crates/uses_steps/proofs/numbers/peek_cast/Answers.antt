@@ -5,10 +5,10 @@ use Rattle.uses_steps.proofs.numbers.peek_cast.Goals as goal
 
 pub returns-clause-reads : goal.returns-clause-reads
 returns-clause-reads c = λ value text more parts known.
-    let reads = rw c.clone.ensures at c.read.ensures.reads in
-    reads_known EncodesCast c.read.result c.args.reader.now _ value text more c.casts.ensures reads parts known
+    let reads = rw c.clone.ensures at c.read.ensures in
+    reads_known EncodesCast CastFault c.read.result c.args.reader.now _ value text more c.casts.ensures reads parts known
 
 pub returns-clause-refused : goal.returns-clause-refused
 returns-clause-refused c = λ m offset known.
-    let fault = rw c.clone.ensures at c.read.ensures.fault in
-    fault_known CastFault c.read.result c.args.reader.now m offset c.control_refusals.ensures.cast fault known
+    let reads = rw c.clone.ensures at c.read.ensures in
+    fault_known EncodesCast CastFault c.read.result c.args.reader.now _ m offset c.control_refusals.ensures.cast reads known

@@ -1,15 +1,17 @@
 use Rattle.wasm_operators.specs.imm.Orderings.{EncodesFence, FenceFault}
-use Rattle.uses_steps.proofs.Codes.{reads_from_known, fault_known}
+use Rattle.uses_steps.proofs.Codes.{reads_from_known, fault_from_known}
 use Rattle.uses_steps.proofs.numbers.peek_fence.Goals as goal
 
 pub returns-clause-reads : goal.returns-clause-reads
 returns-clause-reads c = λ value text more parts known.
-    let reads = rw c.clone.ensures at c.read_fence.ensures.reads in
+    let f = c.args.reader.now.features in
+    let reads = rw c.clone.ensures at c.read_fence.ensures in
     let code = rw c.features.ensures at c.orderings.ensures.fence in
-    reads_from_known c.args.start (EncodesFence c.args.reader.now.features) c.read_fence.result c.args.reader.now _ value text more code reads parts known
+    reads_from_known c.args.start (EncodesFence f) (FenceFault f c.args.start) c.read_fence.result c.args.reader.now _ value text more code reads parts known
 
 pub returns-clause-refused : goal.returns-clause-refused
 returns-clause-refused c = λ m offset known.
-    let fault = rw c.clone.ensures at c.read_fence.ensures.fault in
+    let f = c.args.reader.now.features in
+    let reads = rw c.clone.ensures at c.read_fence.ensures in
     let determines = rw c.features-2.ensures at c.short_refusals.ensures.fence in
-    fault_known (FenceFault c.args.reader.now.features c.args.start) c.read_fence.result c.args.reader.now m offset (determines c.args.start) fault known
+    fault_from_known c.args.start (EncodesFence f) (FenceFault f c.args.start) c.read_fence.result c.args.reader.now _ m offset (determines c.args.start) reads known

@@ -4,10 +4,10 @@ use Rattle.uses_steps.proofs.numbers.peek_ordering.Goals as goal
 
 pub returns-clause-reads : goal.returns-clause-reads
 returns-clause-reads c = λ value text more parts known.
-    let reads = rw c.clone.ensures at c.read.ensures.reads in
-    reads_known EncodesOrderingByte c.read.result c.args.reader.now _ value text more c.orderings.ensures.alone reads parts known
+    let reads = rw c.clone.ensures at c.read.ensures in
+    reads_known EncodesOrderingByte OrderingByteFault c.read.result c.args.reader.now _ value text more c.orderings.ensures.alone reads parts known
 
 pub returns-clause-refused : goal.returns-clause-refused
 returns-clause-refused c = λ m offset known.
-    let fault = rw c.clone.ensures at c.read.ensures.fault in
-    fault_known OrderingByteFault c.read.result c.args.reader.now m offset c.short_refusals.ensures.ordering fault known
+    let reads = rw c.clone.ensures at c.read.ensures in
+    fault_known EncodesOrderingByte OrderingByteFault c.read.result c.args.reader.now _ m offset c.short_refusals.ensures.ordering reads known

@@ -1,14 +1,14 @@
-use Rattle.wasm_operators.specs.imm.HandlerTables.{EncodesSelect}
+use Rattle.wasm_operators.specs.imm.HandlerTables.{EncodesSelect, SelectAllocates}
 use Rattle.wasm_operators.specs.imm.ListFaults.{SelectFault}
-use Rattle.uses_steps.proofs.Codes.{value_known, value_fault_known}
+use Rattle.uses_steps.proofs.Codes.{value_known, refused_value_known}
 use Rattle.uses_steps.proofs.numbers.peek_select.Goals as goal
 
 pub returns-clause-reads : goal.returns-clause-reads
 returns-clause-reads c = λ value text more parts known.
-    let reads = rw c.clone.ensures at c.read.ensures.reads in
-    value_known EncodesSelect _ c.read.result c.args.reader.now _ value text more c.select_types.ensures reads parts known
+    let reads = rw c.clone.ensures at c.read.ensures in
+    value_known EncodesSelect SelectFault SelectAllocates c.read.result c.args.reader.now _ value text more c.select_types.ensures reads parts known
 
 pub returns-clause-refused : goal.returns-clause-refused
 returns-clause-refused c = λ m offset known.
-    let fault = rw c.clone.ensures at c.read.ensures.fault in
-    value_fault_known SelectFault c.read.result c.args.reader.now m offset c.control_refusals.ensures.select fault known
+    let reads = rw c.clone.ensures at c.read.ensures in
+    refused_value_known EncodesSelect SelectFault SelectAllocates c.read.result c.args.reader.now _ m offset c.control_refusals.ensures.select reads known

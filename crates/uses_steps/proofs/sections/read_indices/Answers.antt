@@ -2,7 +2,7 @@ use Rattle.std.proofs.Common.{◌≡◌, [], ◌∷◌, ◌++◌, false, Ok, Err
 use Rattle.std.proofs.lemmas.Result.{err_from_is_err_and}
 use Rattle.wasm_operators.specs.below.Number.{EncodesUnsigned}
 use Rattle.wasm_operators.specs.below.Source.{U32Fault}
-use Rattle.uses_steps.proofs.Items.{HasRead, reads_first, reads_on, reads_all, number_there, left_there, stops_memory}
+use Rattle.uses_steps.proofs.Items.{HasFound, reads_first, reads_on, reads_all, number_there, left_there, stops_memory}
 use Rattle.uses_steps.proofs.sections.read_indices.Goals as goal
 
 pub items-init : goal.items-init
@@ -19,7 +19,7 @@ items-preserved c =
     let steps = rw item at c.in-Some.ensures.steps in
     let next = reads_on (EncodesUnsigned 32) c.args.reader c.items.items c.next.new.self c.items.indices.items index steps.3.0
     c.items.invariant steps.1 steps.2 steps.3.1 steps.3.2.parts in
-    subst (HasRead (EncodesUnsigned 32) c.args.reader c.next.new.self) (sym pushed) next
+    subst (HasFound (EncodesUnsigned 32) c.args.reader c.next.new.self) (sym pushed) next
 
 pub returns-in_err-section-clause-only : goal.returns-in_err-section-clause-only
 returns-in_err-section-clause-only c = λ indices encodes.
@@ -34,7 +34,7 @@ returns-in_err-index-clause-only c = λ indices encodes.
     let steps = rw item at c.in-Some.ensures.steps in
     let code = c.unsigned_numbers.ensures 32 in
     let left = left_there (EncodesUnsigned 32) c.args.reader c.items.items c.items.indices.items indices code code c.items.invariant encodes in
-    rw (p.1, p.2) (stops_memory (EncodesUnsigned 32) U32Fault false e c.items.items left steps.2)
+    rw (p.1, p.2) (stops_memory (EncodesUnsigned 32) U32Fault (λ r. ⊥) e c.items.items left steps.2)
 
 pub returns-clause-found : goal.returns-clause-found
 returns-clause-found c = reads_all (EncodesUnsigned 32) c.args.reader c.items.items c.items.indices.items c.items.invariant c.in_default.ensures.steps.1

@@ -1,5 +1,5 @@
 use Rattle.std.proofs.Common.{◌≡◌, ◌-◌, ◌≤◌}
-use Rattle.wasm_below_bytes.specs.FromReader.{ReadsOn}
+use Rattle.wasm_below_bytes.specs.FromReader.{AllocatesIf, ReadsOn}
 use Rattle.wasm_below_bytes.specs.Source.{Reader}
 use Rattle.wasm_below_bytes.proofs.from_reader.read_on.Given as goal
 
@@ -7,6 +7,6 @@ abbrev pub invariant-loop : goal.invariant-loop
 invariant-loop g l = record {
   within : l.counter ≤ l.count;
   features : l.reader.features ≡ l.fn.reader.features;
-  reads_on : (last : Reader) → ReadsOn (g.T.FromReader.encodes l.fn.reader.features) g.T.Memory.MemoryUse.TAKES (l.count - l.counter) l.reader last →
-      ReadsOn (g.T.FromReader.encodes l.fn.reader.features) g.T.Memory.MemoryUse.TAKES l.fn.count l.fn.reader last;
+  reads_on : (last : Reader) → ReadsOn (g.T.FromReader.encodes l.fn.reader.features) g.T.FromReader.fault (AllocatesIf g.T.Memory.MemoryUse.TAKES g.T.FromReader.allocates) (l.count - l.counter) l.reader last →
+      ReadsOn (g.T.FromReader.encodes l.fn.reader.features) g.T.FromReader.fault (AllocatesIf g.T.Memory.MemoryUse.TAKES g.T.FromReader.allocates) l.fn.count l.fn.reader last;
 }

@@ -27,5 +27,5 @@ returns-in-Err-clause-stops c =
     inr (
       some,
       (c.in-Some.types, c.in-Some.type_index, c.in-Some.ensures.some),
-      (c.in-Some-place_in.place, c.in-Some-place_in.ensures.some, (c.in-Err.ensures.reads.1, c.in-Err.ensures.fault)),
+      (c.in-Some-place_in.place, c.in-Some-place_in.ensures.some, (c.in-Err.ensures.reads.1, c.in-Err.ensures.reads.2)),
     )

@@ -9,7 +9,7 @@ pub returns-in-Ok : goal.returns-in-Ok
 returns-in-Ok c =
     let r = c.args.reader.now in
     let k = c.in-Some.frame in
-    let s = occurs r c.read_u8.new.self c.in-Ok.code c.current_position-start.result c.in-Ok.ensures.reads c.current_position-start.ensures in
+    let s = occurs r c.read_u8.new.self c.in-Ok.code c.current_position-start.result c.in-Ok.ensures c.current_position-start.ensures in
     subst (λ z. DecodesOperator (EncodesIn (EncodesAllowed r.features) z) (FaultIn (OperatorFault r.features) z) c.read_after_opcode.result r c.read_after_opcode.new.reader)
     (sym c.in-Some.is)
     (read_in (EncodesAllowed r.features) (OperatorFault r.features) k r c.read_after_opcode.new.reader c.read_after_opcode.result

@@ -9,7 +9,7 @@ pub returns-in-Ok : goal.returns-in-Ok
 returns-in-Ok g c =
     let r = c.args.reader.now in
     let k = c.in-Some.frame in
-    let s = occurs r c.read_u8.new.self c.in-Ok.code c.current_position-start.result c.in-Ok.ensures.reads c.current_position-start.ensures in
+    let s = occurs r c.read_u8.new.self c.in-Ok.code c.current_position-start.result c.in-Ok.ensures c.current_position-start.ensures in
     subst (λ z. Decodes g.V.Visitor.visits (EncodesIn (EncodesScalar r.features) z) (FaultIn (ScalarOperatorFault r.features) z) c.visit_after_opcode.result r c.visit_after_opcode.new.reader c.args.v.now c.visit_after_opcode.new.v)
     (sym c.in-Some.is)
     (visited_in g.V.Visitor.visits (EncodesScalar r.features) (ScalarOperatorFault r.features) k r c.visit_after_opcode.new.reader c.args.v.now c.visit_after_opcode.new.v c.visit_after_opcode.result

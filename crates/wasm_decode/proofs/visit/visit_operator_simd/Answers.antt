@@ -9,7 +9,7 @@ pub returns-in-Ok : goal.returns-in-Ok
 returns-in-Ok g c =
     let r = c.args.reader.now in
     let k = c.in-Some.frame in
-    let s = occurs r c.read_u8.new.self c.in-Ok.code c.current_position-start.result c.in-Ok.ensures.reads c.current_position-start.ensures in
+    let s = occurs r c.read_u8.new.self c.in-Ok.code c.current_position-start.result c.in-Ok.ensures c.current_position-start.ensures in
     subst (λ z. Decodes g.V.Visitor.visits (EncodesIn (EncodesAllowed r.features) z) (FaultIn (OperatorFault r.features) z) c.visit_after_opcode_simd.result r c.visit_after_opcode_simd.new.reader c.args.v.now c.visit_after_opcode_simd.new.v)
     (sym c.in-Some.is)
     (visited_in g.V.Visitor.visits (EncodesAllowed r.features) (OperatorFault r.features) k r c.visit_after_opcode_simd.new.reader c.args.v.now c.visit_after_opcode_simd.new.v c.visit_after_opcode_simd.result

@@ -16,7 +16,7 @@ pub loop-import-preserved : goal.loop-import-preserved
 loop-import-preserved c =
     let h = c.loop-import.invariant in
     let import = c.in-Ok-read.import in
-    let occur = item_more EncodesImport c.read_var_u32.new.self h.0 c.loop-import.reader c.read.new.reader import h.1 c.in-Ok-read.ensures.reads in
+    let occur = item_more EncodesImport c.read_var_u32.new.self h.0 c.loop-import.reader c.read.new.reader import h.1 c.in-Ok-read.ensures in
     let known : IsKnownImport import = search rules in
     let one : c.from-functions.result ≡ cond (import.kind == 0) 1 0 = search rules in
     let few : c.from-functions.result ≤ 1 = search rules in
@@ -32,14 +32,14 @@ loop-import-preserved c =
 
 pub returns-in-Err-clause-refused : goal.returns-in-Err-clause-refused
 returns-in-Err-clause-refused c n (imports, list, known, is) =
-    not_both (EncodesUnsigned 32) c.in-Err.e c.args.contents list.first (length imports) c.in-Err.ensures.reads.1 list.count
+    not_both (EncodesUnsigned 32) c.in-Err.e c.args.contents list.first (length imports) c.in-Err.ensures.1 list.count
 
 pub returns-in-Err-read-clause-refused : goal.returns-in-Err-read-clause-refused
 returns-in-Err-read-clause-refused c n (imports, list, known, is) =
     let h = c.loop-import.invariant in
     let fewer : length h.0 < c.in-Ok.count = let so = h.2 in let test = c.loop-import-test.true in omega (arith, so, test) in
     none_refused EncodesImport c.imports.ensures.one (c.unsigned_numbers.ensures 32) c.args.contents c.read_var_u32.new.self c.loop-import.reader
-    c.in-Ok.count h.0 imports c.in-Err-read.e c.in-Ok.ensures.reads h.1 fewer c.in-Err-read.ensures.reads.1 list
+    c.in-Ok.count h.0 imports c.in-Err-read.e c.in-Ok.ensures h.1 fewer c.in-Err-read.ensures.1 list
 
 pub returns-then-kind-gt-TAG-clause-refused : goal.returns-then-kind-gt-TAG-clause-refused
 returns-then-kind-gt-TAG-clause-refused c n (imports, list, known, is) =
@@ -47,8 +47,8 @@ returns-then-kind-gt-TAG-clause-refused c n (imports, list, known, is) =
     let fewer : length h.0 < c.in-Ok.count = let so = h.2 in let test = c.loop-import-test.true in omega (arith, so, test) in
     let import = c.in-Ok-read.import in
     let (y, ys, next, parts, reads) = next_item EncodesImport c.imports.ensures.one (c.unsigned_numbers.ensures 32) c.args.contents c.read_var_u32.new.self
-    c.loop-import.reader c.in-Ok.count h.0 imports c.in-Ok.ensures.reads h.1 fewer list in
-    let same = one_value EncodesImport c.imports.ensures.one c.loop-import.reader c.read.new.reader next import y c.in-Ok-read.ensures.reads reads in
+    c.loop-import.reader c.in-Ok.count h.0 imports c.in-Ok.ensures h.1 fewer list in
+    let same = one_value EncodesImport c.imports.ensures.one c.loop-import.reader c.read.new.reader next import y c.in-Ok-read.ensures reads in
     let few : y.kind < 5 = all_at IsKnownImport h.0 y ys imports parts known in
     let kinds : import.kind ≡ y.kind = ap (λ (i : ImportParts). i.kind) same in
     let is_kind = c.kind-kind.ensures in
@@ -58,30 +58,30 @@ returns-then-kind-gt-TAG-clause-refused c n (imports, list, known, is) =
 pub returns-in-Err-clause-fault : goal.returns-in-Err-clause-fault
 returns-in-Err-clause-fault c =
     let read = c.in-Err.ensures in
-    of_refusal (λ f. ImportsFault f c.args.contents) c.in-Err.e c.from.result c.from.ensures read.reads.1.fault (inl (read.reads.1, read.fault))
+    of_refusal (λ f. ImportsFault f c.args.contents) c.in-Err.e c.from.result c.from.ensures read.1.fault (inl (read.1, read.2))
 
 pub returns-in-Err-read-clause-fault : goal.returns-in-Err-read-clause-fault
 returns-in-Err-read-clause-fault c =
     let h = c.loop-import.invariant in
     let fewer : length h.0 < c.in-Ok.count = let so = h.2 in let test = c.loop-import-test.true in omega (arith, so, test) in
-    let occur = items_to EncodesImport IsKnownImport c.args.contents c.read_var_u32.new.self c.loop-import.reader c.in-Ok.count h.0 c.in-Ok.ensures.reads h.1
+    let occur = items_to EncodesImport IsKnownImport c.args.contents c.read_var_u32.new.self c.loop-import.reader c.in-Ok.count h.0 c.in-Ok.ensures h.1
     fewer h.3 in
     let read = c.in-Err-read.ensures in
-    of_refusal (λ f. ImportsFault f c.args.contents) c.in-Err-read.e c.from-in-Err-read.result c.from-in-Err-read.ensures read.reads.1.fault
-    (inr (c.loop-import.reader, occur, (read.reads.1, read.fault)))
+    of_refusal (λ f. ImportsFault f c.args.contents) c.in-Err-read.e c.from-in-Err-read.result c.from-in-Err-read.ensures read.1.fault
+    (inr (c.loop-import.reader, occur, (read.1, read.2)))
 
 pub returns-then-kind-gt-TAG-clause-fault : goal.returns-then-kind-gt-TAG-clause-fault
 returns-then-kind-gt-TAG-clause-fault c =
     let h = c.loop-import.invariant in
     let fewer : length h.0 < c.in-Ok.count = let so = h.2 in let test = c.loop-import-test.true in omega (arith, so, test) in
-    let occur = items_to EncodesImport IsKnownImport c.args.contents c.read_var_u32.new.self c.loop-import.reader c.in-Ok.count h.0 c.in-Ok.ensures.reads h.1
+    let occur = items_to EncodesImport IsKnownImport c.args.contents c.read_var_u32.new.self c.loop-import.reader c.in-Ok.count h.0 c.in-Ok.ensures h.1
     fewer h.3 in (
       c.loop-import.reader,
       occur,
       c.original_position-offset.ensures,
       c.in-Ok-read.import,
       c.read.new.reader,
-      c.in-Ok-read.ensures.reads,
+      c.in-Ok-read.ensures,
       sym c.kind-kind.ensures,
       c.if-kind-gt-TAG.true,
     )

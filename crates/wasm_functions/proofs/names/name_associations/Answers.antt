@@ -7,7 +7,7 @@ use Rattle.wasm_functions.proofs.Named.{names_more}
 use Rattle.wasm_functions.proofs.names.name_associations.Goals as goal
 
 pub returns-in-Err : goal.returns-in-Err
-returns-in-Err c = ([], inr (inr (c.in-Err.field-0, c.in-Err.ensures.reads.1, refl)), refl)
+returns-in-Err c = ([], inr (inr (c.in-Err.field-0, c.in-Err.ensures.1, refl)), refl)
 
 pub loop-name-preserved : goal.loop-name-preserved
 loop-name-preserved c =
@@ -15,7 +15,7 @@ loop-name-preserved c =
     let named = c.in-Ok-read.named in
     let names = bytes_of c.loop-name.names.items in (
       h.0 ++ named ∷ [],
-      item_more EncodesNameAssociation c.read_var_u32.new.self h.0 c.loop-name.reader c.read.new.reader named h.1 c.in-Ok-read.ensures.reads,
+      item_more EncodesNameAssociation c.read_var_u32.new.self h.0 c.loop-name.reader c.read.new.reader named h.1 c.in-Ok-read.ensures,
       length_push h.0 named ∙ ap (λ n. n + 1) h.2,
       c.set_name.ensures ∙ ap (λ i. set names i c.name.result.now) c.index.ensures ∙
           ap (λ name. set names named.index name) c.name.ensures ∙ ap (λ z. set z named.index named.name) h.3 ∙

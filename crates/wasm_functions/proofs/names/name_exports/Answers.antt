@@ -15,7 +15,7 @@ loop-export-preserved c =
     let h = c.loop-export.invariant in
     let export = c.in-Ok-read.export in (
       h.0 ++ export ∷ [],
-      item_more EncodesExport c.read_var_u32.new.self h.0 c.loop-export.reader c.read.new.reader export h.1 c.in-Ok-read.ensures.reads,
+      item_more EncodesExport c.read_var_u32.new.self h.0 c.loop-export.reader c.read.new.reader export h.1 c.in-Ok-read.ensures,
       length_push h.0 export ∙ ap (λ n. n + 1) h.2,
       c.set_exported.ensures ∙ ap (λ names. with_exports names (export ∷ [])) h.3 ∙
           sym (exports_more (bytes_of c.args.names.now.items) h.0 export),
@@ -23,26 +23,26 @@ loop-export-preserved c =
 
 pub returns-in-Err-clause-refused : goal.returns-in-Err-clause-refused
 returns-in-Err-clause-refused c exports list =
-    not_both (EncodesUnsigned 32) c.in-Err.e c.args.contents list.first (length exports) c.in-Err.ensures.reads.1 list.count
+    not_both (EncodesUnsigned 32) c.in-Err.e c.args.contents list.first (length exports) c.in-Err.ensures.1 list.count
 
 pub returns-in-Err-read-clause-refused : goal.returns-in-Err-read-clause-refused
 returns-in-Err-read-clause-refused c exports list =
     let h = c.loop-export.invariant in
     let fewer : length h.0 < c.in-Ok.count = let so = h.2 in let test = c.loop-export-test.true in omega (arith, so, test) in
     none_refused EncodesExport c.exports.ensures.one (c.unsigned_numbers.ensures 32) c.args.contents c.read_var_u32.new.self c.loop-export.reader
-    c.in-Ok.count h.0 exports c.in-Err-read.e c.in-Ok.ensures.reads h.1 fewer c.in-Err-read.ensures.reads.1 list
+    c.in-Ok.count h.0 exports c.in-Err-read.e c.in-Ok.ensures h.1 fewer c.in-Err-read.ensures.1 list
 
 pub returns-in-Err-clause-fault : goal.returns-in-Err-clause-fault
 returns-in-Err-clause-fault c =
     let read = c.in-Err.ensures in
-    of_refusal (λ f. ExportsFault f c.args.contents) c.in-Err.e c.from.result c.from.ensures read.reads.1.fault (inl (read.reads.1, read.fault))
+    of_refusal (λ f. ExportsFault f c.args.contents) c.in-Err.e c.from.result c.from.ensures read.1.fault (inl (read.1, read.2))
 
 pub returns-in-Err-read-clause-fault : goal.returns-in-Err-read-clause-fault
 returns-in-Err-read-clause-fault c =
     let h = c.loop-export.invariant in
     let fewer : length h.0 < c.in-Ok.count = let so = h.2 in let test = c.loop-export-test.true in omega (arith, so, test) in
-    let occur = items_to EncodesExport IsAny c.args.contents c.read_var_u32.new.self c.loop-export.reader c.in-Ok.count h.0 c.in-Ok.ensures.reads h.1 fewer
+    let occur = items_to EncodesExport IsAny c.args.contents c.read_var_u32.new.self c.loop-export.reader c.in-Ok.count h.0 c.in-Ok.ensures h.1 fewer
     (any_items h.0) in
     let read = c.in-Err-read.ensures in
-    of_refusal (λ f. ExportsFault f c.args.contents) c.in-Err-read.e c.from-in-Err-read.result c.from-in-Err-read.ensures read.reads.1.fault
-    (inr (c.loop-export.reader, occur, (read.reads.1, read.fault)))
+    of_refusal (λ f. ExportsFault f c.args.contents) c.in-Err-read.e c.from-in-Err-read.result c.from-in-Err-read.ensures read.1.fault
+    (inr (c.loop-export.reader, occur, (read.1, read.2)))

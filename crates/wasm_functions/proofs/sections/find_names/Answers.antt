@@ -31,4 +31,4 @@ returns-in-Err-read_section-clause-fault c =
     let read = c.in-Err-read_section.ensures in
     let whole = reader_of c.args.features 0 c.args.bytes.now in
     let occur = sections_to whole c.in-Ok.reader c.customs.reader h.0 c.in-Ok.ensures.ok h.1 more in
-    inr (c.customs.reader, occur, (read.reads.1, read.fault))
+    inr (c.customs.reader, occur, (read.reads.1, read.reads.2))

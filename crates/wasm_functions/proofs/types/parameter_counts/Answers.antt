@@ -28,14 +28,14 @@ loop-rec_type-preserved c =
 
 pub returns-in-Err-clause-refused : goal.returns-in-Err-clause-refused
 returns-in-Err-clause-refused c counts (rec_types, types, known, is) =
-    absurd (not_both (EncodesUnsigned 32) c.in-Err.e c.args.contents types.first (length rec_types) c.in-Err.ensures.reads.1 types.count)
+    absurd (not_both (EncodesUnsigned 32) c.in-Err.e c.args.contents types.first (length rec_types) c.in-Err.ensures.1 types.count)
 
 pub returns-in-Err-read_rec_type_len-clause-refused : goal.returns-in-Err-read_rec_type_len-clause-refused
 returns-in-Err-read_rec_type_len-clause-refused c counts (rec_types, types, known, is) =
     let h = c.loop-rec_type.invariant in
     let fewer : length h.0 < c.in-Ok.rec_types = let so = h.2 in let test = c.loop-rec_type-test.true in omega (arith, so, test) in
     let (g, gs, next, parts, occur) = next_rec_type c.types.ensures.rec_type c.types.ensures.one (c.unsigned_numbers.ensures 32) c.args.contents
-    c.read_var_u32.new.self c.loop-rec_type.reader c.in-Ok.rec_types h.0 rec_types c.in-Ok.ensures.reads h.1 fewer types in
+    c.read_var_u32.new.self c.loop-rec_type.reader c.in-Ok.rec_types h.0 rec_types c.in-Ok.ensures h.1 fewer types in
     let len = c.in-Err-read_rec_type_len.ensures in
     absurd (none_announced (length g) c.in-Err-read_rec_type_len.e c.loop-rec_type.reader c.read_rec_type_len.new.reader occur.0 len.rec_type len.one occur.1)
 
@@ -44,7 +44,7 @@ returns-in-Err-read_rec_type-clause-refused c counts (rec_types, types, known, i
     let h = c.loop-rec_type.invariant in
     let fewer : length h.0 < c.in-Ok.rec_types = let so = h.2 in let test = c.loop-rec_type-test.true in omega (arith, so, test) in
     let (g, gs, next, parts, occur) = next_rec_type c.types.ensures.rec_type c.types.ensures.one (c.unsigned_numbers.ensures 32) c.args.contents
-    c.read_var_u32.new.self c.loop-rec_type.reader c.in-Ok.rec_types h.0 rec_types c.in-Ok.ensures.reads h.1 fewer types in
+    c.read_var_u32.new.self c.loop-rec_type.reader c.in-Ok.rec_types h.0 rec_types c.in-Ok.ensures h.1 fewer types in
     let len = c.in-Ok-read_rec_type_len.ensures in
     let read = c.in-Ok-read_rec_type_len.len in
     let announced = rec_type_announced read c.loop-rec_type.reader c.read_rec_type_len.new.reader len.rec_type len.one in
@@ -55,13 +55,13 @@ returns-in-Err-read_rec_type-clause-refused c counts (rec_types, types, known, i
 pub returns-in-Err-clause-fault : goal.returns-in-Err-clause-fault
 returns-in-Err-clause-fault c =
     let read = c.in-Err.ensures in
-    inl (of_refusal (λ f. TypesLengthFault f c.args.contents) c.in-Err.e c.from.result c.from.ensures read.reads.1.fault (read.reads.1, read.fault))
+    inl (of_refusal (λ f. TypesLengthFault f c.args.contents) c.in-Err.e c.from.result c.from.ensures read.1.fault (read.1, read.2))
 
 pub returns-in-Err-read_rec_type_len-clause-fault : goal.returns-in-Err-read_rec_type_len-clause-fault
 returns-in-Err-read_rec_type_len-clause-fault c =
     let h = c.loop-rec_type.invariant in
     let fewer : length h.0 < c.in-Ok.rec_types = let so = h.2 in let test = c.loop-rec_type-test.true in omega (arith, so, test) in
-    let occur = types_to c.args.contents c.read_var_u32.new.self c.loop-rec_type.reader c.in-Ok.rec_types h.0 c.in-Ok.ensures.reads h.1 fewer h.3 in
+    let occur = types_to c.args.contents c.read_var_u32.new.self c.loop-rec_type.reader c.in-Ok.rec_types h.0 c.in-Ok.ensures h.1 fewer h.3 in
     let len = c.in-Err-read_rec_type_len.ensures in
     let refused = announced_refused c.in-Err-read_rec_type_len.e c.from-in-Err-read_rec_type_len.result c.loop-rec_type.reader c.read_rec_type_len.new.reader len.rec_type len.one len.fault
     c.from-in-Err-read_rec_type_len.ensures in
@@ -71,7 +71,7 @@ pub returns-in-Err-read_rec_type-clause-fault : goal.returns-in-Err-read_rec_typ
 returns-in-Err-read_rec_type-clause-fault c =
     let h = c.loop-rec_type.invariant in
     let fewer : length h.0 < c.in-Ok.rec_types = let so = h.2 in let test = c.loop-rec_type-test.true in omega (arith, so, test) in
-    let occur = types_to c.args.contents c.read_var_u32.new.self c.loop-rec_type.reader c.in-Ok.rec_types h.0 c.in-Ok.ensures.reads h.1 fewer h.3 in
+    let occur = types_to c.args.contents c.read_var_u32.new.self c.loop-rec_type.reader c.in-Ok.rec_types h.0 c.in-Ok.ensures h.1 fewer h.3 in
     let len = c.in-Ok-read_rec_type_len.ensures in
     let read = c.in-Ok-read_rec_type_len.len in
     let announced = rec_type_announced read c.loop-rec_type.reader c.read_rec_type_len.new.reader len.rec_type len.one in

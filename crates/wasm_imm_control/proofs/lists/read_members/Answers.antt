@@ -1,25 +1,27 @@
-use Rattle.std.proofs.Common.{◌≡◌, ◌≤◌, ◌+◌, ◌++◌, ◌∷◌, [], Ok, sym, subst, ap, rules, arith, ◌<◌, length}
+use Rattle.std.proofs.Common.{◌≡◌, ◌≤◌, ◌+◌, ◌++◌, ◌∷◌, [], Err, sym, subst, ap, rules, arith}
 use Rattle.std.specs.Prelude.{vec_len, vec_capacity}
 use Rattle.wasm_below.specs.bytes.features.WasmFeatures.{WasmFeatures}
-use Rattle.wasm_below.specs.FromReader.{IsRefused, ReadsValue}
-use Rattle.wasm_below.specs.Source.{Reader}
+use Rattle.wasm_below.specs.FromReader.{AllocatesIf, ReadsValue}
+use Rattle.wasm_below.specs.Source.{Reader, HasRead}
 use Rattle.wasm_below.proofs.TakesLemmas.{takes_then}
 use Rattle.wasm_imm_control.specs.Lists.{EncodesMany}
 use Rattle.wasm_imm_control.proofs.ListLemmas.{many_more}
 use Rattle.wasm_imm_control.proofs.ListRefusals.{member_refused}
-use Rattle.wasm_imm_control.proofs.Faults.{none_here, many_fault}
 use Rattle.wasm_imm_control.proofs.lists.read_members.Goals as goal
 
-pub returns-in-Err-from_reader-clause-reads : goal.returns-in-Err-from_reader-clause-reads
-returns-in-Err-from_reader-clause-reads g c =
+pub returns-in-Err-from_reader : goal.returns-in-Err-from_reader
+returns-in-Err-from_reader g c =
     let f = c.args.reader.now.features in
     let now = c.loop-member.reader in
     let i = c.loop-member.invariant in
     let same : now.features ≡ f = ap (λ (r : Reader). r.features) i.2.moved in
-    let h = subst (λ (z : WasmFeatures). (c.from_reader.new.reader ≡ now) ×
-    IsRefused (g.T.FromReader.encodes z) g.T.Memory.MemoryUse.TAKES c.in-Err-from_reader.e now) same c.in-Err-from_reader.ensures.reads in
-    member_refused (g.T.FromReader.encodes f) g.T.Memory.MemoryUse.TAKES c.in-Err-from_reader.e c.args.reader.now now c.from_reader.new.reader
-    c.rewind.new.self i.0 c.loop-member.items.items c.loop-member._member c.args.count c.current_position-start.result c.requires.lean
+    let F = g.T.FromReader.fault in
+    let Memory = AllocatesIf g.T.Memory.MemoryUse.TAKES g.T.FromReader.allocates in
+    let h = subst (λ (z : WasmFeatures). ReadsValue (g.T.FromReader.encodes z) F Memory (Err c.in-Err-from_reader.e) now c.from_reader.new.reader) same
+    c.in-Err-from_reader.ensures.reads in
+    member_refused (g.T.FromReader.encodes f) F Memory c.in-Err-from_reader.e c.args.reader.now now c.from_reader.new.reader c.rewind.new.self i.0
+    c.loop-member.items.items c.loop-member._member c.args.count c.current_position-start.result
+    (λ r k. subst (λ z. AllocatesIf z g.T.FromReader.allocates r) c.requires.lean k)
     (λ a b x y m n p q e. (c.is_prefix_code.ensures f a b x y m n p q e).0) i.1 c.loop-member-test.true i.2 h c.current_position-start.ensures
     c.rewind.ensures
 
@@ -29,8 +31,8 @@ loop-member-preserved g c =
     let now = c.loop-member.reader in
     let i = c.loop-member.invariant in
     let same : now.features ≡ f = ap (λ (r : Reader). r.features) i.2.moved in
-    let r = subst (λ (z : WasmFeatures). ReadsValue (g.T.FromReader.encodes z) g.T.Memory.MemoryUse.TAKES (Ok c.in-Ok-from_reader.item) now
-    c.from_reader.new.reader) same c.in-Ok-from_reader.ensures.reads in
+    let r = subst (λ (z : WasmFeatures). HasRead (g.T.FromReader.encodes z) c.in-Ok-from_reader.item now c.from_reader.new.reader) same
+    c.in-Ok-from_reader.ensures.reads in
     let items : c.push.new.self.items ≡ c.loop-member.items.items ++ c.in-Ok-from_reader.item ∷ [] = search rules in
     let more = many_more (g.T.FromReader.encodes f) c.loop-member._member i.0 r.0 c.loop-member.items.items c.in-Ok-from_reader.item i.1 r.1 in
     let length_is : vec_len c.push.new.self ≡ c.loop-member._member + 1 = search rules in
@@ -41,17 +43,3 @@ loop-member-preserved g c =
       length_is,
       room,
     )
-
-pub returns-in-Err-from_reader-clause-fault : goal.returns-in-Err-from_reader-clause-fault
-returns-in-Err-from_reader-clause-fault g c =
-    let f = c.args.reader.now.features in
-    let now = c.loop-member.reader in
-    let i = c.loop-member.invariant in
-    let e = c.in-Err-from_reader.e in
-    let P = g.T.FromReader.encodes f in
-    let same : now.features ≡ f = ap (λ (r : Reader). r.features) i.2.moved in
-    let h = subst (λ (z : WasmFeatures). (c.from_reader.new.reader ≡ now) ×
-    IsRefused (g.T.FromReader.encodes z) g.T.Memory.MemoryUse.TAKES e now) same c.in-Err-from_reader.ensures.reads in
-    let few : length c.loop-member.items.items < c.args.count = omega (arith, i.1.0, c.loop-member-test.true) in
-    λ some. many_fault P g.T.FromReader.fault c.args.count c.loop-member.items.items i.0 c.args.reader.now now e.message e.offset few i.1.1 i.2
-    (none_here P e.message now some h.1.refuses) (c.in-Err-from_reader.ensures.fault some)

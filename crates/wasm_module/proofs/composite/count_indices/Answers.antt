@@ -1,30 +1,25 @@
 use Rattle.wasm_below.specs.Number.{EncodesUnsigned}
 use Rattle.wasm_below.specs.Source.{U32Fault}
-use Rattle.wasm_module.proofs.Parts.{first_fault, second_fault}
 use Rattle.wasm_module.proofs.Sequences.{then_first, then_read, then_second}
 use Rattle.wasm_module.specs.Types.{EncodesCounted}
 use Rattle.wasm_below.specs.Fault.{ManyFault}
 use Rattle.wasm_module.proofs.Many.{counted_read, counted_refused}
 use Rattle.wasm_module.proofs.composite.count_indices.Goals as goal
 
-pub returns-in-Err-clause-reads : goal.returns-in-Err-clause-reads
-returns-in-Err-clause-reads c = then_first (EncodesUnsigned 32) (EncodesCounted (EncodesUnsigned 32)) c.in-Err.e c.args.reader.now c.read_var_u32.new.self c.in-Err.ensures.reads
+pub returns-in-Err : goal.returns-in-Err
+returns-in-Err c =
+    then_first (EncodesUnsigned 32) (EncodesCounted (EncodesUnsigned 32)) U32Fault (ManyFault (EncodesUnsigned 32) U32Fault) c.in-Err.e c.args.reader.now
+    c.read_var_u32.new.self c.in-Err.ensures
 
-pub returns-in-Err-clause-fault : goal.returns-in-Err-clause-fault
-returns-in-Err-clause-fault c = first_fault (EncodesUnsigned 32) U32Fault (ManyFault (EncodesUnsigned 32) U32Fault) c.in-Err.e c.args.reader.now c.in-Err.ensures.reads.1 c.in-Err.ensures.fault
+pub returns-in-Ok-skip_indices : goal.returns-in-Ok-skip_indices
+returns-in-Ok-skip_indices c =
+    then_read (EncodesUnsigned 32) (EncodesCounted (EncodesUnsigned 32)) c.args.reader.now c.read_var_u32.new.self c.skip_indices.new.reader c.in-Ok.count c.in-Ok.count c.in-Ok.ensures
+    (counted_read (EncodesUnsigned 32) U32Fault c.in-Ok.count c.read_var_u32.new.self c.skip_indices.new.reader c.in-Ok-skip_indices.ensures)
 
-pub returns-in-Ok-skip_indices-clause-reads : goal.returns-in-Ok-skip_indices-clause-reads
-returns-in-Ok-skip_indices-clause-reads c =
-    then_read (EncodesUnsigned 32) (EncodesCounted (EncodesUnsigned 32)) c.args.reader.now c.read_var_u32.new.self c.skip_indices.new.reader c.in-Ok.count c.in-Ok.count c.in-Ok.ensures.reads
-    (counted_read (EncodesUnsigned 32) U32Fault c.in-Ok.count c.read_var_u32.new.self c.skip_indices.new.reader c.in-Ok-skip_indices.ensures.reads)
-
-pub returns-in-Err-skip_indices-clause-reads : goal.returns-in-Err-skip_indices-clause-reads
-returns-in-Err-skip_indices-clause-reads c =
-    then_second (EncodesUnsigned 32) (EncodesCounted (EncodesUnsigned 32)) (c.unsigned_numbers.ensures 32) c.in-Err-skip_indices.e c.args.reader.now c.read_var_u32.new.self c.skip_indices.new.reader
-    c.rewind.new.self c.in-Ok.count c.current_position-start.result c.in-Ok.ensures.reads
-    (counted_refused (EncodesUnsigned 32) U32Fault c.in-Ok.count c.in-Err-skip_indices.e c.read_var_u32.new.self c.skip_indices.new.reader c.in-Err-skip_indices.ensures.reads) c.current_position-start.ensures c.rewind.ensures
-
-pub returns-in-Err-skip_indices-clause-fault : goal.returns-in-Err-skip_indices-clause-fault
-returns-in-Err-skip_indices-clause-fault c =
-    second_fault (EncodesUnsigned 32) U32Fault (ManyFault (EncodesUnsigned 32) U32Fault) c.in-Err-skip_indices.e c.args.reader.now c.read_var_u32.new.self c.in-Ok.count
-    c.in-Ok.ensures.reads c.in-Err-skip_indices.ensures.fault
+pub returns-in-Err-skip_indices : goal.returns-in-Err-skip_indices
+returns-in-Err-skip_indices c =
+    then_second (EncodesUnsigned 32) (EncodesCounted (EncodesUnsigned 32)) U32Fault (ManyFault (EncodesUnsigned 32) U32Fault)
+    (c.unsigned_numbers.ensures 32) c.in-Err-skip_indices.e c.args.reader.now c.read_var_u32.new.self c.skip_indices.new.reader c.rewind.new.self
+    c.in-Ok.count c.current_position-start.result c.in-Ok.ensures
+    (counted_refused (EncodesUnsigned 32) U32Fault c.in-Ok.count c.in-Err-skip_indices.e c.read_var_u32.new.self c.skip_indices.new.reader c.in-Err-skip_indices.ensures)
+    c.current_position-start.ensures c.rewind.ensures

@@ -27,7 +27,7 @@ returns-in-Err-read_section-clause-cut c =
     let left = c.bytes_remaining-left.ensures in
     let less = c.saturating_sub.ensures in
     cut_at (reader_of c.args.features 0 c.args.bytes.now) c.in-Ok.reader c.sections.reader h.0 c.in-Err-read_section.e _
-    c.in-Ok.ensures.ok h.1 more read.reads.1 read.fault (omega (arith, left, less))
+    c.in-Ok.ensures.ok h.1 more read.reads.1 read.reads.2 (omega (arith, left, less))
 
 pub returns-clause-cut : goal.returns-clause-cut
 returns-clause-cut c =

@@ -6,7 +6,7 @@ use Rattle.wasm_operators_readers.specs.Reading.{TakesOperator}
 use Rattle.wasm_operators_readers.proofs.Runs.{ran_push}
 use Rattle.wasm_operators.proofs.OneEnd.{passed_more}
 use Rattle.wasm_operators.proofs.Read.{ok_more, err_more, end_passed}
-use Rattle.wasm_operators.proofs.Refused.{refused_there, refused_fault, memory_there, refused_inside, inside_has_fault}
+use Rattle.wasm_operators.proofs.Refused.{refused_there, refused_inside}
 use Rattle.wasm_operators.proofs.passing.pass_constant.Goals as goal
 
 pub returns-then-is_end-clause-passed : goal.returns-then-is_end-clause-passed
@@ -25,15 +25,6 @@ returns-then-is_end-clause-refused c =
     (λ e h. refused_inside e c.args.operators.now c.loop-is_end.operators c.pass_one.new.operators i.0 c.requires i.1 i.2 end h.0 h.1 h.2)
     c.check_closed.ensures.open
 
-pub returns-then-is_end-clause-fault : goal.returns-then-is_end-clause-fault
-returns-then-is_end-clause-fault c =
-    let i = c.loop-is_end.invariant in
-    let p = c.in-Ok.ensures in
-    let end = subst (λ op. TakesOperator EncodesAllowed op c.loop-is_end.operators c.pass_one.new.operators) (p.2.0 c.if-is_end.true) p.1 in
-    err_more c.check_closed.result
-    (λ e h. inside_has_fault e c.args.operators.now c.loop-is_end.operators c.pass_one.new.operators i.0 c.requires i.1 i.2 end h.0 h.1 h.2)
-    c.check_closed.ensures.open
-
 pub loop-is_end-preserved : goal.loop-is_end-preserved
 loop-is_end-preserved c =
     let i = c.loop-is_end.invariant in
@@ -49,19 +40,3 @@ returns-in-Err-clause-refused c =
     let f = c.from_start.ensures in
     refused_there c.in-Err.e c.from_start.result c.args.operators.now c.loop-is_end.operators c.pass_one.new.operators i.0 c.requires i.1 i.2
     c.in-Err.ensures.0 c.in-Err.ensures.1 f.message (λ m. f.memory m ∙ c.original_position-start.ensures) f.other
-
-pub returns-in-Err-clause-fault : goal.returns-in-Err-clause-fault
-returns-in-Err-clause-fault c =
-    let i = c.loop-is_end.invariant in
-    let f = c.from_start.ensures in
-    refused_fault c.in-Err.e c.from_start.result c.args.operators.now c.loop-is_end.operators c.pass_one.new.operators i.0 c.requires i.1 i.2
-    c.in-Err.ensures.0 c.in-Err.ensures.1 f.message f.other
-
-pub returns-then-is_end-clause-memory : goal.returns-then-is_end-clause-memory
-returns-then-is_end-clause-memory c = err_more c.check_closed.result (λ e h memory. absurd (cc (memory, h.1))) c.check_closed.ensures.open
-
-pub returns-in-Err-clause-memory : goal.returns-in-Err-clause-memory
-returns-in-Err-clause-memory c =
-    let i = c.loop-is_end.invariant in
-    memory_there c.in-Err.e c.from_start.result c.args.operators.now c.loop-is_end.operators c.pass_one.new.operators i.0 c.requires i.1 i.2
-    c.in-Err.ensures.0 c.in-Err.ensures.1 c.from_start.ensures.message

@@ -7,4 +7,4 @@ pub returns-in-Ok : goal.returns-in-Ok
 returns-in-Ok c =
     let byte = c.in-Ok-eq253.field-0 in
     subst (λ z. IsAfterCode c.args.start (Some z) c.in-Ok.code c.read_var_u32.new.self) c.in-Ok-eq253.field-0-test
-    (after_both c.args.reader.now c.read_u8.new.self c.read_var_u32.new.self c.args.start byte c.in-Ok.code c.requires c.in-Ok-eq253.ensures.reads c.in-Ok.ensures.reads)
+    (after_both c.args.reader.now c.read_u8.new.self c.read_var_u32.new.self c.args.start byte c.in-Ok.code c.requires c.in-Ok-eq253.ensures c.in-Ok.ensures)

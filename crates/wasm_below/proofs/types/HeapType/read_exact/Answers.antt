@@ -1,7 +1,7 @@
 use Rattle.std.proofs.Common.{ℕ, ◌∷◌, [], Ok, inr, refl, sym, subst, ap, ◌∙◌, arith}
 use Rattle.wasm_below_bytes.specs.Refusal.{IsReadFault}
 use Rattle.wasm_below_bytes.specs.Fault.{ThenFault}
-use Rattle.wasm_below_bytes.specs.Source.{Reader, rest, at_position, Reads, U32Fault}
+use Rattle.wasm_below_bytes.specs.Source.{Reader, rest, at_position, HasRead, U32Fault}
 use Rattle.wasm_below_bytes.specs.Number.{EncodesUnsigned}
 use Rattle.wasm_below.specs.TypeEncoding.{EncodesExact, NoIndex}
 use Rattle.wasm_below_bytes.proofs.Faults.{first_fault}
@@ -11,54 +11,44 @@ use Rattle.wasm_below_bytes.proofs.Prefixes.{advanced, refused_at, after_refused
 use Rattle.wasm_below.proofs.TypeEncodings.{no_exact, exact_after, exact_empty}
 use Rattle.wasm_below.proofs.types.HeapType.read_exact.Goals as goal
 
-pub returns-then-index-gt-MAX_TYPE_INDEX-clause-reads : goal.returns-then-index-gt-MAX_TYPE_INDEX-clause-reads
-returns-then-index-gt-MAX_TYPE_INDEX-clause-reads c =
-    let r = c.in-Ok.ensures.reads in
+pub returns-then-index-gt-MAX_TYPE_INDEX : goal.returns-then-index-gt-MAX_TYPE_INDEX
+returns-then-index-gt-MAX_TYPE_INDEX c =
+    let r = c.in-Ok.ensures in
     let h = c.refuse.ensures in
     let first = advanced c.args.reader.now c.advance.new.self 98 c.requires c.advance.ensures in
     let whole = takes_then c.args.reader.now c.advance.new.self c.read_var_u32.new.self (98 ∷ []) r.0 first r.2 in
-    refused_at EncodesExact c.refuse.result c.args.reader.now c.read_var_u32.new.self c.refuse.new.self (98 ∷ r.0) c.current_position-start.result whole
-    (omega arith) c.current_position-start.ensures h.rewound h.offset (subst IsReadFault (sym h.message) tt)
-    (λ more. no_exact r.0 (rest c.read_var_u32.new.self) more c.in-Ok.index r.1 c.if-index-gt-MAX_TYPE_INDEX.true)
+    let refused = refused_at EncodesExact c.refuse.result c.args.reader.now c.read_var_u32.new.self c.refuse.new.self (98 ∷ r.0)
+    c.current_position-start.result whole (omega arith) c.current_position-start.ensures h.rewound h.offset (subst IsReadFault (sym h.message) tt)
+    (λ more. no_exact r.0 (rest c.read_var_u32.new.self) more c.in-Ok.index r.1 c.if-index-gt-MAX_TYPE_INDEX.true) in
+    let new = c.read_var_u32.new.self in
+    let start = ap (λ (r : Reader). r.start) c.advance.ensures in (
+      refused.0,
+      refused.1,
+      inr (
+        c.in-Ok.index,
+        new,
+        subst (λ z. HasRead (EncodesUnsigned 32) c.in-Ok.index z new) c.advance.ensures r,
+        no_index c.refuse.result.message c.refuse.result.offset c.current_position-start.result c.args.reader.now c.advance.new.self new r.0 r.2 start
+            c.current_position-start.ensures h.message h.offset,
+      ),
+    )
 
-pub returns-else-index-gt-MAX_TYPE_INDEX-clause-reads : goal.returns-else-index-gt-MAX_TYPE_INDEX-clause-reads
-returns-else-index-gt-MAX_TYPE_INDEX-clause-reads c =
-    let r = c.in-Ok.ensures.reads in
+pub returns-else-index-gt-MAX_TYPE_INDEX : goal.returns-else-index-gt-MAX_TYPE_INDEX
+returns-else-index-gt-MAX_TYPE_INDEX c =
+    let r = c.in-Ok.ensures in
     let first = advanced c.args.reader.now c.advance.new.self 98 c.requires c.advance.ensures in (
       98 ∷ r.0,
       (r.0, refl, r.1, c.if-index-gt-MAX_TYPE_INDEX.false),
       takes_then c.args.reader.now c.advance.new.self c.read_var_u32.new.self (98 ∷ []) r.0 first r.2,
     )
 
-pub returns-in-Err-clause-reads : goal.returns-in-Err-clause-reads
-returns-in-Err-clause-reads c =
-    let h = c.in-Err.ensures.reads in
+pub returns-in-Err : goal.returns-in-Err
+returns-in-Err c =
+    let h = c.in-Err.ensures in
     let first = advanced c.args.reader.now c.advance.new.self 98 c.requires c.advance.ensures in (
       back c.args.reader.now c.advance.new.self c.rewind.new.self (98 ∷ []) c.current_position-start.result first c.current_position-start.ensures
           (c.rewind.ensures ∙ ap (λ r. at_position r c.current_position-start.result) h.0),
       after_refused (EncodesUnsigned 32) EncodesExact c.in-Err.e c.args.reader.now c.advance.new.self 98 first exact_empty exact_after h.1,
-    )
-
-pub returns-in-Err-clause-fault : goal.returns-in-Err-clause-fault
-returns-in-Err-clause-fault c =
-    let e = c.in-Err.e in
-    let h = c.in-Err.ensures in
-    let After = λ (n : ℕ). NoIndex c.args.reader.now in
-    subst (λ r. ThenFault (EncodesUnsigned 32) U32Fault After e.message r e.offset) c.advance.ensures
-    (first_fault (EncodesUnsigned 32) U32Fault After e c.advance.new.self h.reads.1 h.fault)
-
-pub returns-then-index-gt-MAX_TYPE_INDEX-clause-fault : goal.returns-then-index-gt-MAX_TYPE_INDEX-clause-fault
-returns-then-index-gt-MAX_TYPE_INDEX-clause-fault c =
-    let r = c.in-Ok.ensures.reads in
-    let h = c.refuse.ensures in
-    let begin = c.args.reader.now in
-    let new = c.read_var_u32.new.self in
-    let start = ap (λ (r : Reader). r.start) c.advance.ensures in
-    let after = subst (λ z. Reads (EncodesUnsigned 32) (Ok c.in-Ok.index) z new) c.advance.ensures r in
-    inr (
-      c.in-Ok.index,
-      new,
-      after,
-      no_index c.refuse.result.message c.refuse.result.offset c.current_position-start.result begin c.advance.new.self new r.0
-          r.2 start c.current_position-start.ensures h.message h.offset,
+      subst (λ r. ThenFault (EncodesUnsigned 32) U32Fault (λ n. NoIndex c.args.reader.now) c.in-Err.e.message r c.in-Err.e.offset) c.advance.ensures
+          (first_fault (EncodesUnsigned 32) U32Fault (λ n. NoIndex c.args.reader.now) c.in-Err.e c.advance.new.self h.1 h.2),
     )

@@ -1,33 +1,27 @@
 use Rattle.std.proofs.Common.{true, false, subst}
+use Rattle.wasm_below_bytes.specs.declared.message.TypeName.TheVariants as type_name
 use Rattle.wasm_below_bytes.specs.Source.{rest, BeginsWith}
-use Rattle.wasm_below.specs.TypeEncoding.{EncodesShortRef, EncodesLongRef, EncodesRefType}
+use Rattle.wasm_below.specs.TypeEncoding.{EncodesShortRef, EncodesLongRef, EncodesRefType, ShortFault, RefTypeFault}
 use Rattle.wasm_below_bytes.proofs.Prefixes.{led_reads}
-use Rattle.wasm_below.proofs.TypeEncodings.{long_fault, ref_empty, ref_long, ref_short, long_ref, short_ref}
+use Rattle.wasm_below.proofs.TypeEncodings.{ref_empty, ref_long, ref_short, long_ref, short_ref, short_ref_fault}
 use Rattle.wasm_below.proofs.types.RefType.read.Goals as goal
 
-pub returns-then-byte-eq-REF_NULL-clause-reads : goal.returns-then-byte-eq-REF_NULL-clause-reads
-returns-then-byte-eq-REF_NULL-clause-reads c =
-    led_reads EncodesLongRef EncodesRefType c.read_long.result c.args.reader.now c.read_long.new.reader 99
+pub returns-then-byte-eq-REF_NULL : goal.returns-then-byte-eq-REF_NULL
+returns-then-byte-eq-REF_NULL c =
+    led_reads EncodesLongRef EncodesRefType RefTypeFault RefTypeFault c.read_long.result c.args.reader.now c.read_long.new.reader 99
     (subst (λ b. BeginsWith b (rest c.args.reader.now)) c.if-byte-eq-REF_NULL.true c.in_ok-byte.ensures.prefix) long_ref ref_empty (ref_long true)
-    c.read_long.ensures.reads
+    (λ m offset h. h) c.read_long.ensures
 
-pub returns-then-byte-eq-REF-clause-reads : goal.returns-then-byte-eq-REF-clause-reads
-returns-then-byte-eq-REF-clause-reads c =
-    led_reads EncodesLongRef EncodesRefType c.read_long-then-byte-eq-REF.result c.args.reader.now c.read_long-then-byte-eq-REF.new.reader 100
+pub returns-then-byte-eq-REF : goal.returns-then-byte-eq-REF
+returns-then-byte-eq-REF c =
+    led_reads EncodesLongRef EncodesRefType RefTypeFault RefTypeFault c.read_long-then-byte-eq-REF.result c.args.reader.now
+    c.read_long-then-byte-eq-REF.new.reader 100
     (subst (λ b. BeginsWith b (rest c.args.reader.now)) c.if-byte-eq-REF.true c.in_ok-byte.ensures.prefix) long_ref ref_empty (ref_long false)
-    c.read_long-then-byte-eq-REF.ensures.reads
+    (λ m offset h. h) c.read_long-then-byte-eq-REF.ensures
 
-pub returns-clause-reads : goal.returns-clause-reads
-returns-clause-reads c =
-    led_reads EncodesShortRef EncodesRefType c.read_short.result c.args.reader.now c.read_short.new.reader c.in_ok-byte.byte c.in_ok-byte.ensures.prefix
-    short_ref ref_empty (ref_short c.in_ok-byte.byte c.if-byte-eq-REF_NULL.false c.if-byte-eq-REF.false) c.read_short.ensures.reads
-
-pub returns-then-byte-eq-REF_NULL-clause-fault : goal.returns-then-byte-eq-REF_NULL-clause-fault
-returns-then-byte-eq-REF_NULL-clause-fault c =
-    long_fault c.read_long.result true c.args.reader.now
-    (subst (λ b. BeginsWith b (rest c.args.reader.now)) c.if-byte-eq-REF_NULL.true c.in_ok-byte.ensures.prefix) c.read_long.ensures.fault
-
-pub returns-then-byte-eq-REF-clause-fault : goal.returns-then-byte-eq-REF-clause-fault
-returns-then-byte-eq-REF-clause-fault c =
-    long_fault c.read_long-then-byte-eq-REF.result false c.args.reader.now
-    (subst (λ b. BeginsWith b (rest c.args.reader.now)) c.if-byte-eq-REF.true c.in_ok-byte.ensures.prefix) c.read_long-then-byte-eq-REF.ensures.fault
+pub returns : goal.returns
+returns c =
+    let b = c.in_ok-byte.byte in
+    led_reads EncodesShortRef EncodesRefType (ShortFault type_name.ReferenceType) RefTypeFault c.read_short.result c.args.reader.now c.read_short.new.reader b
+    c.in_ok-byte.ensures.prefix short_ref ref_empty (ref_short b c.if-byte-eq-REF_NULL.false c.if-byte-eq-REF.false)
+    (short_ref_fault b c.args.reader.now c.in_ok-byte.ensures.prefix c.if-byte-eq-REF_NULL.false c.if-byte-eq-REF.false) c.read_short.ensures

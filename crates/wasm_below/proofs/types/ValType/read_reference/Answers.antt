@@ -1,12 +1,14 @@
+use Rattle.std.proofs.Common.{inl}
 use Rattle.wasm_below.specs.TypeEncoding.{EncodesRefType, EncodesValType}
 use Rattle.wasm_below_bytes.proofs.Prefixes.{led_refused}
 use Rattle.wasm_below.proofs.TypeEncodings.{value_empty, value_ref}
 use Rattle.wasm_below.proofs.types.ValType.read_reference.Goals as goal
 
-pub returns-in-Err-clause-reads : goal.returns-in-Err-clause-reads
-returns-in-Err-clause-reads c =
-    let h = c.in-Err.ensures.reads in (
+pub returns-in-Err : goal.returns-in-Err
+returns-in-Err c =
+    let h = c.in-Err.ensures in
+    let r = c.requires in (
       h.0,
-      led_refused EncodesRefType EncodesValType c.in-Err.e c.args.reader.now c.requires.0 c.requires.2 value_empty
-          (value_ref c.requires.0 c.requires.1) h.1,
+      led_refused EncodesRefType EncodesValType c.in-Err.e c.args.reader.now r.0 r.2 value_empty (value_ref r.0 r.1) h.1,
+      inl (r.0, r.1, r.2, h.2),
     )

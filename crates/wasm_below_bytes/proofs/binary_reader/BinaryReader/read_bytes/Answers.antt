@@ -3,14 +3,14 @@ use Rattle.wasm_below_bytes.specs.Source.{Reader, rest, at_position, IsBlock, Ta
 use Rattle.wasm_below_bytes.proofs.Blocks.{short_refused, takes_block}
 use Rattle.wasm_below_bytes.proofs.binary_reader.BinaryReader.read_bytes.Goals as goal
 
-pub returns-then-n-self-clause-reads : goal.returns-then-n-self-clause-reads
-returns-then-n-self-clause-reads c =
+pub returns-then-n-self : goal.returns-then-n-self
+returns-then-n-self c =
     let le : c.args.self.now.position ≤ length c.args.self.now.buffer =
     subst (λ (r : Reader). r.position ≤ length r.buffer) c.self.view_is c.self.invariant.0 in
-    (refl, short_refused (IsBlock c.args.n) c.args.n c.block_missing.result c.args.self.now (λ text x p. p.1) le c.block_missing.ensures)
+    (refl, short_refused (IsBlock c.args.n) c.args.n c.block_missing.result c.args.self.now (λ text x p. p.1) le c.block_missing.ensures, c.block_missing.ensures)
 
-pub returns-clause-reads : goal.returns-clause-reads
-returns-clause-reads c =
+pub returns : goal.returns
+returns c =
     let old : Reader = record {
       features = c.self.inside.features;
       start = c.self.inside.original_offset;

@@ -5,8 +5,8 @@ use Rattle.wasm_below_bytes.specs.Number.{EncodesFixed}
 use Rattle.wasm_below_bytes.proofs.Blocks.{short_refused}
 use Rattle.wasm_below_bytes.proofs.binary_reader.BinaryReader.read_u32.Goals as goal
 
-pub returns-in_err-block-clause-reads : goal.returns-in_err-block-clause-reads
-returns-in_err-block-clause-reads c =
+pub returns-in_err-block : goal.returns-in_err-block
+returns-in_err-block c =
     let p = err_from_is_err_and c.from_residual.result c.from_residual.ensures.1 in
     let h = c.in_err-block.ensures in
-    rw (p.1, p.2) (h.reads.0, short_refused (EncodesFixed w32) 4 c.in_err-block.field-0.0 c.args.self.now (λ text x p. ap length p.0) (search rules) h.end)
+    rw (p.1, p.2) (h.0, short_refused (EncodesFixed w32) 4 c.in_err-block.field-0.0 c.args.self.now (λ text x p. ap length p.0) (search rules) h.2, h.2)

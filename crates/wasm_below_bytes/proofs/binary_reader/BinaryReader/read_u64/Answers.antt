@@ -6,15 +6,15 @@ use Rattle.wasm_below_bytes.specs.Number.{EncodesFixed}
 use Rattle.wasm_below_bytes.proofs.Blocks.{short_refused}
 use Rattle.wasm_below_bytes.proofs.binary_reader.BinaryReader.read_u64.Goals as goal
 
-pub returns-in_err-block-clause-reads : goal.returns-in_err-block-clause-reads
-returns-in_err-block-clause-reads c =
+pub returns-in_err-block : goal.returns-in_err-block
+returns-in_err-block c =
     let p = err_from_is_err_and c.from_residual.result c.from_residual.ensures.1 in
     let h = c.in_err-block.ensures in
-    rw (p.1, p.2) (h.reads.0, short_refused (EncodesFixed w64) 8 c.in_err-block.field-0.0 c.args.self.now (λ text x p. ap length p.0) (search rules) h.end)
+    rw (p.1, p.2) (h.0, short_refused (EncodesFixed w64) 8 c.in_err-block.field-0.0 c.args.self.now (λ text x p. ap length p.0) (search rules) h.2, h.2)
 
-pub returns-clause-reads : goal.returns-clause-reads
-returns-clause-reads c =
-    let r = c.in_ok-block.ensures.reads in
+pub returns : goal.returns
+returns c =
+    let r = c.in_ok-block.ensures in
     let block = c.in_ok-block.block.now in
     let small : (i : ℕ) → get_or block i 0 < 256 = search rules in
     let bytes = le_bytes_8 block c.from_le_bytes.result (ap length r.1.0 ∙ r.1.1) small c.from_le_bytes.ensures in

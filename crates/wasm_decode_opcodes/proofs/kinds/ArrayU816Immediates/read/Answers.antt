@@ -1,4 +1,3 @@
-use Rattle.std.proofs.Common.{}
 use Rattle.wasm_instr.specs.imm.Vectors.{EncodesSixteen}
 use Rattle.wasm_instr.specs.Immediate.{sixteen_lanes, is_sixteen_lanes}
 use Rattle.wasm_decode_opcodes.proofs.KindLemmas.{of_lanes}
@@ -8,4 +7,4 @@ use Rattle.wasm_decode_opcodes.proofs.kinds.ArrayU816Immediates.read.Goals as go
 pub returns-in-Err : goal.returns-in-Err
 returns-in-Err c =
     let r = c.args.reader.now in
-    one_failed EncodesSixteen is_sixteen_lanes sixteen_lanes c.args._start c.in-Err.e r c.read_lanes.new.reader (of_lanes r.features) c.requires c.in-Err.ensures.reads c.in-Err.ensures.fault
+    one_failed EncodesSixteen is_sixteen_lanes sixteen_lanes c.args._start c.in-Err.e r c.read_lanes.new.reader (of_lanes r.features) c.requires c.in-Err.ensures

@@ -5,4 +5,4 @@ use Rattle.wasm_decode_opcodes.proofs.kinds.FenceOrderingImmediates.read.Goals a
 pub returns-in-Err : goal.returns-in-Err
 returns-in-Err c =
     let begun = c.original_position.result - (c.current_position.result - c.args.start) in
-    fence_failed c.args.start begun c.in-Err.e c.args.reader.now c.read_fence.new.reader (omega (arith, c.requires, c.original_position.ensures, c.current_position.ensures)) c.requires c.in-Err.ensures.reads c.in-Err.ensures.fault
+    fence_failed c.args.start begun c.in-Err.e c.args.reader.now c.read_fence.new.reader (omega (arith, c.requires, c.original_position.ensures, c.current_position.ensures)) c.requires c.in-Err.ensures

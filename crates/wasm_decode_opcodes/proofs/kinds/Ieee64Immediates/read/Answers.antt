@@ -1,4 +1,3 @@
-use Rattle.std.proofs.Common.{}
 use Rattle.std.specs.Int.{w64}
 use Rattle.wasm_instr.specs.below.Number.{EncodesFixed}
 use Rattle.wasm_instr.specs.Immediate.{float_64, is_float_64}
@@ -9,4 +8,4 @@ use Rattle.wasm_decode_opcodes.proofs.kinds.Ieee64Immediates.read.Goals as goal
 pub returns-in-Err : goal.returns-in-Err
 returns-in-Err c =
     let r = c.args.reader.now in
-    one_failed (EncodesFixed w64) is_float_64 float_64 c.args._start c.in-Err.e r c.read_f64.new.self (of_float_64 r.features) c.requires c.in-Err.ensures.reads c.in-Err.ensures.end
+    one_failed (EncodesFixed w64) is_float_64 float_64 c.args._start c.in-Err.e r c.read_f64.new.self (of_float_64 r.features) c.requires c.in-Err.ensures

@@ -1,4 +1,3 @@
-use Rattle.std.proofs.Common.{}
 use Rattle.wasm_instr.specs.imm.Orderings.{EncodesOrderingByte}
 use Rattle.wasm_instr.specs.Immediate.{order, is_order}
 use Rattle.wasm_decode_opcodes.proofs.KindLemmas.{of_order}
@@ -8,4 +7,4 @@ use Rattle.wasm_decode_opcodes.proofs.kinds.OrderingImmediates.read.Goals as goa
 pub returns-in-Err : goal.returns-in-Err
 returns-in-Err c =
     let r = c.args.reader.now in
-    one_failed EncodesOrderingByte is_order order c.args._start c.in-Err.e r c.read.new.reader (of_order r.features) c.requires c.in-Err.ensures.reads c.in-Err.ensures.fault
+    one_failed EncodesOrderingByte is_order order c.args._start c.in-Err.e r c.read.new.reader (of_order r.features) c.requires c.in-Err.ensures

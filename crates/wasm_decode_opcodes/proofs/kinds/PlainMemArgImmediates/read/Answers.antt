@@ -1,4 +1,3 @@
-use Rattle.std.proofs.Common.{}
 use Rattle.wasm_instr.specs.imm.declared.memory_argument.MemArgKind.TheVariants as kind
 use Rattle.wasm_instr.specs.imm.MemoryArgument.{EncodesMemArg}
 use Rattle.wasm_instr.specs.Immediate.{memory_argument, is_memory_argument}
@@ -9,4 +8,4 @@ use Rattle.wasm_decode_opcodes.proofs.kinds.PlainMemArgImmediates.read.Goals as 
 pub returns-in-Err : goal.returns-in-Err
 returns-in-Err c =
     let r = c.args.reader.now in
-    one_failed (EncodesMemArg r.features kind.Plain c.args.bound) (is_memory_argument kind.Plain c.args.bound) (memory_argument kind.Plain c.args.bound) c.args._start c.in-Err.e r c.read.new.reader (of_memory r.features kind.Plain c.args.bound) c.requires c.in-Err.ensures.reads c.in-Err.ensures.fault
+    one_failed (EncodesMemArg r.features kind.Plain c.args.bound) (is_memory_argument kind.Plain c.args.bound) (memory_argument kind.Plain c.args.bound) c.args._start c.in-Err.e r c.read.new.reader (of_memory r.features kind.Plain c.args.bound) c.requires c.in-Err.ensures

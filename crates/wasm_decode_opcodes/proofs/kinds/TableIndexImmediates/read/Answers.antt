@@ -1,4 +1,3 @@
-use Rattle.std.proofs.Common.{}
 use Rattle.wasm_instr.specs.imm.Indices.{EncodesTableIndex}
 use Rattle.wasm_instr.specs.Immediate.{table_index_32, is_table_index}
 use Rattle.wasm_decode_opcodes.proofs.KindLemmas.{of_table_index}
@@ -8,4 +7,4 @@ use Rattle.wasm_decode_opcodes.proofs.kinds.TableIndexImmediates.read.Goals as g
 pub returns-in-Err : goal.returns-in-Err
 returns-in-Err c =
     let r = c.args.reader.now in
-    one_failed (EncodesTableIndex r.features) is_table_index table_index_32 c.args._start c.in-Err.e r c.read_table_index.new.reader (of_table_index r.features) c.requires c.in-Err.ensures.reads c.in-Err.ensures.fault
+    one_failed (EncodesTableIndex r.features) is_table_index table_index_32 c.args._start c.in-Err.e r c.read_table_index.new.reader (of_table_index r.features) c.requires c.in-Err.ensures

@@ -1,4 +1,3 @@
-use Rattle.std.proofs.Common.{}
 use Rattle.wasm_instr.specs.below.Number.{EncodesUnsigned}
 use Rattle.wasm_instr.specs.Immediate.{unsigned_32, is_unsigned_32}
 use Rattle.wasm_decode_opcodes.proofs.KindLemmas.{of_unsigned}
@@ -8,4 +7,4 @@ use Rattle.wasm_decode_opcodes.proofs.kinds.U32Immediates.read.Goals as goal
 pub returns-in-Err : goal.returns-in-Err
 returns-in-Err c =
     let r = c.args.reader.now in
-    one_failed (EncodesUnsigned 32) is_unsigned_32 unsigned_32 c.args._start c.in-Err.e r c.read_var_u32.new.self (of_unsigned r.features) c.requires c.in-Err.ensures.reads c.in-Err.ensures.fault
+    one_failed (EncodesUnsigned 32) is_unsigned_32 unsigned_32 c.args._start c.in-Err.e r c.read_var_u32.new.self (of_unsigned r.features) c.requires c.in-Err.ensures

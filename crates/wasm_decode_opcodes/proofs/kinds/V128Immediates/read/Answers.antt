@@ -1,4 +1,3 @@
-use Rattle.std.proofs.Common.{}
 use Rattle.wasm_instr.specs.imm.Vectors.{EncodesVector}
 use Rattle.wasm_instr.specs.Immediate.{vector, is_vector}
 use Rattle.wasm_decode_opcodes.proofs.KindLemmas.{of_vector}
@@ -8,4 +7,4 @@ use Rattle.wasm_decode_opcodes.proofs.kinds.V128Immediates.read.Goals as goal
 pub returns-in-Err : goal.returns-in-Err
 returns-in-Err c =
     let r = c.args.reader.now in
-    one_failed EncodesVector is_vector vector c.args._start c.in-Err.e r c.read.new.reader (of_vector r.features) c.requires c.in-Err.ensures.reads c.in-Err.ensures.end
+    one_failed EncodesVector is_vector vector c.args._start c.in-Err.e r c.read.new.reader (of_vector r.features) c.requires c.in-Err.ensures

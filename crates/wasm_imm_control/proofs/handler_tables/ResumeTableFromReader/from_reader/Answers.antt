@@ -1,13 +1,14 @@
-use Rattle.std.proofs.Common.{true}
 use Rattle.wasm_imm_control.specs.Handlers.{EncodesHandle}
 use Rattle.wasm_imm_control.specs.HandlerTables.{max_handlers, EncodesResumeTable}
-use Rattle.wasm_imm_control.specs.Lists.{EncodesList}
+use Rattle.wasm_imm_control.specs.ListFaults.{ResumeTableFault}
+use Rattle.wasm_imm_control.specs.Lists.{EncodesList, HasCount}
 use Rattle.wasm_imm_control.proofs.ListRefusals.{refused_by}
 use Rattle.wasm_imm_control.proofs.handler_tables.ResumeTableFromReader.from_reader.Goals as goal
 
 pub returns-in-Err-clause-reads : goal.returns-in-Err-clause-reads
 returns-in-Err-clause-reads c = (
-  c.in-Err.ensures.reads.0,
-  refused_by (EncodesList max_handlers EncodesHandle) EncodesResumeTable true c.in-Err.e c.args.reader.now
-      (λ text t p. (t.handlers, p)) c.in-Err.ensures.reads.1,
+  c.in-Err.ensures.0,
+  refused_by (EncodesList max_handlers EncodesHandle) EncodesResumeTable ResumeTableFault ResumeTableFault (HasCount max_handlers)
+      (HasCount max_handlers) c.in-Err.e c.args.reader.now (λ text t p. (t.handlers, p)) (λ m offset x. x) (λ x. x)
+      c.in-Err.ensures.1,
 )

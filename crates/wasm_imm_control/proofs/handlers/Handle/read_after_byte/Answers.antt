@@ -1,11 +1,13 @@
-use Rattle.wasm_below.proofs.Sequences.{refuses_by}
+use Rattle.std.proofs.Common.{◌≤◌, inl, arith}
+use Rattle.wasm_below.proofs.Steps.{missing_as}
+use Rattle.wasm_imm_control.specs.HandlerFaults.{PairFault, IndicesFault}
 use Rattle.wasm_imm_control.specs.Handlers.{EncodesPair, IsHandleAfterByte}
 use Rattle.wasm_imm_control.proofs.HandlerLemmas.{handle_pair}
 use Rattle.wasm_imm_control.proofs.handlers.Handle.read_after_byte.Goals as goal
 
-pub returns-in-Err-clause-reads : goal.returns-in-Err-clause-reads
-returns-in-Err-clause-reads c = (
-  c.in-Err.ensures.reads.0,
-  refuses_by EncodesPair (IsHandleAfterByte c.args.byte) c.in-Err.e c.args.reader.now (handle_pair c.args.byte c.if-byte-eq0.true)
-      c.in-Err.ensures.reads.1,
-)
+pub returns-in-Err : goal.returns-in-Err
+returns-in-Err c =
+    let byte = c.args.byte in
+    let low : byte ≤ 0 = omega (arith, c.if-byte-eq0.true) in
+    missing_as EncodesPair (IsHandleAfterByte byte) PairFault (IndicesFault 0 byte) c.in-Err.e c.args.reader.now c.read_pair.new.reader
+    (handle_pair byte c.if-byte-eq0.true) (λ m offset h. inl (low, h)) c.in-Err.ensures

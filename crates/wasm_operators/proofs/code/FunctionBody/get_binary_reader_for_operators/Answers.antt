@@ -10,7 +10,7 @@ use Rattle.wasm_operators.proofs.code.FunctionBody.get_binary_reader_for_operato
 pub returns-in-Err : goal.returns-in-Err
 returns-in-Err c =
     subst (λ (r : Reader). RefusesLocals c.in-Err.e r) (c.clone-reader.ensures ∙ c.self.view_is)
-    (count_refused c.in-Err.e c.clone-reader.result c.in-Err.ensures.reads.1 c.in-Err.ensures.fault)
+    (count_refused c.in-Err.e c.clone-reader.result c.in-Err.ensures.1 c.in-Err.ensures.2)
 
 pub loop-declaration-init : goal.loop-declaration-init
 loop-declaration-init c = ([], [], (refl, refl), takes_none c.read_var_u32.new.self)
@@ -22,12 +22,12 @@ returns-in-Err-read_declaration c =
     let more : c.loop-declaration._declaration < c.in-Ok.count = omega (arith, c.loop-declaration-test.true) in
     subst (λ (r : Reader). RefusesLocals c.in-Err-read_declaration.e r) (c.clone-reader.ensures ∙ c.self.view_is)
     (declaration_refused c.in-Err-read_declaration.e c.clone-reader.result c.read_var_u32.new.self c.loop-declaration.reader c.in-Ok.count
-    c.loop-declaration._declaration i.0 i.1 c.in-Ok.ensures.reads i.2 more i.3 h.reads.1 h.fault)
+    c.loop-declaration._declaration i.0 i.1 c.in-Ok.ensures i.2 more i.3 h.1 h.2)
 
 pub loop-declaration-preserved : goal.loop-declaration-preserved
 loop-declaration-preserved c =
     let i = c.loop-declaration.invariant in
-    let r = c.in-Ok-read_declaration.ensures.reads in (
+    let r = c.in-Ok-read_declaration.ensures in (
       i.0 ++ r.0,
       i.1 ++ c.in-Ok-read_declaration.field-0 ∷ [],
       many_more EncodesDeclaration c.loop-declaration._declaration i.0 r.0 i.1 c.in-Ok-read_declaration.field-0 i.2 r.1,
@@ -41,5 +41,5 @@ returns c =
     let many : EncodesMany EncodesDeclaration c.in-Ok.count i.0 i.1 = (i.2.0 ∙ all, i.2.1) in (
       i.1,
       subst (λ (r : Reader). IsPastLocals i.1 r c.loop-declaration.reader) (c.clone-reader.ensures ∙ c.self.view_is)
-          (locals_read c.clone-reader.result c.read_var_u32.new.self c.loop-declaration.reader c.in-Ok.count i.0 i.1 c.in-Ok.ensures.reads many i.3),
+          (locals_read c.clone-reader.result c.read_var_u32.new.self c.loop-declaration.reader c.in-Ok.count i.0 i.1 c.in-Ok.ensures many i.3),
     )

@@ -1,6 +1,7 @@
-use Rattle.std.proofs.Common.{◌-◌, take, subst, ap, ◌∙◌}
-use Rattle.wasm_operators_readers.specs.below.Fault.{HasFault}
-use Rattle.wasm_operators_readers.specs.below.Source.{reader_of}
+use Rattle.std.proofs.Common.{◌-◌, take, refl, subst, ap, ◌∙◌}
+use Rattle.wasm_operators_readers.specs.below.FromReader.{IsRefused}
+use Rattle.wasm_operators_readers.specs.below.Source.{Reader, reader_of}
+use Rattle.wasm_operators.specs.Constant.{EncodesConstantReader}
 use Rattle.wasm_operators.specs.ConstantFaults.{ConstantFault, ConstantMayAllocate}
 use Rattle.wasm_operators.proofs.Read.{constant_read}
 use Rattle.wasm_operators.proofs.constant.ConstExpr.read.Goals as goal
@@ -20,8 +21,9 @@ returns-in-Ok-clause-reads c =
     (take (c.current_position.result - c.current_position-in-Ok.result) c.remaining_buffer.result.now) same c.new-operators.ensures.fresh passed.0 passed.1
     c.get_binary_reader-after.ensures bytes is
 
-pub returns-clause-fault : goal.returns-clause-fault
-returns-clause-fault c = subst (HasFault ConstantFault c.in-Err.e) (c.new-operators.ensures.reader ∙ c.clone.ensures) c.in-Err.ensures.fault
-
-pub returns-clause-memory : goal.returns-clause-memory
-returns-clause-memory c = λ is. subst ConstantMayAllocate (c.new-operators.ensures.reader ∙ c.clone.ensures) (c.in-Err.ensures.memory is)
+pub returns-clause-reads : goal.returns-clause-reads
+returns-clause-reads c = (
+  refl,
+  subst (λ (r : Reader). IsRefused (EncodesConstantReader r.features) ConstantFault ConstantMayAllocate c.in-Err.e r)
+      (c.new-operators.ensures.reader ∙ c.clone.ensures) c.in-Err.ensures.refused,
+)
