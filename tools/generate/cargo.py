@@ -21,13 +21,69 @@ def made(op):
     return f"Operator::{op.name}{f' {{ {fields} }}' if fields else ''}"
 
 
+# The shapes that most operators of a program have, which are converted by comparisons of few shapes: with more in one
+# `match`, the compiler jumps through a table, which is mispredicted more often.
+IN_TABLES = (0, 1, 3)
+# The shapes after them. Each has one operator.
+OF_ONE = (6, 7)
+# The rank of an opcode that is in no table.
+NO_RANK = 255
+
+
+def in_tables(ops):
+    """Returns the operators in tables by shape."""
+    return {shape: [op for op in ops if not op.prefix and op.combination.number == shape] for shape in IN_TABLES}
+
+
+def of_one(shape, ops):
+    """Returns the only operator of a shape."""
+    (op,) = [op for op in ops if op.combination.number == shape]
+    return op
+
+
+def ranks(by_shape):
+    """Returns the rows of the table from opcodes to positions among the operators of a shape."""
+    table = [NO_RANK] * 256
+    for those in by_shape.values():
+        for at, op in enumerate(those):
+            table[number(op)] = at
+    rows = [table[at : at + 16] for at in range(0, 256, 16)]
+    return ["    " + ", ".join(map(str, row)) + "," for row in rows]
+
+
+def by_rank(shape, ops):
+    """Returns a function that converts the operators of a shape, which have at most one field."""
+    (values,) = {op.combination.values for op in ops}
+    parameter = f"{'op' if values else '_'}: &PlainOperator"
+
+    def converted(op):
+        return f"Operator::{op.name}" + "".join(f" {{ {field}: value }}" for field, _ in op.fields)
+
+    return [
+        "",
+        f"/// Converts an operator of the shape {shape} by its rank.",
+        "#[inline(always)]",
+        "#[rustfmt::skip]",
+        f"fn of_shape_{shape}<'a>({parameter}, rank: u16) -> Option<Operator<'a>> {{",
+        *[f"    let value = {value};" for value in values],
+        "    Some(match rank {",
+        *[f"        {at} => {converted(op)}," for at, op in enumerate(ops)],
+        "        _ => return None,",
+        "    })",
+        "}",
+    ]
+
+
 def operator_source(ops):
+    by_shape = in_tables(ops)
+    single = [of_one(shape, ops) for shape in OF_ONE]
+    frequent = {op.name for those in [*by_shape.values(), single] for op in those}
     first, _ = shared(ops)
     lines = [
         f"//! The operators. {HEAD}",
         "",
         "use crate::immediates::{BlockType, Ieee32, Ieee64, MemArg, Ordering, V128};",
-        "use crate::lists::{self, BrTable, ResumeTable, TryTable};",
+        "use crate::lists::{self, BrTable, ResumeTable, Source, TryTable};",
         "use crate::native::PlainOperator;",
         "use crate::types::{HeapType, RefType, ValType, heap_type, ref_type, val_type};",
         "",
@@ -40,12 +96,45 @@ def operator_source(ops):
         *[variant(op) for op in ops],
         "}",
         "",
-        "/// Converts the C struct of an operator. `bytes` starts with the operator's first byte.",
-        "#[inline]",
+        "/// The ranks of opcodes of one byte: positions among the operators of a frequent shape, or 255.",
+        "/// In eight bits, the compiler would take ranks above 127 for negative numbers, and see a gap.",
         "#[rustfmt::skip]",
-        "pub(crate) fn operator_of<'a>(op: &PlainOperator, bytes: &'a [u8], features: u32) -> Operator<'a> {",
+        "static RANKS: [u16; 256] = [",
+        *ranks(by_shape),
+        "];",
+        "",
+        "/// Converts the C struct of an operator of this source.",
+        "///",
+        "/// Operators of one shape differ by a constant. As their ranks have no gaps, the compiler loads it from a table. A jump by",
+        "/// the opcode would be mispredicted.",
+        "#[rustfmt::skip]",
+        "pub(crate) fn operator_of<'a>(op: &PlainOperator, source: &Source<'a>) -> Operator<'a> {",
+        "    if let Some(&rank) = RANKS.get(op.opcode as usize) {",
+        "        match op.shape {",
+        *[f"            {it} => if let Some(operator) = of_shape_{it}(op, rank) {{ return operator; }}," for it in by_shape],
+        "            _ => {}",
+        "        }",
+        "    }",
+        "    of_shape_of_one(op, source)",
+        "}",
+        *[line for those in by_shape.items() for line in by_rank(*those)],
+        "",
+        "/// Converts a constant, or an operator of another shape.",
+        "#[inline(never)]",
+        "#[rustfmt::skip]",
+        "fn of_shape_of_one<'a>(op: &PlainOperator, source: &Source<'a>) -> Operator<'a> {",
+        "    match op.shape {",
+        *[f"        {op.combination.number} => {made(op)}," for op in single],
+        "        _ => rare_operator_of(op, source),",
+        "    }",
+        "}",
+        "",
+        "/// Converts the C struct of any other operator.",
+        "#[inline(never)]",
+        "#[rustfmt::skip]",
+        "fn rare_operator_of<'a>(op: &PlainOperator, source: &Source<'a>) -> Operator<'a> {",
         "    match op.opcode {",
-        *[f"        {arm(op, first)} => {made(op)}," for op in ops],
+        *[f"        {arm(op, first)} => {made(op)}," for op in ops if op.name not in frequent],
         "        opcode => panic!(\"the library has an operator that this crate has not: {opcode:#x}\"),",
         "    }",
         "}",
@@ -59,15 +148,15 @@ def visit_source(ops):
         f"//! Calls of a visitor's methods. {HEAD}",
         "",
         "use crate::immediates::{Ieee32, Ieee64, V128};",
-        "use crate::lists::{self, BrTable};",
+        "use crate::lists::{self, BrTable, Source};",
         "use crate::native::PlainOperator;",
         "use crate::types::{heap_type, ref_type, val_type};",
         "use crate::visitor::{VisitOperator, VisitSimdOperator};",
         "",
-        "/// Calls the method of an operator that is not a SIMD operator. `bytes` starts with the operator's first byte.",
+        "/// Calls the method of an operator that is not a SIMD operator.",
         "#[inline]",
         "#[rustfmt::skip]",
-        "pub(crate) fn visit_not_simd<'a, V: VisitOperator<'a>>(visitor: &mut V, op: &PlainOperator, bytes: &'a [u8], features: u32) -> V::Output {",
+        "pub(crate) fn visit_not_simd<'a, V: VisitOperator<'a>>(visitor: &mut V, op: &PlainOperator, source: &Source<'a>) -> V::Output {",
         "    match op.opcode {",
         *[visit_arm(op, first) for op in ops if op.group != "Simd"],
         "        opcode => panic!(\"the library has an operator that this crate has not: {opcode:#x}\"),",

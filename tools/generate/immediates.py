@@ -274,7 +274,7 @@ WRITERS = {"indirect": ("u32", "u32"), "reference_with_null": ("HeapType",), "re
 class Combination:
     number: int  # the number of its shape (`wasm_shape` in include/wasm_operators.h)
     shape: str  # the function of wasm_view (src/shapes.rt)
-    values: tuple = ()  # the fields in the cargo crate, from the C struct `op` and the `bytes` from the operator on
+    values: tuple = ()  # the fields in the cargo crate, from the C struct `op` and its `source`
     writer: str = ""  # the function of wasm_text (src/operands.rt), if one writes all operands
     list_arm: str = ""  # if it may own a list, the name of its arms in lemmas
 
@@ -314,23 +314,23 @@ COMBINATIONS = {
         values=("op.first", "ref_type(op.kind, op.second)", "ref_type(op.other_kind, op.third)"),
     ),
     ("block_type",): Combination(number=17, shape="block", values=("op.block_type()",)),
-    ("branch_table",): Combination(number=18, shape="table", values=("BrTable::of(op, bytes, features)",)),
+    ("branch_table",): Combination(number=18, shape="table", values=("BrTable::of(op, source)",)),
     ("one_type",): Combination(
         number=19, shape="select_one", values=("val_type(op.kind, op.first)",), list_arm="select",
     ),
     ("types",): Combination(
-        number=20, shape="select_many", values=("lists::select_types(op, bytes, features)",), list_arm="select",
+        number=20, shape="select_many", values=("lists::select_types(op, source)",), list_arm="select",
     ),
     ("try_table",): Combination(
-        number=21, shape="try_table", values=("lists::try_table(op, bytes, features)",), list_arm="try_table",
+        number=21, shape="try_table", values=("lists::try_table(op, source)",), list_arm="try_table",
     ),
     ("unsigned", "resume_table"): Combination(
-        number=22, shape="resume", values=("op.first", "lists::resume_table(bytes, features, op.second)"),
+        number=22, shape="resume", values=("op.first", "lists::resume_table(op, source, op.second)"),
         writer="number_and_clauses", list_arm="resume",
     ),
     ("unsigned", "unsigned", "resume_table"): Combination(
         number=23, shape="resume_throw",
-        values=("op.first", "op.second", "lists::resume_table(bytes, features, op.third)"),
+        values=("op.first", "op.second", "lists::resume_table(op, source, op.third)"),
         writer="numbers_and_clauses", list_arm="resume_throw",
     ),
 }

@@ -1,7 +1,8 @@
 //! Readers of bytes.
 
 use crate::frames::{FrameKind, FrameStack};
-use crate::native::{self, PlainOperator, PlainReader, PlainValue, ValueKind};
+use crate::lists::Source;
+use crate::native::{self, Place, PlainOperator, PlainReader, PlainValue, ValueKind};
 use crate::operator::{Operator, operator_of};
 use crate::visit::{visit_not_simd, visit_simd};
 use crate::{BlockType, Error, FromReader, Ieee32, Ieee64, Result, VisitOperator, WasmFeatures};
@@ -123,8 +124,23 @@ impl<'a> BinaryReader<'a> {
 
     /// Returns whether the bytes that are left are one `end`.
     pub fn is_end_then_eof(&self) -> bool {
-        let read_last = || self.clone().read_in_frame(Some(FrameKind::Block));
-        self.bytes_remaining() == 1 && read_last().is_ok_and(|op| op.is_end())
+        if self.bytes_remaining() != 1 {
+            return false;
+        }
+        let mut place = Place::uninit();
+        let mut last = self.clone();
+        let op = last.read_in_frame(Some(FrameKind::Block), &mut place);
+        op.is_ok_and(|op| op.is_end())
+    }
+
+    /// Returns the source of its operators.
+    #[inline]
+    fn source(&self) -> Source<'a> {
+        Source {
+            bytes: self.buffer,
+            offset: self.original_offset,
+            features: self.features.bits(),
+        }
     }
 
     /// Returns a C struct with this many open frames.
@@ -367,9 +383,13 @@ impl<'a> BinaryReader<'a> {
     }
 
     /// Reads the operator inside this frame.
-    fn read_in_frame(&mut self, frame: Option<FrameKind>) -> Result<PlainOperator> {
+    fn read_in_frame<'o>(
+        &mut self,
+        frame: Option<FrameKind>,
+        place: &'o mut Place,
+    ) -> Result<&'o PlainOperator> {
         let (mut frames, mut reader) = self.in_frame(frame);
-        let op = native::next(self.buffer, &mut frames, &mut reader)?;
+        let op = native::next(self.buffer, &mut frames, &mut reader, place)?;
         self.position = reader.position as usize;
         Ok(op)
     }
@@ -378,7 +398,8 @@ impl<'a> BinaryReader<'a> {
     #[cold]
     fn error_without_simd(&self, frame: Option<FrameKind>) -> Error {
         let (mut frames, mut reader) = self.in_frame(frame);
-        match native::next_plain(self.buffer, &mut frames, &mut reader) {
+        let mut place = Place::uninit();
+        match native::next_plain(self.buffer, &mut frames, &mut reader, &mut place) {
             Ok(op) => panic!("the library reads {op:?} for a visitor without SIMD"),
             Err(refusal) => Error::from(refusal),
         }
@@ -391,15 +412,13 @@ impl<'a> BinaryReader<'a> {
     {
         let frame = visitor.current_frame();
         let start = self.position;
-        let op = match self.read_in_frame(frame) {
-            Ok(op) if !op.is_simd() => {
-                let bytes = &self.buffer[start..];
-                return Ok(visit_not_simd(visitor, &op, bytes, self.features.bits()));
-            }
+        let mut place = Place::uninit();
+        let op = match self.read_in_frame(frame, &mut place) {
+            Ok(op) if !op.is_simd() => return Ok(visit_not_simd(visitor, op, &self.source())),
             read => read,
         };
         if let Some(visitor) = visitor.simd_visitor() {
-            return Ok(visit_simd(visitor, &op?));
+            return Ok(visit_simd(visitor, op?));
         }
         self.position = start;
         Err(self.error_without_simd(frame))
@@ -407,8 +426,9 @@ impl<'a> BinaryReader<'a> {
 
     /// Returns the next operator in the stack's current frame, without advancing.
     pub fn peek_operator<T: FrameStack>(&self, stack: &T) -> Result<Operator<'a>> {
-        let bytes = self.remaining_buffer();
-        let op = self.clone().read_in_frame(stack.current_frame())?;
-        Ok(operator_of(&op, bytes, self.features.bits()))
+        let mut place = Place::uninit();
+        let mut next = self.clone();
+        let op = next.read_in_frame(stack.current_frame(), &mut place)?;
+        Ok(operator_of(op, &self.source()))
     }
 }

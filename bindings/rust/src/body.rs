@@ -1,5 +1,6 @@
 //! Whole bodies by one call, which wasmparser does not have.
 
+use crate::lists::Source;
 use crate::native::{self, PlainOperator};
 use crate::operator::{Operator, operator_of};
 use crate::{Error, Result, WasmFeatures};
@@ -24,9 +25,7 @@ pub fn read_plain(
 /// A function body that was read.
 #[derive(Clone, Debug)]
 pub struct Body<'a> {
-    bytes: &'a [u8],
-    offset: u64,
-    features: WasmFeatures,
+    source: Source<'a>,
     operators: Vec<PlainOperator>,
     end: Option<Error>,
 }
@@ -37,9 +36,11 @@ impl<'a> Body<'a> {
         let mut operators = Vec::new();
         let end = read_plain(bytes, offset, features, &mut operators).err();
         Body {
-            bytes,
-            offset,
-            features,
+            source: Source {
+                bytes,
+                offset,
+                features: features.bits(),
+            },
             operators,
             end,
         }
@@ -67,16 +68,21 @@ impl<'a> Body<'a> {
 
     /// Returns the operators with their offsets, and then the error, if there is one.
     pub fn iter(&self) -> impl Iterator<Item = Result<(Operator<'a>, u64)>> + '_ {
-        let found = self.operators.iter().map(|op| {
-            let at = (op.offset - self.offset) as usize;
-            let operator = operator_of(op, &self.bytes[at..], self.features.bits());
-            Ok((operator, op.offset))
-        });
+        let found = self.operators.iter().map(|op| Ok(self.converted(op)));
         found.chain(self.end.iter().cloned().map(Err))
     }
 
     /// Returns all operators with their offsets, or the error.
     pub fn read_all(&self) -> Result<Vec<(Operator<'a>, u64)>> {
-        self.iter().collect()
+        match &self.end {
+            Some(error) => Err(error.clone()),
+            None => Ok(self.operators.iter().map(|op| self.converted(op)).collect()),
+        }
+    }
+
+    /// Converts one of its operators.
+    #[inline]
+    fn converted(&self, op: &PlainOperator) -> (Operator<'a>, u64) {
+        (operator_of(op, &self.source), op.offset)
     }
 }

@@ -7,6 +7,22 @@ use std::fmt;
 use std::marker::PhantomData;
 use std::vec;
 
+/// The bytes that operators are read from.
+#[derive(Clone, Copy, Debug)]
+pub(crate) struct Source<'a> {
+    pub(crate) bytes: &'a [u8],
+    /// The offset of the first byte.
+    pub(crate) offset: u64,
+    pub(crate) features: u32,
+}
+
+impl<'a> Source<'a> {
+    /// Returns the bytes from an operator on.
+    fn from(&self, op: &PlainOperator) -> &'a [u8] {
+        &self.bytes[(op.offset - self.offset) as usize..]
+    }
+}
+
 /// The labels of a `br_table`, which stay in the bytes.
 #[derive(Clone)]
 pub struct BrTable<'a> {
@@ -18,10 +34,10 @@ pub struct BrTable<'a> {
 }
 
 impl<'a> BrTable<'a> {
-    pub(crate) fn of(op: &PlainOperator, bytes: &'a [u8], features: u32) -> BrTable<'a> {
+    pub(crate) fn of(op: &PlainOperator, source: &Source<'a>) -> BrTable<'a> {
         BrTable {
-            bytes,
-            features,
+            bytes: source.from(op),
+            features: source.features,
             count: op.first,
             default: op.second,
         }
@@ -184,15 +200,15 @@ impl Handle {
     }
 }
 
-/// Reads the types of a `select` at the start of `bytes`.
-pub(crate) fn select_types(op: &PlainOperator, bytes: &[u8], features: u32) -> Vec<ValType> {
-    let types = native::select_types(bytes, features, op.first);
+/// Reads the types of a `select`.
+pub(crate) fn select_types(op: &PlainOperator, source: &Source<'_>) -> Vec<ValType> {
+    let types = native::select_types(source.from(op), source.features, op.first);
     types.iter().map(|ty| val_type(ty.kind, ty.index)).collect()
 }
 
-/// Reads a `try_table` at the start of `bytes`.
-pub(crate) fn try_table(op: &PlainOperator, bytes: &[u8], features: u32) -> TryTable {
-    let catches = native::catches(bytes, features, op.second);
+/// Reads a `try_table`.
+pub(crate) fn try_table(op: &PlainOperator, source: &Source<'_>) -> TryTable {
+    let catches = native::catches(source.from(op), source.features, op.second);
     let catch = |&PlainHandler { kind, tag, label }: &PlainHandler| Catch::of(kind, tag, label);
     TryTable {
         ty: op.block_type(),
@@ -201,8 +217,8 @@ pub(crate) fn try_table(op: &PlainOperator, bytes: &[u8], features: u32) -> TryT
 }
 
 /// Reads the clauses of a `resume` and its like.
-pub(crate) fn resume_table(bytes: &[u8], features: u32, count: u32) -> ResumeTable {
-    let handlers = native::handlers(bytes, features, count);
+pub(crate) fn resume_table(op: &PlainOperator, source: &Source<'_>, count: u32) -> ResumeTable {
+    let handlers = native::handlers(source.from(op), source.features, count);
     let handle = |&PlainHandler { kind, tag, label }: &PlainHandler| Handle::of(kind, tag, label);
     ResumeTable {
         handlers: handlers.iter().map(handle).collect(),

@@ -6,6 +6,8 @@
 //! - Pointers come from live borrows, with their lengths, and are never null.
 //! - The structs are `repr(C)`, as in the library's version (`check_version`), and hold only integers.
 
+use std::mem::MaybeUninit;
+
 /// The version of the structs and functions.
 const VERSION: u32 = 4;
 
@@ -451,51 +453,58 @@ pub fn open_body(
     open_by(wasm_open_body, bytes, bytes.len(), offset, features, frames)
 }
 
-/// Reads the next operator by a function.
-fn next_by(
+/// Memory for an operator, into which the library writes.
+pub type Place = MaybeUninit<PlainOperator>;
+
+/// Reads the next operator by a function. The operator stays where the library writes it: a copy would wait for the
+/// library's narrower stores.
+#[inline]
+fn next_by<'o>(
     next: Next,
     bytes: &[u8],
     frames: &mut [u8],
     reader: &mut PlainReader,
-) -> Result<PlainOperator, Refusal> {
-    let mut operator = PlainOperator::default();
-    let mut refusal = Refusal::default();
-    // SAFETY: see the head.
-    let number = unsafe {
-        next(
+    place: &'o mut Place,
+) -> Result<&'o PlainOperator, Refusal> {
+    let mut refusal = MaybeUninit::<Refusal>::uninit();
+    // SAFETY: see the head. The refusal is written, and the operator if the number is 0.
+    unsafe {
+        let number = next(
             bytes.as_ptr(),
             bytes.len(),
             frames.as_mut_ptr(),
             frames.len(),
             reader,
-            &mut operator,
-            &mut refusal,
-        )
-    };
-    if number == 0 {
-        Ok(operator)
-    } else {
-        Err(refusal)
+            place.as_mut_ptr(),
+            refusal.as_mut_ptr(),
+        );
+        if number == 0 {
+            Ok(place.assume_init_ref())
+        } else {
+            Err(refusal.assume_init())
+        }
     }
 }
 
 /// Reads the next operator.
 #[inline]
-pub fn next(
+pub fn next<'o>(
     bytes: &[u8],
     frames: &mut [u8],
     reader: &mut PlainReader,
-) -> Result<PlainOperator, Refusal> {
-    next_by(wasm_next, bytes, frames, reader)
+    place: &'o mut Place,
+) -> Result<&'o PlainOperator, Refusal> {
+    next_by(wasm_next, bytes, frames, reader, place)
 }
 
 /// Reads the next operator for a visitor without SIMD.
-pub fn next_plain(
+pub fn next_plain<'o>(
     bytes: &[u8],
     frames: &mut [u8],
     reader: &mut PlainReader,
-) -> Result<PlainOperator, Refusal> {
-    next_by(wasm_next_plain, bytes, frames, reader)
+    place: &'o mut Place,
+) -> Result<&'o PlainOperator, Refusal> {
+    next_by(wasm_next_plain, bytes, frames, reader, place)
 }
 
 /// Replaces the elements of `out` by operators, up to its capacity, the end or an error, which is returned.

@@ -1,7 +1,8 @@
 //! Readers of operators, and iterators over operators.
 
 use crate::frames::{FrameKind, FrameStack, OperatorsReaderAllocations};
-use crate::native::{self, PlainOperator, PlainReader};
+use crate::lists::Source;
+use crate::native::{self, Place, PlainOperator, PlainReader};
 use crate::operator::{Operator, operator_of};
 use crate::visit::{visit_not_simd, visit_simd};
 use crate::{BinaryReader, Error, Result, VisitOperator, WasmFeatures};
@@ -9,7 +10,7 @@ use crate::{BinaryReader, Error, Result, VisitOperator, WasmFeatures};
 /// A reader of the operators of an expression. The library keeps the open frames.
 #[derive(Clone)]
 pub struct OperatorsReader<'a> {
-    bytes: &'a [u8],
+    source: Source<'a>,
     reader: PlainReader,
     frames: Vec<u8>,
 }
@@ -33,9 +34,18 @@ impl<'a> OperatorsReader<'a> {
         );
         // The features are known, the end fits in 64 bits, and a frame fits.
         let opened = opened.unwrap_or_else(|refusal| panic!("no expression opens: {refusal:?}"));
+        OperatorsReader::of(bytes, opened, frames)
+    }
+
+    /// Creates a reader of an expression that is open.
+    fn of(bytes: &'a [u8], reader: PlainReader, frames: Vec<u8>) -> Self {
         OperatorsReader {
-            bytes,
-            reader: opened,
+            source: Source {
+                bytes,
+                offset: reader.offset,
+                features: reader.features,
+            },
+            reader,
             frames,
         }
     }
@@ -48,22 +58,18 @@ impl<'a> OperatorsReader<'a> {
     ) -> Result<OperatorsReader<'a>> {
         let mut frames = Vec::new();
         let reader = native::open_body(bytes, offset, features.bits(), &mut frames)?;
-        Ok(OperatorsReader {
-            bytes,
-            reader,
-            frames,
-        })
+        Ok(OperatorsReader::of(bytes, reader, frames))
     }
 
     /// Returns a reader of the bytes at this position.
     pub fn get_binary_reader(&self) -> BinaryReader<'a> {
-        BinaryReader::at(self.bytes, &self.reader)
+        BinaryReader::at(self.source.bytes, &self.reader)
     }
 
     /// Returns whether no byte is left.
     #[inline]
     pub fn eof(&self) -> bool {
-        self.reader.position == self.bytes.len() as u64
+        self.reader.position == self.source.bytes.len() as u64
     }
 
     /// Returns the offset of the next byte.
@@ -84,17 +90,27 @@ impl<'a> OperatorsReader<'a> {
         }
     }
 
+    /// Reads the C struct of the next operator.
+    #[inline]
+    fn next_plain<'o>(&mut self, place: &'o mut Place) -> Result<&'o PlainOperator> {
+        let (frames, reader) = (&mut self.frames, &mut self.reader);
+        Ok(native::next(self.source.bytes, frames, reader, place)?)
+    }
+
     /// Reads the next operator.
+    #[inline]
     pub fn read(&mut self) -> Result<Operator<'a>> {
-        let at = self.reader.position as usize;
-        let op = native::next(self.bytes, &mut self.frames, &mut self.reader)?;
-        Ok(operator_of(&op, &self.bytes[at..], self.reader.features))
+        let mut place = Place::uninit();
+        let op = self.next_plain(&mut place)?;
+        Ok(operator_of(op, &self.source))
     }
 
     /// Reads the next operator, and returns it with its offset.
+    #[inline]
     pub fn read_with_offset(&mut self) -> Result<(Operator<'a>, u64)> {
-        let offset = self.original_position();
-        Ok((self.read()?, offset))
+        let mut place = Place::uninit();
+        let op = self.next_plain(&mut place)?;
+        Ok((operator_of(op, &self.source), op.offset))
     }
 
     /// Reads the next operator, and calls the visitor's method for it.
@@ -126,26 +142,26 @@ impl<'a> OperatorsReader<'a> {
     where
         T: VisitOperator<'a>,
     {
-        let start = self.reader;
-        let op = match native::next(self.bytes, &mut self.frames, &mut self.reader) {
-            Ok(op) if !op.is_simd() => {
-                let bytes = &self.bytes[start.position as usize..];
-                return Ok(visit_not_simd(visitor, &op, bytes, start.features));
-            }
+        let start = self.reader.position;
+        let mut place = Place::uninit();
+        let op = match self.next_plain(&mut place) {
+            Ok(op) if !op.is_simd() => return Ok(visit_not_simd(visitor, op, &self.source)),
             read => read,
         };
         if let Some(visitor) = visitor.simd_visitor() {
-            return Ok(visit_simd(visitor, &op?));
+            return Ok(visit_simd(visitor, op?));
         }
         // A SIMD operator does not change the frames.
-        self.reader = start;
+        self.reader.position = start;
         Err(self.error_without_simd())
     }
 
     /// Returns the error of a visitor without SIMD at the next operator.
     #[cold]
     fn error_without_simd(&mut self) -> Error {
-        match native::next_plain(self.bytes, &mut self.frames, &mut self.reader) {
+        let (frames, reader) = (&mut self.frames, &mut self.reader);
+        let mut place = Place::uninit();
+        match native::next_plain(self.source.bytes, frames, reader, &mut place) {
             Ok(op) => panic!("the library reads {op:?} for a visitor without SIMD"),
             Err(refusal) => Error::from(refusal),
         }
@@ -165,14 +181,20 @@ impl<'a> OperatorsReader<'a> {
     /// Reads all operators with their offsets. Fails unless the expression ends after them.
     pub fn read_all(self) -> Result<Vec<(Operator<'a>, u64)>> {
         let mut operators = self.into_iter_with_offsets();
-        let found: Vec<(Operator<'a>, u64)> = operators.by_ref().collect::<Result<_>>()?;
-        operators.reader.finish()?;
-        Ok(found)
+        let mut found = Vec::new();
+        while let Some((op, source)) = operators.advance() {
+            found.push((operator_of(op, source), op.offset));
+        }
+        match operators.error() {
+            Some(error) => Err(error),
+            None => operators.reader.finish().map(|()| found),
+        }
     }
 
     /// Checks that no frame is open and no byte is left.
     pub fn finish(&self) -> Result<()> {
-        Ok(native::finish(self.bytes, &self.frames, &self.reader)?)
+        let bytes = self.source.bytes;
+        Ok(native::finish(bytes, &self.frames, &self.reader)?)
     }
 }
 
@@ -212,8 +234,12 @@ impl OperatorsIterator<'_> {
 impl<'a> Iterator for OperatorsIterator<'a> {
     type Item = Result<Operator<'a>>;
 
+    #[inline]
     fn next(&mut self) -> Option<Self::Item> {
-        Some(self.operators.next()?.map(|(operator, _)| operator))
+        match self.operators.advance() {
+            Some((op, source)) => Some(Ok(operator_of(op, source))),
+            None => self.operators.error().map(Err),
+        }
     }
 }
 
@@ -226,29 +252,42 @@ pub struct OperatorsIteratorWithOffsets<'a> {
     is_over: bool,
 }
 
-impl OperatorsIteratorWithOffsets<'_> {
+impl<'a> OperatorsIteratorWithOffsets<'a> {
     /// Returns the memory for frames, for another reader.
     pub fn into_allocations(self) -> OperatorsReaderAllocations {
         self.reader.into_allocations()
     }
 
-    /// Reads the next batch.
+    /// Reads the next batch, after the error of the last one.
+    #[cold]
+    #[inline(never)]
     fn fill(&mut self) {
         let OperatorsReader {
-            bytes,
+            source,
             reader,
             frames,
         } = &mut self.reader;
         self.next = 0;
         self.batch.clear();
-        if self.is_over || reader.position == bytes.len() as u64 {
+        if self.is_over || self.end.is_some() || reader.position == source.bytes.len() as u64 {
             return;
         }
         self.batch.reserve(BATCH);
-        let refusal = native::read(bytes, frames, reader, &mut self.batch);
+        let refusal = native::read(source.bytes, frames, reader, &mut self.batch);
         if refusal.number != 0 {
             self.end = Some(Error::from(refusal));
         }
+    }
+
+    /// Returns the next operator that the library has read, and its source.
+    #[inline]
+    fn advance(&mut self) -> Option<(&PlainOperator, &Source<'a>)> {
+        if self.next >= self.batch.len() {
+            self.fill();
+        }
+        let op = self.batch.get(self.next)?;
+        self.next += 1;
+        Some((op, &self.reader.source))
     }
 
     /// Returns the error after the last operator, once.
@@ -263,21 +302,11 @@ impl OperatorsIteratorWithOffsets<'_> {
 impl<'a> Iterator for OperatorsIteratorWithOffsets<'a> {
     type Item = Result<(Operator<'a>, u64)>;
 
+    #[inline]
     fn next(&mut self) -> Option<Self::Item> {
-        if self.next == self.batch.len() {
-            if let Some(error) = self.error() {
-                return Some(Err(error));
-            }
-            self.fill();
-            if self.batch.is_empty() {
-                return self.error().map(Err);
-            }
+        match self.advance() {
+            Some((op, source)) => Some(Ok((operator_of(op, source), op.offset))),
+            None => self.error().map(Err),
         }
-        let op = &self.batch[self.next];
-        self.next += 1;
-        let OperatorsReader { bytes, reader, .. } = &self.reader;
-        let at = (op.offset - reader.offset) as usize;
-        let operator = operator_of(op, &bytes[at..], reader.features);
-        Some(Ok((operator, op.offset)))
     }
 }

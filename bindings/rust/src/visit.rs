@@ -1,15 +1,15 @@
 //! Calls of a visitor's methods. Written by tools/lists.py from tools/operators.tsv.
 
 use crate::immediates::{Ieee32, Ieee64, V128};
-use crate::lists::{self, BrTable};
+use crate::lists::{self, BrTable, Source};
 use crate::native::PlainOperator;
 use crate::types::{heap_type, ref_type, val_type};
 use crate::visitor::{VisitOperator, VisitSimdOperator};
 
-/// Calls the method of an operator that is not a SIMD operator. `bytes` starts with the operator's first byte.
+/// Calls the method of an operator that is not a SIMD operator.
 #[inline]
 #[rustfmt::skip]
-pub(crate) fn visit_not_simd<'a, V: VisitOperator<'a>>(visitor: &mut V, op: &PlainOperator, bytes: &'a [u8], features: u32) -> V::Output {
+pub(crate) fn visit_not_simd<'a, V: VisitOperator<'a>>(visitor: &mut V, op: &PlainOperator, source: &Source<'a>) -> V::Output {
     match op.opcode {
         0x0 => visitor.visit_unreachable(),
         0x1 => visitor.visit_nop(),
@@ -20,7 +20,7 @@ pub(crate) fn visit_not_simd<'a, V: VisitOperator<'a>>(visitor: &mut V, op: &Pla
         0xb => visitor.visit_end(),
         0xc => visitor.visit_br(op.first),
         0xd => visitor.visit_br_if(op.first),
-        0xe => visitor.visit_br_table(BrTable::of(op, bytes, features)),
+        0xe => visitor.visit_br_table(BrTable::of(op, source)),
         0xf => visitor.visit_return(),
         0x10 => visitor.visit_call(op.first),
         0x11 => visitor.visit_call_indirect(op.first, op.second),
@@ -243,7 +243,7 @@ pub(crate) fn visit_not_simd<'a, V: VisitOperator<'a>>(visitor: &mut V, op: &Pla
         0xfc000d => visitor.visit_elem_drop(op.first),
         0xfc000e => visitor.visit_table_copy(op.first, op.second),
         0x1c if op.shape == 19 => visitor.visit_typed_select(val_type(op.kind, op.first)),
-        0x1c => visitor.visit_typed_select_multi(lists::select_types(op, bytes, features)),
+        0x1c => visitor.visit_typed_select_multi(lists::select_types(op, source)),
         0xd0 => visitor.visit_ref_null(heap_type(op.kind, op.first)),
         0xd1 => visitor.visit_ref_is_null(),
         0xd2 => visitor.visit_ref_func(op.first),
@@ -322,7 +322,7 @@ pub(crate) fn visit_not_simd<'a, V: VisitOperator<'a>>(visitor: &mut V, op: &Pla
         0xfe004c => visitor.visit_i64_atomic_rmw8_cmpxchg_u(op.memory_argument()),
         0xfe004d => visitor.visit_i64_atomic_rmw16_cmpxchg_u(op.memory_argument()),
         0xfe004e => visitor.visit_i64_atomic_rmw32_cmpxchg_u(op.memory_argument()),
-        0x1f => visitor.visit_try_table(lists::try_table(op, bytes, features)),
+        0x1f => visitor.visit_try_table(lists::try_table(op, source)),
         0x8 => visitor.visit_throw(op.first),
         0xa => visitor.visit_throw_ref(),
         0x6 => visitor.visit_try(op.block_type()),
@@ -374,9 +374,9 @@ pub(crate) fn visit_not_simd<'a, V: VisitOperator<'a>>(visitor: &mut V, op: &Pla
         0xe0 => visitor.visit_cont_new(op.first),
         0xe1 => visitor.visit_cont_bind(op.first, op.second),
         0xe2 => visitor.visit_suspend(op.first),
-        0xe3 => visitor.visit_resume(op.first, lists::resume_table(bytes, features, op.second)),
-        0xe4 => visitor.visit_resume_throw(op.first, op.second, lists::resume_table(bytes, features, op.third)),
-        0xe5 => visitor.visit_resume_throw_ref(op.first, lists::resume_table(bytes, features, op.second)),
+        0xe3 => visitor.visit_resume(op.first, lists::resume_table(op, source, op.second)),
+        0xe4 => visitor.visit_resume_throw(op.first, op.second, lists::resume_table(op, source, op.third)),
+        0xe5 => visitor.visit_resume_throw_ref(op.first, lists::resume_table(op, source, op.second)),
         0xe6 => visitor.visit_switch(op.first, op.second),
         0xfc0013 => visitor.visit_i64_add128(),
         0xfc0014 => visitor.visit_i64_sub128(),
