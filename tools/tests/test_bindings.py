@@ -1,3 +1,4 @@
+import re
 import unittest
 from pathlib import Path
 
@@ -23,6 +24,11 @@ class Bindings(unittest.TestCase):
         sources = sorted((TOP / "bindings/rust/src").glob("*.rs"))
         found = [path.name for path in sources if "unsafe {" in path.read_text(encoding="utf-8")]
         self.assertEqual(found, ["native.rs"])
+
+    def test_each_operator_is_converted_once(self):
+        source = (TOP / "bindings/rust/src/operator.rs").read_text(encoding="utf-8")
+        converted = re.findall(r"=> Operator::(\w+)", source)
+        self.assertEqual(sorted(converted), sorted(op.name for op in table()))
 
     def test_examples_in_doc_comments(self):
         source = """\

@@ -68,21 +68,21 @@ impl<'a> Body<'a> {
 
     /// Returns the operators with their offsets, and then the error, if there is one.
     pub fn iter(&self) -> impl Iterator<Item = Result<(Operator<'a>, u64)>> + '_ {
-        let found = self.operators.iter().map(|op| Ok(self.converted(op)));
+        let found = self.operators.iter().map(|op| {
+            let operator = operator_of(op, &self.source);
+            Ok((operator, op.offset))
+        });
         found.chain(self.end.iter().cloned().map(Err))
     }
 
     /// Returns all operators with their offsets, or the error.
     pub fn read_all(&self) -> Result<Vec<(Operator<'a>, u64)>> {
-        match &self.end {
-            Some(error) => Err(error.clone()),
-            None => Ok(self.operators.iter().map(|op| self.converted(op)).collect()),
+        if let Some(error) = &self.end {
+            return Err(error.clone());
         }
-    }
-
-    /// Converts one of its operators.
-    #[inline]
-    fn converted(&self, op: &PlainOperator) -> (Operator<'a>, u64) {
-        (operator_of(op, &self.source), op.offset)
+        let found = self.operators.iter();
+        Ok(found
+            .map(|op| (operator_of(op, &self.source), op.offset))
+            .collect())
     }
 }

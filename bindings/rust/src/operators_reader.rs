@@ -241,6 +241,12 @@ impl<'a> Iterator for OperatorsIterator<'a> {
             None => self.operators.error().map(Err),
         }
     }
+
+    #[inline]
+    fn fold<B, F: FnMut(B, Self::Item) -> B>(self, init: B, mut f: F) -> B {
+        let mut without = |folded, item: Result<_>| f(folded, item.map(|(operator, _)| operator));
+        self.operators.fold(init, &mut without)
+    }
 }
 
 /// An iterator over operators with their offsets, which ends after an error.
@@ -307,6 +313,26 @@ impl<'a> Iterator for OperatorsIteratorWithOffsets<'a> {
         match self.advance() {
             Some((op, source)) => Some(Ok((operator_of(op, source), op.offset))),
             None => self.error().map(Err),
+        }
+    }
+
+    /// Converts each batch in one loop.
+    #[inline]
+    fn fold<B, F: FnMut(B, Self::Item) -> B>(mut self, init: B, mut f: F) -> B {
+        let mut folded = init;
+        loop {
+            for op in &self.batch[self.next..] {
+                let operator = operator_of(op, &self.reader.source);
+                folded = f(folded, Ok((operator, op.offset)));
+            }
+            self.fill();
+            if self.batch.is_empty() {
+                break;
+            }
+        }
+        match self.error() {
+            Some(error) => f(folded, Err(error)),
+            None => folded,
         }
     }
 }

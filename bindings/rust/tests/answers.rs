@@ -233,6 +233,33 @@ fn iterators() {
     }
 }
 
+/// Returns the items of this many calls, and then those that are folded.
+fn items_of<I: Iterator>(mut items: I, calls: usize) -> Vec<I::Item> {
+    let mut found: Vec<_> = items.by_ref().take(calls).collect();
+    items.for_each(|item| found.push(item));
+    found
+}
+
+#[test]
+fn iterators_fold_what_they_return() {
+    for cells in rows() {
+        let bytes = bytes_of(cells[2]);
+        let Ok(reader) = operators_of(&bytes, features_of(&cells)) else {
+            continue;
+        };
+        // An item has a byte, or is the error.
+        let all = bytes.len() + 1;
+        let returned = items_of(reader.clone().into_iter(), all);
+        let with_offsets = items_of(reader.clone().into_iter_with_offsets(), all);
+        for calls in [0, 1, 65] {
+            let folded = items_of(reader.clone().into_iter(), calls);
+            assert_eq!(folded, returned, "{cells:?}");
+            let folded = items_of(reader.clone().into_iter_with_offsets(), calls);
+            assert_eq!(folded, with_offsets, "{cells:?}");
+        }
+    }
+}
+
 /// Returns the members of an operator's list as in the samples.
 fn list_of(operator: &Operator<'_>) -> Option<String> {
     let type_of = |ty: &ValType| match ty {
