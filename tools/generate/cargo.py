@@ -24,15 +24,21 @@ def made(op):
 # The shapes that most operators of a program have, which are converted by comparisons of few shapes: with more in one
 # `match`, the compiler jumps through a table, which is mispredicted more often.
 IN_TABLES = (0, 1, 3)
-# The shapes after them. Each has one operator.
+# The next shapes. Each has one operator.
 OF_ONE = (6, 7)
+# The shape of blocks, after them.
+BLOCKS = 17
 # The rank of an opcode that is in no table.
 NO_RANK = 255
 
 
 def in_tables(ops):
     """Returns the operators in tables by shape."""
-    return {shape: [op for op in ops if not op.prefix and op.combination.number == shape] for shape in IN_TABLES}
+    found = {shape: [] for shape in (*IN_TABLES, BLOCKS)}
+    for op in ops:
+        if not op.prefix and op.combination.number in found:
+            found[op.combination.number].append(op)
+    return found
 
 
 def of_one(shape, ops):
@@ -111,21 +117,34 @@ def operator_source(ops):
         "pub(crate) fn operator_of<'a>(op: &PlainOperator, source: &Source<'a>) -> Operator<'a> {",
         "    if let Some(&rank) = RANKS.get(op.opcode as usize) {",
         "        match op.shape {",
-        *[f"            {it} => if let Some(operator) = of_shape_{it}(op, rank) {{ return operator; }}," for it in by_shape],
+        *[f"            {it} => if let Some(operator) = of_shape_{it}(op, rank) {{ return operator; }}," for it in IN_TABLES],
         "            _ => {}",
         "        }",
         "    }",
-        "    of_shape_of_one(op, source)",
+        "    of_next_shape(op, source)",
         "}",
         *[line for those in by_shape.items() for line in by_rank(*those)],
         "",
-        "/// Converts a constant, or an operator of another shape.",
+        "/// Converts a constant, a block or an operator of another shape.",
         "#[inline(never)]",
         "#[rustfmt::skip]",
-        "fn of_shape_of_one<'a>(op: &PlainOperator, source: &Source<'a>) -> Operator<'a> {",
+        "fn of_next_shape<'a>(op: &PlainOperator, source: &Source<'a>) -> Operator<'a> {",
         "    match op.shape {",
         *[f"        {op.combination.number} => {made(op)}," for op in single],
+        f"        {BLOCKS} => block_of(op, source),",
         "        _ => rare_operator_of(op, source),",
+        "    }",
+        "}",
+        "",
+        "/// Converts a block.",
+        "#[inline(never)]",
+        "#[rustfmt::skip]",
+        "fn block_of<'a>(op: &PlainOperator, source: &Source<'a>) -> Operator<'a> {",
+        "    let rank = RANKS.get(op.opcode as usize);",
+        f"    let found = rank.and_then(|&rank| of_shape_{BLOCKS}(op, rank));",
+        "    match found {",
+        "        Some(operator) => operator,",
+        "        None => rare_operator_of(op, source),",
         "    }",
         "}",
         "",

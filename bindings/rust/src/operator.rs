@@ -645,7 +645,7 @@ pub enum Operator<'a> {
 /// In eight bits, the compiler would take ranks above 127 for negative numbers, and see a gap.
 #[rustfmt::skip]
 static RANKS: [u16; 256] = [
-    0, 1, 255, 255, 255, 2, 255, 15, 14, 16, 137, 3, 0, 1, 255, 4,
+    0, 1, 0, 1, 2, 2, 3, 15, 14, 16, 137, 3, 0, 1, 255, 4,
     2, 255, 13, 255, 18, 19, 255, 255, 17, 138, 5, 6, 255, 255, 255, 255,
     3, 4, 5, 6, 7, 11, 12, 255, 0, 1, 2, 3, 4, 5, 6, 7,
     8, 9, 10, 11, 12, 13, 14, 15, 16, 17, 18, 19, 20, 21, 22, 8,
@@ -677,7 +677,7 @@ pub(crate) fn operator_of<'a>(op: &PlainOperator, source: &Source<'a>) -> Operat
             _ => {}
         }
     }
-    of_shape_of_one(op, source)
+    of_next_shape(op, source)
 }
 
 /// Converts an operator of the shape 0 by its rank.
@@ -896,14 +896,41 @@ fn of_shape_3<'a>(op: &PlainOperator, rank: u16) -> Option<Operator<'a>> {
     })
 }
 
-/// Converts a constant, or an operator of another shape.
+/// Converts an operator of the shape 17 by its rank.
+#[inline(always)]
+#[rustfmt::skip]
+fn of_shape_17<'a>(op: &PlainOperator, rank: u16) -> Option<Operator<'a>> {
+    let value = op.block_type();
+    Some(match rank {
+        0 => Operator::Block { blockty: value },
+        1 => Operator::Loop { blockty: value },
+        2 => Operator::If { blockty: value },
+        3 => Operator::Try { blockty: value },
+        _ => return None,
+    })
+}
+
+/// Converts a constant, a block or an operator of another shape.
 #[inline(never)]
 #[rustfmt::skip]
-fn of_shape_of_one<'a>(op: &PlainOperator, source: &Source<'a>) -> Operator<'a> {
+fn of_next_shape<'a>(op: &PlainOperator, source: &Source<'a>) -> Operator<'a> {
     match op.shape {
         6 => Operator::I32Const { value: op.wide as i32 },
         7 => Operator::I64Const { value: op.wide as i64 },
+        17 => block_of(op, source),
         _ => rare_operator_of(op, source),
+    }
+}
+
+/// Converts a block.
+#[inline(never)]
+#[rustfmt::skip]
+fn block_of<'a>(op: &PlainOperator, source: &Source<'a>) -> Operator<'a> {
+    let rank = RANKS.get(op.opcode as usize);
+    let found = rank.and_then(|&rank| of_shape_17(op, rank));
+    match found {
+        Some(operator) => operator,
+        None => rare_operator_of(op, source),
     }
 }
 
@@ -912,9 +939,6 @@ fn of_shape_of_one<'a>(op: &PlainOperator, source: &Source<'a>) -> Operator<'a> 
 #[rustfmt::skip]
 fn rare_operator_of<'a>(op: &PlainOperator, source: &Source<'a>) -> Operator<'a> {
     match op.opcode {
-        0x2 => Operator::Block { blockty: op.block_type() },
-        0x3 => Operator::Loop { blockty: op.block_type() },
-        0x4 => Operator::If { blockty: op.block_type() },
         0xe => Operator::BrTable { targets: BrTable::of(op, source) },
         0x11 => Operator::CallIndirect { type_index: op.first, table_index: op.second },
         0x43 => Operator::F32Const { value: Ieee32(op.wide as u32) },
@@ -1304,7 +1328,6 @@ fn rare_operator_of<'a>(op: &PlainOperator, source: &Source<'a>) -> Operator<'a>
         0xfd0112 => Operator::I16x8RelaxedDotI8x16I7x16S,
         0xfd0113 => Operator::I32x4RelaxedDotI8x16I7x16AddS,
         0x1f => Operator::TryTable { try_table: lists::try_table(op, source) },
-        0x6 => Operator::Try { blockty: op.block_type() },
         0xfe004f => Operator::GlobalAtomicGet { ordering: op.order(), global_index: op.first },
         0xfe0050 => Operator::GlobalAtomicSet { ordering: op.order(), global_index: op.first },
         0xfe0051 => Operator::GlobalAtomicRmwAdd { ordering: op.order(), global_index: op.first },
