@@ -24,7 +24,7 @@ def made(op):
 # The shapes that most operators of a program have, which are converted by comparisons of few shapes: with more in one
 # `match`, the compiler jumps through a table, which is mispredicted more often.
 IN_TABLES = (0, 1, 3)
-# The next shapes. Each has one operator.
+# The next shapes, if each has one operator.
 OF_ONE = (6, 7)
 # The shape of blocks, after them.
 BLOCKS = 17
@@ -41,10 +41,10 @@ def in_tables(ops):
     return found
 
 
-def of_one(shape, ops):
-    """Returns the only operator of a shape."""
-    (op,) = [op for op in ops if op.combination.number == shape]
-    return op
+def of_one(ops):
+    """Returns the operators of these shapes that are the only ones of their shape."""
+    found = [[op for op in ops if op.combination.number == shape] for shape in OF_ONE]
+    return [those[0] for those in found if len(those) == 1]
 
 
 def ranks(by_shape):
@@ -82,7 +82,7 @@ def by_rank(shape, ops):
 
 def operator_source(ops):
     by_shape = in_tables(ops)
-    single = [of_one(shape, ops) for shape in OF_ONE]
+    single = of_one(ops)
     frequent = {op.name for those in [*by_shape.values(), single] for op in those}
     first, _ = shared(ops)
     lines = [
