@@ -209,7 +209,12 @@ impl ControlStack {
     {
         match change {
             FrameChange::Stays => {}
+            // a frequent kind is a constant here: in a register it costs a jump
+            FrameChange::Opens(FrameKind::Block) => self.open(FrameKind::Block),
+            FrameChange::Opens(FrameKind::Loop) => self.open(FrameKind::Loop),
+            FrameChange::Opens(FrameKind::If) => self.open(FrameKind::If),
             FrameChange::Opens(frame) => self.open(frame),
+            FrameChange::Turns(FrameKind::Else) => self.turn(FrameKind::Else),
             FrameChange::Turns(frame) => self.turn(frame),
             FrameChange::Closes => {
                 let _ = self.pop();
