@@ -3,7 +3,8 @@
 from arities import REACHING
 from immediates import TYPES
 from plain import number
-from table import HEAD, shared
+from table import shared
+from templates import filled
 
 
 def variant(op):
@@ -65,19 +66,13 @@ def by_rank(shape, ops):
     def converted(op):
         return f"Operator::{op.name}" + "".join(f" {{ {field}: value }}" for field, _ in op.fields)
 
-    return [
-        "",
-        f"/// Converts an operator of the shape {shape} by its rank.",
-        "#[inline(always)]",
-        "#[rustfmt::skip]",
-        f"fn of_shape_{shape}<'a>({parameter}, rank: u16) -> Option<Operator<'a>> {{",
-        *[f"    let value = {value};" for value in values],
-        "    Some(match rank {",
-        *[f"        {at} => {converted(op)}," for at, op in enumerate(ops)],
-        "        _ => return None,",
-        "    })",
-        "}",
-    ]
+    return filled(
+        "cargo/by_rank.rs",
+        shape=shape,
+        parameter=parameter,
+        value=[f"    let value = {value};" for value in values],
+        arms=[f"        {at} => {converted(op)}," for at, op in enumerate(ops)],
+    )
 
 
 def operator_source(ops):
@@ -85,113 +80,26 @@ def operator_source(ops):
     single = of_one(ops)
     frequent = {op.name for those in [*by_shape.values(), single] for op in those}
     first, _ = shared(ops)
-    lines = [
-        f"//! The operators. {HEAD}",
-        "",
-        "use crate::immediates::{BlockType, Ieee32, Ieee64, MemArg, Ordering, V128};",
-        "use crate::lists::{self, BrTable, ResumeTable, Source, TryTable};",
-        "use crate::native::PlainOperator;",
-        "use crate::types::{HeapType, RefType, ValType, heap_type, ref_type, val_type};",
-        "",
-        "/// An operator with its immediates.",
-        "#[derive(Clone, Debug, PartialEq, Eq)]",
-        "#[allow(missing_docs)]",
-        "#[non_exhaustive]",
-        "#[rustfmt::skip]",
-        "pub enum Operator<'a> {",
-        *[variant(op) for op in ops],
-        "}",
-        "",
-        "/// The ranks of opcodes of one byte: positions among the operators of a frequent shape, or 255.",
-        "/// In eight bits, the compiler would take ranks above 127 for negative numbers, and see a gap.",
-        "#[rustfmt::skip]",
-        "static RANKS: [u16; 256] = [",
-        *ranks(by_shape),
-        "];",
-        "",
-        "/// Converts the C struct of an operator of this source.",
-        "///",
-        "/// Operators of one shape differ by a constant. As their ranks have no gaps, the compiler loads it from a table. A jump by",
-        "/// the opcode would be mispredicted.",
-        "#[rustfmt::skip]",
-        "pub(crate) fn operator_of<'a>(op: &PlainOperator, source: &Source<'a>) -> Operator<'a> {",
-        "    if let Some(&rank) = RANKS.get(op.opcode as usize) {",
-        "        match op.shape {",
-        *[f"            {it} => if let Some(operator) = of_shape_{it}(op, rank) {{ return operator; }}," for it in IN_TABLES],
-        "            _ => {}",
-        "        }",
-        "    }",
-        "    of_next_shape(op, source)",
-        "}",
-        *[line for those in by_shape.items() for line in by_rank(*those)],
-        "",
-        "/// Converts a constant, a block or an operator of another shape.",
-        "#[inline(never)]",
-        "#[rustfmt::skip]",
-        "fn of_next_shape<'a>(op: &PlainOperator, source: &Source<'a>) -> Operator<'a> {",
-        "    match op.shape {",
-        *[f"        {op.combination.number} => {made(op)}," for op in single],
-        f"        {BLOCKS} => block_of(op, source),",
-        "        _ => rare_operator_of(op, source),",
-        "    }",
-        "}",
-        "",
-        "/// Converts a block.",
-        "#[inline(never)]",
-        "#[rustfmt::skip]",
-        "fn block_of<'a>(op: &PlainOperator, source: &Source<'a>) -> Operator<'a> {",
-        "    let rank = RANKS.get(op.opcode as usize);",
-        f"    let found = rank.and_then(|&rank| of_shape_{BLOCKS}(op, rank));",
-        "    match found {",
-        "        Some(operator) => operator,",
-        "        None => rare_operator_of(op, source),",
-        "    }",
-        "}",
-        "",
-        "/// Converts the C struct of any other operator.",
-        "#[inline(never)]",
-        "#[rustfmt::skip]",
-        "fn rare_operator_of<'a>(op: &PlainOperator, source: &Source<'a>) -> Operator<'a> {",
-        "    match op.opcode {",
-        *[f"        {arm(op, first)} => {made(op)}," for op in ops if op.name not in frequent],
-        "        opcode => panic!(\"the library has an operator that this crate has not: {opcode:#x}\"),",
-        "    }",
-        "}",
-    ]
+    lines = filled(
+        "cargo/operator.rs",
+        BLOCKS=BLOCKS,
+        variants=[variant(op) for op in ops],
+        ranks=ranks(by_shape),
+        frequent_shapes=[f"            {it} => if let Some(operator) = of_shape_{it}(op, rank) {{ return operator; }}," for it in IN_TABLES],
+        by_rank=[line for those in by_shape.items() for line in ["", *by_rank(*those)]],
+        next_shapes=[f"        {op.combination.number} => {made(op)}," for op in single],
+        rare=[f"        {arm(op, first)} => {made(op)}," for op in ops if op.name not in frequent],
+    )
     return "\n".join(lines) + "\n"
 
 
 def visit_source(ops):
     first, _ = shared(ops)
-    lines = [
-        f"//! Calls of a visitor's methods. {HEAD}",
-        "",
-        "use crate::immediates::{Ieee32, Ieee64, V128};",
-        "use crate::lists::{self, BrTable, Source};",
-        "use crate::native::PlainOperator;",
-        "use crate::types::{heap_type, ref_type, val_type};",
-        "use crate::visitor::{VisitOperator, VisitSimdOperator};",
-        "",
-        "/// Calls the method of an operator that is not a SIMD operator.",
-        "#[inline]",
-        "#[rustfmt::skip]",
-        "pub(crate) fn visit_not_simd<'a, V: VisitOperator<'a>>(visitor: &mut V, op: &PlainOperator, source: &Source<'a>) -> V::Output {",
-        "    match op.opcode {",
-        *[visit_arm(op, first) for op in ops if op.group != "Simd"],
-        "        opcode => panic!(\"the library has an operator that this crate has not: {opcode:#x}\"),",
-        "    }",
-        "}",
-        "",
-        "/// Calls the method of a SIMD operator.",
-        "#[inline]",
-        "#[rustfmt::skip]",
-        "pub(crate) fn visit_simd<'a, V: VisitSimdOperator<'a> + ?Sized>(visitor: &mut V, op: &PlainOperator) -> V::Output {",
-        "    match op.opcode {",
-        *[visit_arm(op, first) for op in ops if op.group == "Simd"],
-        "        opcode => panic!(\"the library has an operator that this crate has not: {opcode:#x}\"),",
-        "    }",
-        "}",
-    ]
+    lines = filled(
+        "cargo/visit.rs",
+        not_simd=[visit_arm(op, first) for op in ops if op.group != "Simd"],
+        simd=[visit_arm(op, first) for op in ops if op.group == "Simd"],
+    )
     return "\n".join(lines) + "\n"
 
 
@@ -211,57 +119,13 @@ def entry(op):
     return f"            @{op.proposal} {op.name}{f' {{ {fields} }}' if fields else ''} => {op.visit} {arity(op)}"
 
 
-def macro(name, doc, ops):
-    return [
-        "",
-        *doc,
-        "#[macro_export]",
-        "#[doc(hidden)]",
-        f"macro_rules! _{name}_impl {{",
-        "    ($mac:ident) => {",
-        "        $mac! {",
-        *[entry(op) for op in ops],
-        "        }",
-        "    };",
-        "}",
-    ]
-
-
-FORM = [
-    "/// Each entry has the form `@proposal Operator { field: type, .. } => visit_method (arity takes -> leaves)`. The fields",
-    "/// are left out if there are none. The arity is `(arity memarg takes -> leaves)` if an access to an array takes one more",
-    "/// operand, and `(arity custom)` if it depends on the module or on the open frames.",
-]
-NAMES = """\
-/// ```
-/// fn proposal(op: &wasm_operators::Operator) -> &'static str {
-///     macro_rules! proposals {
-///         ($(@$proposal:ident $op:ident $({ $($field:ident: $ty:ty),* })? => $visit:ident ($($ann:tt)*))*) => {
-///             match op {
-///                 $(wasm_operators::Operator::$op $({ $($field: _),* })? => stringify!($proposal),)*
-///                 _ => "unknown",
-///             }
-///         };
-///     }
-///     wasm_operators::for_each_operator!(proposals)
-/// }
-///
-/// assert_eq!(proposal(&wasm_operators::Operator::RefI31), "gc");
-/// ```""".split("\n")
-
-
 def macros_source(ops):
-    simd = [op for op in ops if op.group == "Simd"]
-    others = [op for op in ops if op.group != "Simd"]
-    every = ["/// Calls a macro with the list of all operators.", "///", *FORM, "///", *NAMES]
-    plain = ["/// Calls a macro with the list of the operators that are not SIMD operators, as `for_each_operator!` does."]
-    vector = ["/// Calls a macro with the list of the SIMD operators, as `for_each_operator!` does."]
-    lines = [
-        f"//! Macros that call another macro with a list of operators. {HEAD}",
-        *macro("for_each_operator", every, ops),
-        *macro("for_each_visit_operator", plain, others),
-        *macro("for_each_visit_simd_operator", vector, simd),
-    ]
+    lines = filled(
+        "cargo/macros.rs",
+        all=[entry(op) for op in ops],
+        not_simd=[entry(op) for op in ops if op.group != "Simd"],
+        simd=[entry(op) for op in ops if op.group == "Simd"],
+    )
     return "\n".join(lines) + "\n"
 
 

@@ -1,7 +1,8 @@
 """Writes the conversion of operators to a C struct (crates/wasm_view)."""
 
 from immediates import COMBINATIONS, TYPES
-from table import ENUMS, HEAD, held, shared
+from table import ENUMS, held, shared
+from templates import filled
 
 # The names of a shape's fields in patterns.
 BOUND = ["a", "b", "c"]
@@ -22,41 +23,16 @@ def opcode_arms(ops, ty):
 
 def opcodes_source(ops):
     own = [op for op in ops if op.group == "Own"]
-    names = ", ".join(enum.type for enum in sorted(ENUMS, key=lambda it: it.type))
-    words = ", ".join(enum.opcode for enum in ENUMS)
-    lines = [
-        f"//! {HEAD}",
-        "ghost use Rattle.std.specs.Prelude.{◌≡◌, Some};",
-        *[f"ghost use Rattle.wasm_instr.specs.{enum.group}.{{{enum.opcode}}};" for enum in ENUMS],
-        "ghost use Rattle.wasm_instr.specs.Row.{prefix_of, opcode_of};",
-        "ghost use Rattle.wasm_view.specs.View.{opcode_number};",
-        "",
-        f"use wasm_instr::{{{names}, Operator}};",
-        "",
-        "/// Returns an operator's number, the `opcode` of its C struct.",
-        "#[inline(always)]",
-        "pub fn opcode_of(op: &Operator<'_>) -> u32",
-        "    ensures { result ≡ opcode_number (prefix_of op.now) (opcode_of op.now) }",
-        "{",
-        "match op {",
-        *opcode_arms(own, "Operator"),
-        *[f"Operator::{enum.group}(op) => {enum.opcode}(*op)," for enum in held()],
-        "}",
-        "}",
-    ]
+    lines = filled(
+        "plain/opcodes.rt",
+        enum_uses=[f"ghost use Rattle.wasm_instr.specs.{enum.group}.{{{enum.opcode}}};" for enum in ENUMS],
+        types=", ".join(sorted(enum.type for enum in ENUMS)),
+        arms=opcode_arms(own, "Operator") + [f"Operator::{enum.group}(op) => {enum.opcode}(*op)," for enum in held()],
+    )
     for enum in held():
-        those = [op for op in ops if op.group == enum.group]
-        wanted = f"opcode_number (Some 0x{enum.prefix}) ({enum.opcode} op)" if enum.prefix else f"{enum.opcode} op"
-        lines += [
-            "",
-            f"fn {enum.opcode}(op: {enum.type}) -> u32",
-            f"    ensures {{ result ≡ {wanted} }}",
-            "{",
-            "match op {",
-            *opcode_arms(those, enum.type),
-            "}",
-            "}",
-        ]
+        number = f"opcode_number (Some 0x{enum.prefix}) ({enum.opcode} op)" if enum.prefix else f"{enum.opcode} op"
+        arms = opcode_arms([op for op in ops if op.group == enum.group], enum.type)
+        lines += ["", *filled("plain/enum_opcode.rt", opcode=enum.opcode, type=enum.type, number=number, arms=arms)]
     return "\n".join(lines) + "\n"
 
 
@@ -84,78 +60,22 @@ def shape_arms(ops, ty, by_reference):
 
 def common_source(ops):
     common = [op for op in ops if "view" in op.inline]
-    lines = [
-        f"//! {HEAD}",
-        "ghost use Rattle.std.specs.Prelude.{◌≡◌};",
-        "ghost use Rattle.wasm_instr.specs.Row.{immediates_of};",
-        "ghost use Rattle.wasm_view.specs.View.{view, view_of};",
-        "",
-        "use crate::opcodes::opcode_of;",
-        "use crate::shapes;",
-        "use crate::view::WasmOperator;",
-        "use crate::views::own;",
-        "use wasm_instr::Operator;",
-        "",
-        "/// Converts an operator to a C struct. `offset` is the offset of its first byte.",
-        "#[inline(always)]",
-        "pub fn view_of(op: &Operator<'_>, offset: u64) -> WasmOperator",
-        "    ensures { result ≡ view_of (op.now, offset) }",
-        "{",
-        "common(offset, opcode_of(op), op)",
-        "}",
-        "",
-        "/// Converts frequent operators inline.",
-        "#[inline(always)]",
-        "fn common(offset: u64, opcode: u32, op: &Operator<'_>) -> WasmOperator",
-        "    ensures { result ≡ view offset opcode (immediates_of op.now) }",
-        "{",
-        "match op {",
-        *shape_arms(common, "Operator", True),
-        "Operator::Numeric(_) => shapes::nothing(offset, opcode),",
-        "_ => own(offset, opcode, op),",
-        "}",
-        "}",
-    ]
-    return "\n".join(lines) + "\n"
+    return "\n".join(filled("plain/common.rt", arms=shape_arms(common, "Operator", True))) + "\n"
 
 
 def views_source(ops):
     own = [op for op in ops if op.group == "Own"]
     enums = [enum for enum in held() if enum.group != "Numeric"]
-    names = ", ".join(sorted(enum.type for enum in enums))
-    lines = [
-        f"//! {HEAD}",
-        "ghost use Rattle.std.specs.Prelude.{◌≡◌};",
-        *[f"ghost use Rattle.wasm_instr.specs.{enum.group}.{{{enum.module}_immediates}};" for enum in enums],
-        "ghost use Rattle.wasm_instr.specs.Row.{immediates_of};",
-        "ghost use Rattle.wasm_view.specs.View.{view};",
-        "",
-        "use crate::shapes;",
-        "use crate::view::WasmOperator;",
-        f"use wasm_instr::{{{names}, Operator}};",
-        "",
-        "pub fn own(offset: u64, opcode: u32, op: &Operator<'_>) -> WasmOperator",
-        "    ensures { result ≡ view offset opcode (immediates_of op.now) }",
-        "{",
-        "match op {",
-        *shape_arms(own, "Operator", True),
-        "Operator::Numeric(_) => shapes::nothing(offset, opcode),",
-        *[f"Operator::{enum.group}(op) => {enum.module}(offset, opcode, *op)," for enum in enums],
-        "}",
-        "}",
-    ]
+    lines = filled(
+        "plain/views.rt",
+        enum_uses=[f"ghost use Rattle.wasm_instr.specs.{enum.group}.{{{enum.module}_immediates}};" for enum in enums],
+        types=", ".join(sorted(enum.type for enum in enums)),
+        arms=shape_arms(own, "Operator", True),
+        enum_arms=[f"Operator::{enum.group}(op) => {enum.module}(offset, opcode, *op)," for enum in enums],
+    )
     for enum in enums:
-        those = [op for op in ops if op.group == enum.group]
-        lines += [
-            "",
-            f"fn {enum.module}(offset: u64, opcode: u32, op: {enum.type}) -> WasmOperator",
-            f"    ensures {{ result ≡ view offset opcode ({enum.module}_immediates op) }}",
-            "{",
-            "match op {",
-            *shape_arms(those, enum.type, False),
-            "}",
-            "}",
-        ]
+        arms = shape_arms([op for op in ops if op.group == enum.group], enum.type, False)
+        lines += ["", *filled("plain/enum_view.rt", module=enum.module, type=enum.type, arms=arms)]
     return "\n".join(lines) + "\n"
 
 
@@ -174,64 +94,33 @@ def names_in_parts(ops):
     return parts
 
 
+def two_names(ops):
+    """Returns the values of the templates for the two operators that share a number."""
+    first, second = shared(ops)
+    return {"number": f"0x{number(first):x}", "shape": first.combination.number, "first": first.name, "second": second.name}
+
+
 def names_spec(ops):
     parts = names_in_parts(ops)
-    lines = [
-        f"-- {HEAD}",
-        "-- Specification: Appendix, Index of Instructions.",
-        "use Rattle.std.specs.Prelude.{◌==◌, ℕ, List, [], codes, if◌then◌else◌}",
-        "",
-        "-- The variant's name by the operator's number: opcode, or prefix byte * 0x10000 + subopcode. Empty if this function lacks it.",
-    ]
+    lines = []
     for at in range(len(parts) - 1, -1, -1):
         name, those = parts[at]
         lines += [f"abbrev pub {name} : ℕ → List ℕ", f"{name} number ="]
         lines += [f'    if number == 0x{number(op):x} then codes "{op.name}" else (' for op in those]
-        behind = f"{parts[at + 1][0]} number" if at + 1 < len(parts) else "[]"
-        lines[-1] = lines[-1][: -len("(")] + "(" + behind + ")" * len(those)
+        others = f"{parts[at + 1][0]} number" if at + 1 < len(parts) else "[]"
+        lines[-1] += others + ")" * len(those)
         lines.append("")
-    first, second = shared(ops)
-    lines += [
-        f"-- The name by number and shape: two operators share 0x{number(first):x}, and shape {first.combination.number} selects `{first.name}`.",
-        "abbrev pub name_at : ℕ → ℕ → List ℕ",
-        "name_at number shape =",
-        f'    if number == 0x{number(first):x} then (if shape == {first.combination.number} then codes "{first.name}" else codes "{second.name}") else {parts[0][0]} number',
-    ]
-    return "\n".join(lines) + "\n"
+    return "\n".join(filled("plain/names.antt", parts=lines, first_part=parts[0][0], **two_names(ops))) + "\n"
 
 
 def names_source(ops):
     parts = names_in_parts(ops)
-    first, second = shared(ops)
     words = ", ".join(sorted(name for name, _ in parts))
-    lines = [
-        f"//! {HEAD}",
-        "ghost use Rattle.std.specs.Prelude.{◌≡◌};",
-        f"ghost use Rattle.wasm_view.specs.Names.{{{words}, name_at}};",
-        "",
-        "/// Returns the name of the operator with this number (`opcode_of`) and shape, or an empty name.",
-        "pub fn name_at(number: u32, shape: u8) -> &'static str",
-        "    ensures { result.now ≡ name_at number shape }",
-        "{",
-        f"if number == 0x{number(first):x} {{",
-        f'return if shape == {first.combination.number} {{ "{first.name}" }} else {{ "{second.name}" }};',
-        "}",
-        f"{parts[0][0]}(number)",
-        "}",
-    ]
+    lines = filled("plain/names.rt", parts=words, first_part=parts[0][0], **two_names(ops))
     for at, (name, those) in enumerate(parts):
-        behind = f"{parts[at + 1][0]}(number)" if at + 1 < len(parts) else '""'
-        lines += [
-            "",
-            f"fn {name}(number: u32) -> &'static str",
-            f"    ensures {{ result.now ≡ {name} number }}",
-            "{",
-            "match number {",
-            *[f'0x{number(op):x} => "{op.name}",' for op in those],
-            f"_ => {behind},",
-            "}",
-            "}",
-        ]
+        others = f"{parts[at + 1][0]}(number)" if at + 1 < len(parts) else '""'
+        arms = [f'0x{number(op):x} => "{op.name}",' for op in those]
+        lines += ["", *filled("plain/name_part.rt", part=name, others=others, arms=arms)]
     return "\n".join(lines) + "\n"
 
 
