@@ -4,7 +4,7 @@ from arities import REACHING
 from immediates import TYPES
 from plain import number
 from table import shared
-from templates import filled
+from templates import filled, filled_file
 
 
 def variant(op):
@@ -80,7 +80,7 @@ def operator_source(ops):
     single = of_one(ops)
     frequent = {op.name for those in [*by_shape.values(), single] for op in those}
     first, _ = shared(ops)
-    lines = filled(
+    return filled_file(
         "cargo/operator.rs",
         BLOCKS=BLOCKS,
         variants=[variant(op) for op in ops],
@@ -90,17 +90,15 @@ def operator_source(ops):
         next_shapes=[f"        {op.combination.number} => {made(op)}," for op in single],
         rare=[f"        {arm(op, first)} => {made(op)}," for op in ops if op.name not in frequent],
     )
-    return "\n".join(lines) + "\n"
 
 
 def visit_source(ops):
     first, _ = shared(ops)
-    lines = filled(
+    return filled_file(
         "cargo/visit.rs",
         not_simd=[visit_arm(op, first) for op in ops if op.group != "Simd"],
         simd=[visit_arm(op, first) for op in ops if op.group == "Simd"],
     )
-    return "\n".join(lines) + "\n"
 
 
 def visit_arm(op, first):
@@ -120,13 +118,12 @@ def entry(op):
 
 
 def macros_source(ops):
-    lines = filled(
+    return filled_file(
         "cargo/macros.rs",
         all=[entry(op) for op in ops],
         not_simd=[entry(op) for op in ops if op.group != "Simd"],
         simd=[entry(op) for op in ops if op.group == "Simd"],
     )
-    return "\n".join(lines) + "\n"
 
 
 def cargo_files(ops):

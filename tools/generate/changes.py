@@ -1,11 +1,9 @@
 """Writes what operators and opcodes do to the frames, from the column `role`."""
 
-from source import joined_arm
-from table import HEAD, ROLES
+from source import joined_arm, rust_pattern
+from table import ROLES
+from templates import filled_file
 
-OPERATOR = "Rattle.wasm_instr.specs.declared.operator.Operator"
-KIND = "Rattle.wasm_grammar.specs.declared.frame_kind.FrameKind"
-CHANGE = "Rattle.wasm_grammar.specs.declared.frame_change.FrameChange"
 # By role, what `change_of` of wasm_grammar (specs/Frames.antt) defines.
 CHANGES = {
     "opens block": ("Opens", "Block"),
@@ -58,33 +56,13 @@ def imported_roles():
 def role_specs(ops):
     those = with_role(ops)
     by_code = sorted(those, key=lambda op: op.code)
-    return "\n".join([
-        f"-- {HEAD}",
-        "-- Specification: Structure, Control Instructions; Binary Format, Control Instructions and Expressions. Proposal legacy exception handling.",
-        "use Rattle.std.specs.Prelude.{ℕ, ◌==◌, if◌then◌else◌, List, [], ◌∷◌}",
-        f"use {KIND}.TheVariants as frame",
-        f"use {CHANGE}.{{FrameChange}}",
-        f"use {CHANGE}.TheVariants as change",
-        f"use Rattle.wasm_grammar.specs.Role.{{{', '.join(imported_roles())}}}",
-        f"use {OPERATOR}.{{Operator}}",
-        f"use {OPERATOR}.TheVariants as operator",
-        "",
-        "-- The role of an operator.",
-        "abbrev pub role_of : Operator → Role Operator",
-        *[f"role_of {bound(op)} = {role(op)}" for op in those],
-        "role_of op = plain op",
-        "",
-        "abbrev pub roles_of : List Operator → List (Role Operator)",
-        "roles_of [] = []",
-        "roles_of (op ∷ ops) = role_of op ∷ roles_of ops",
-        "",
-        "-- What the operators whose first byte this is do to the frames.",
-        "abbrev pub change_at : ℕ → FrameChange",
-        "change_at byte =",
-        *[f"    if byte == {op.hex()} then {change(op)} else (" for op in by_code],
-        "    change.Stays" + ")" * len(by_code),
-        "",
-    ])
+    changes = [f"    if byte == {op.hex()} then {change(op)} else (" for op in by_code]
+    return filled_file(
+        "changes/Roles.antt",
+        roles=", ".join(imported_roles()),
+        role_of=[f"role_of {bound(op)} = {role(op)}" for op in those],
+        change_at=[*changes, "    change.Stays" + ")" * len(by_code)],
+    )
 
 
 def change_source(ops):
@@ -93,62 +71,17 @@ def change_source(ops):
     by_change = {}
     for op in those:
         by_change.setdefault(rust_change(op), []).append(op)
-    in_code = lambda op: f"Operator::{op.name} {{ .. }}" if op.fields else f"Operator::{op.name}"
-    return "\n".join([
-        f"//! {HEAD}",
-        "ghost use Rattle.std.specs.Prelude.{◌≡◌};",
-        "ghost use Rattle.wasm_grammar.specs.Frames.{change_of};",
-        "ghost use Rattle.wasm_instr.specs.Roles.{role_of, change_at};",
-        "",
-        "use crate::operator::Operator;",
-        "use wasm_grammar::{FrameChange, FrameKind};",
-        "",
-        "/// Returns what the operators whose first byte this is do to the frames.",
-        "#[inline(always)]",
-        "pub fn frame_change_at(byte: u8) -> FrameChange",
-        "ensures { result ≡ change_at byte }",
-        "{",
-        "match byte {",
-        *[f"{op.hex()} => {rust_change(op)}," for op in by_code],
-        "_ => FrameChange::Stays,",
-        "}",
-        "}",
-        "",
-        "impl<'a> Operator<'a> {",
-        "/// Returns what the operator does to the frames.",
-        "pub fn frame_change(&self) -> FrameChange",
-        "ensures { result ≡ change_of (role_of self.now) }",
-        "{",
-        "match self {",
-        *[joined_arm([in_code(op) for op in each], value) for value, each in by_change.items()],
-        "_ => FrameChange::Stays,",
-        "}",
-        "}",
-        "}",
-        "",
-    ])
+    return filled_file(
+        "changes/frame_changes.rt",
+        by_byte=[f"{op.hex()} => {rust_change(op)}," for op in by_code],
+        by_operator=[joined_arm([rust_pattern(op, "Operator") for op in each], value) for value, each in by_change.items()],
+    )
 
 
 def high_bytes(ops):
     codes = sorted(op.code for op in with_role(ops))
-    return "\n".join([
-        f"-- {HEAD}",
-        "-- The bytes from 0x20 on keep the frames.",
-        "use Rattle.std.proofs.Common.{◌≡◌, ℕ, ◌<◌, ◌≤◌, cond, eqb, refl, ap, ◌∙◌, arith}",
-        "use Rattle.std.proofs.lemmas.Bool.{ne_eqb}",
-        f"use {CHANGE}.{{FrameChange}}",
-        f"use {CHANGE}.TheVariants as change",
-        "use Rattle.wasm_instr.specs.Roles.{change_at}",
-        "",
-        "passed : (byte low : ℕ) (c rest : FrameChange) → low < 0x20 → 0x20 ≤ byte → rest ≡ change.Stays → cond (eqb byte low) c rest ≡ change.Stays",
-        "passed byte low c rest below from e = ap (λ b. cond b c rest) (ne_eqb byte low (λ same. omega (arith, same, below, from))) ∙ e",
-        "",
-        "pub stays_from_20 : (byte : ℕ) → 0x20 ≤ byte → change_at byte ≡ change.Stays",
-        "stays_from_20 byte from =",
-        *[f"    passed byte 0x{code:02x} _ _ (omega arith) from (" for code in codes],
-        "    refl" + ")" * len(codes),
-        "",
-    ])
+    proof = [f"    passed byte 0x{code:02x} _ _ (omega arith) from (" for code in codes]
+    return filled_file("changes/HighBytes.antt", proof=[*proof, "    refl" + ")" * len(codes)])
 
 
 def change_files(ops):

@@ -2,7 +2,7 @@
 
 from immediates import COMBINATIONS, TYPES
 from table import ENUMS, held, shared
-from templates import filled
+from templates import filled, filled_file
 
 # The names of a shape's fields in patterns.
 BOUND = ["a", "b", "c"]
@@ -60,7 +60,7 @@ def shape_arms(ops, ty, by_reference):
 
 def common_source(ops):
     common = [op for op in ops if "view" in op.inline]
-    return "\n".join(filled("plain/common.rt", arms=shape_arms(common, "Operator", True))) + "\n"
+    return filled_file("plain/common.rt", arms=shape_arms(common, "Operator", True))
 
 
 def views_source(ops):
@@ -110,7 +110,7 @@ def names_spec(ops):
         others = f"{parts[at + 1][0]} number" if at + 1 < len(parts) else "[]"
         lines[-1] += others + ")" * len(those)
         lines.append("")
-    return "\n".join(filled("plain/names.antt", parts=lines, first_part=parts[0][0], **two_names(ops))) + "\n"
+    return filled_file("plain/names.antt", parts=lines, first_part=parts[0][0], **two_names(ops))
 
 
 def names_source(ops):

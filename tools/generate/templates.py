@@ -16,3 +16,8 @@ def filled(template, /, **values):
         word = line.strip()
         out += lists[word] if word in lists else [Template(line).substitute(values, HEAD=HEAD)]
     return out
+
+
+def filled_file(template, /, **values):
+    """Returns the text of a file that is one template."""
+    return "\n".join(filled(template, **values)) + "\n"
