@@ -1,0 +1,8 @@
+pub fn ${module}_fixed_arity(op: &$type) -> $result
+    ensures { result ≡ ${module}_pair op.now }
+{
+    match op {
+        $arms
+        _ => $most,
+    }
+}
