@@ -3,6 +3,7 @@
 from immediates import TYPES
 from source import Shape, shapes
 from table import HEAD, held
+from templates import filled
 
 COUNTS = ("none", "one", "two", "three")
 WIDTH = 160
@@ -91,11 +92,7 @@ def by_fields_equality(enum, ops, below):
     body = [
         *exact("fields_exact", f"{low}_fields", terms),
         "",
-        f"pub {low}_exact : IsExact {low}_eq.ghosts.eq",
-        f"{low}_exact a b =",
-        f"    Decides-like ({low}_eq.ghosts.eq a b) (λ p. {low}_same a b p.0 p.1) (λ e. (ap {enum.opcode} e, ap {low}_fields e))",
-        f"    (Decides-and ({enum.opcode} a == {enum.opcode} b) ({low}_fields_eq.ghosts.eq ({low}_fields a) ({low}_fields b)) (Decides-eqb ({enum.opcode} a) ({enum.opcode} b))",
-        f"    (fields_exact ({low}_fields a) ({low}_fields b)))",
+        *filled("equality/by_fields.antt", module=low, opcode=enum.opcode),
     ]
     return page(enum, uses, body)
 

@@ -1,7 +1,7 @@
 """Writes overridden visits of a group, for the program that compares visitors."""
 
 from source import inner, rust_binding
-from table import HEAD
+from templates import filled_file
 from visits import GROUPS, type_name
 
 FILE = "crates/wasm_tests_operators/src/own_misc.rt"
@@ -15,14 +15,4 @@ def own_visit(group, op):
 def own_visit_files(ops):
     group = next(it for it in GROUPS if it.module == "misc")
     lines = [line for op in group.of(ops) for line in own_visit(group, op)]
-    text = [
-        f"//! Overridden visits. {HEAD}",
-        "use crate::prints::OwnPrints;",
-        f"use wasm_operators::{{{type_name(group)}, {group.trait}}};",
-        "",
-        f"impl {group.trait} for OwnPrints {{",
-        *lines[1:],
-        "}",
-        "",
-    ]
-    return {FILE: "\n".join(text)}
+    return {FILE: filled_file("own_visits.rt", type=type_name(group), trait=group.trait, visits=lines[1:])}

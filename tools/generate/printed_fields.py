@@ -3,6 +3,7 @@
 from immediates import TYPES
 from source import rust_binding, uses_of
 from table import HEAD, held
+from templates import filled_file
 
 CRATE = "crates/wasm_tests_texts/src/fields"
 
@@ -71,19 +72,7 @@ def enum_source(name, ty, ops, held_enums=()):
             continue
         uses.append(f"use crate::fields::{enum.module}::{enum.module};")
         inner.append(f"Operator::{enum.group}(op) => {enum.module}(out, op),")
-    return "\n".join([
-        f"//! {HEAD}",
-        *sorted(uses),
-        "",
-        f"pub fn {name}(out: &mut String, op: &{given}) -> Written {{",
-        "match op {",
-        *match_arms(ops, ty),
-        *inner,
-        "_ => Ok(()),",
-        "}",
-        "}",
-        "",
-    ])
+    return filled_file("fields/enum.rt", uses=sorted(uses), name=name, type=given, arms=match_arms(ops, ty) + inner)
 
 
 def printed_field_files(ops):

@@ -2,7 +2,8 @@
 
 from immediates import KINDS
 from source import arms, rust_binding
-from table import ENUMS, HEAD, held, pattern
+from table import ENUMS, held, pattern
+from templates import filled, filled_file
 
 CRATE = "crates/wasm_text"
 
@@ -29,60 +30,35 @@ def call_of(op):
 
 
 def name_specs(ops):
-    out = [
-        f"-- {HEAD}",
-        "-- The names of the operators in the text format.",
-        "-- Specification: Text Format, Instructions; and the proposals.",
-        "use Rattle.std.specs.Prelude.{ℕ, List, codes}",
-        "use Rattle.wasm_instr.specs.declared.operator.Operator.{Operator}",
-        "use Rattle.wasm_instr.specs.declared.operator.Operator.TheVariants as operator",
-    ]
-    for enum in held():
-        out += inner_uses(enum)
+    enum_names = []
     for enum in held():
         low = enum.module
-        out += ["", f"abbrev pub {low}_text_name : {enum.type} → List ℕ"]
-        out += [f'{low}_text_name {pattern(op, low, False)} = codes "{op.text}"' for op in ops if op.group == enum.group]
-    out += ["", "abbrev pub text_name : Operator → List ℕ"]
-    out += [f'text_name {pattern(op, "operator", False)} = codes "{op.text}"' for op in ops if op.group == "Own"]
-    out += [f"text_name (operator.{enum.group} op) = {enum.module}_text_name op" for enum in held()]
-    return "\n".join([*out, ""])
+        enum_names += ["", f"abbrev pub {low}_text_name : {enum.type} → List ℕ"]
+        enum_names += [f'{low}_text_name {pattern(op, low, False)} = codes "{op.text}"' for op in ops if op.group == enum.group]
+    return filled_file(
+        "texts/Names.antt",
+        enum_uses=[line for enum in held() for line in inner_uses(enum)],
+        enum_names=enum_names,
+        own_names=[f'text_name {pattern(op, "operator", False)} = codes "{op.text}"' for op in ops if op.group == "Own"],
+        by_enum=[f"text_name (operator.{enum.group} op) = {enum.module}_text_name op" for enum in held()],
+    )
 
 
-def name_function(name, given, ty, those, more=()):
-    shown = "pub fn" if ty == "Operator" else "fn"
-    doc = ["/// Returns the operator's name in the text format."] if ty == "Operator" else []
-    return [
-        "",
-        *doc,
-        f"{shown} {name}(op: &{given}) -> &'static str",
-        f"ensures {{ result.now ≡ {name} op.now }}",
-        "{",
-        "match op {",
-        *arms(those, ty, lambda op: f'"{op.text}"'),
-        *more,
-        "}",
-        "}",
-    ]
+def name_arms(ops, group, ty):
+    return arms([op for op in ops if op.group == group], ty, lambda op: f'"{op.text}"')
 
 
 def name_source(ops):
-    words = ", ".join(["text_name", *(f"{enum.module}_text_name" for enum in held())])
-    types = ", ".join(sorted(["Operator", *(enum.type for enum in ENUMS)]))
-    out = [
-        f"//! {HEAD}",
-        "ghost use Rattle.std.specs.Prelude.{◌≡◌};",
-        f"ghost use Rattle.wasm_text.specs.Names.{{{words}}};",
-        "",
-        f"use wasm_instr::{{{types}}};",
-    ]
-    own = [op for op in ops if op.group == "Own"]
-    more = [f"Operator::{enum.group}(inner) => {enum.module}_text_name(inner)," for enum in held()]
-    out += name_function("text_name", "Operator<'_>", "Operator", own, more)
+    lines = filled(
+        "texts/names.rt",
+        words=", ".join(f"{enum.module}_text_name" for enum in held()),
+        types=", ".join(sorted(["Operator", *(enum.type for enum in ENUMS)])),
+        own_names=name_arms(ops, "Own", "Operator"),
+        by_enum=[f"Operator::{enum.group}(inner) => {enum.module}_text_name(inner)," for enum in held()],
+    )
     for enum in held():
-        those = [op for op in ops if op.group == enum.group]
-        out += name_function(f"{enum.module}_text_name", enum.type, enum.type, those)
-    return "\n".join([*out, ""])
+        lines += ["", *filled("texts/enum_name.rt", module=enum.module, type=enum.type, names=name_arms(ops, enum.group, enum.type))]
+    return "\n".join(lines) + "\n"
 
 
 def operand_arms(ops, ty):
@@ -92,60 +68,29 @@ def operand_arms(ops, ty):
     return [f"{' | '.join(rust_binding(op, ty) for op in those)} => {call}," for call, those in found.items()]
 
 
-def operand_function(name, ty, those, more=()):
-    given = "Operator<'_>" if ty == "Operator" else ty
-    return [
-        f"pub fn {name}(out: &mut String, op: &{given}) -> Written",
-        "{",
-        "match op {",
-        *operand_arms(those, ty),
-        *more,
-        "}",
-        "}",
-        "",
-    ]
+def enum_operands(enum, ops):
+    low = enum.module
+    has_writers = any(op.writer for op in ops)
+    return filled_file(
+        "texts/enum.rt",
+        module=low,
+        type=enum.type,
+        immediates=[] if has_writers else [f"ghost use Rattle.wasm_instr.specs.{enum.group}.{{{low}_immediates}};"],
+        written=f"{low}_operands" if has_writers else "immediates_text",
+        of="op.now" if has_writers else f"({low}_immediates op.now)",
+        arms=operand_arms(ops, enum.type),
+    )
 
 
 def operand_files(ops):
-    out = {}
-    for enum in held():
-        if enum.group == "Numeric":
-            continue
-        low = enum.module
-        those = [op for op in ops if op.group == enum.group]
-        has_writers = any(op.writer for op in those)
-        words = f"{low}_operands" if has_writers else "immediates_text"
-        claim = f"{words} op.now" if has_writers else f"{words} ({low}_immediates op.now)"
-        text = operand_function(low, enum.type, those)
-        text.insert(1, f"ensures {{ OnOk result (string_bytes out.new ≡ string_bytes out.old ++ {claim}) }}")
-        row = [] if has_writers else [f"ghost use Rattle.wasm_instr.specs.{enum.group}.{{{low}_immediates}};"]
-        out[f"{CRATE}/src/operators/{low}.rt"] = "\n".join([
-            f"//! {HEAD}",
-            "ghost use Rattle.std.specs.Prelude.{◌≡◌, ◌++◌, OnOk, string_bytes};",
-            *row,
-            f"ghost use Rattle.wasm_text.specs.Operands.{{{words}}};",
-            "",
-            "use crate::operands::{self, Written};",
-            f"use wasm_instr::{enum.type};",
-            "",
-            *text,
-        ])
-    own = [op for op in ops if op.group == "Own"]
-    inner = [f"Operator::{e.group}(inner) => {e.module}::{e.module}(out, inner)," for e in held() if e.group != "Numeric"]
-    text = operand_function("own", "Operator", own, ["Operator::Numeric(_) => Ok(()),", *inner])
-    text.insert(1, "ensures { OnOk result (string_bytes out.new ≡ string_bytes out.old ++ operands_of op.now) }")
-    modules = ", ".join(e.module for e in sorted(held(), key=lambda e: e.module) if e.group != "Numeric")
-    out[f"{CRATE}/src/operators/own.rt"] = "\n".join([
-        f"//! {HEAD}",
-        "ghost use Rattle.std.specs.Prelude.{◌≡◌, ◌++◌, OnOk, string_bytes};",
-        "ghost use Rattle.wasm_text.specs.Operands.{operands_of};",
-        "",
-        "use crate::operands::{self, Written};",
-        f"use crate::operators::{{{modules}}};",
-        "use wasm_instr::Operator;",
-        "",
-        *text,
-    ])
+    enums = [enum for enum in held() if enum.group != "Numeric"]
+    out = {f"{CRATE}/src/operators/{enum.module}.rt": enum_operands(enum, [op for op in ops if op.group == enum.group]) for enum in enums}
+    out[f"{CRATE}/src/operators/own.rt"] = filled_file(
+        "texts/own.rt",
+        modules=", ".join(sorted(enum.module for enum in enums)),
+        own=operand_arms([op for op in ops if op.group == "Own"], "Operator"),
+        by_enum=[f"Operator::{enum.group}(inner) => {enum.module}::{enum.module}(out, inner)," for enum in enums],
+    )
     return out
 
 

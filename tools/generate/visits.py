@@ -1,7 +1,8 @@
 """Writes the groups of visits, and the dispatch of each group."""
 
 from source import uses
-from table import HEAD, NUMERIC, SIMD_HALF, WIDTH, doc, held, prefix_of, singular
+from table import NUMERIC, SIMD_HALF, WIDTH, doc, held, prefix_of, singular
+from templates import filled, filled_file
 
 
 class Group:
@@ -78,11 +79,6 @@ FIXED = [group for group in GROUPS if group.enum != "Simd"]
 VECTORS = [group for group in GROUPS if group.enum == "Simd"]
 
 
-def signature(op, answer):
-    fields = [f"{name}: {ty}" for name, ty in op.fields]
-    return f"    fn {op.visit}({', '.join(['&mut self'] + fields)}) -> {answer}"
-
-
 def type_name(group):
     return "Operator" if group.enum == "Own" else f"{group.enum}Operator"
 
@@ -101,44 +97,28 @@ def made(op):
     return inner if op.group == "Own" else f"Operator::{op.group}({inner})"
 
 
-def ghost_uses(group):
-    lines = ["ghost use Rattle.wasm_instr.specs.declared.operator.Operator.{Operator};"]
-    for enum in held():
-        if enum.group == group.enum:
-            lines.append(f"ghost use Rattle.wasm_instr.specs.{enum.part}.{enum.module}.{enum.type}.{{{enum.type}}};")
-    return lines
-
-
 def braced(names):
     return names[0] if len(names) == 1 else f"{{{', '.join(sorted(names))}}}"
 
 
+def visit(op):
+    parameters = ", ".join(["&mut self", *[f"{name}: {ty}" for name, ty in op.fields]])
+    return filled("visits/visit.rt", visit=op.visit, parameters=parameters, term=term(op), made=made(op))
+
+
 def group_trait(ops, group):
     those = group.of(ops)
-    out = [
-        f"//! {HEAD}",
-        *ghost_uses(group),
-        "",
-        "use crate::route::ToOwn;",
-        "use crate::routes::Routes;",
-        "use crate::visitor::Visitor;",
-        *uses(those),
-        f"use wasm_instr::{braced(sorted({'Operator', type_name(group)}))};",
-        "",
-        *doc(f"Visits of {group.title}. {'' if group.section.startswith('Proposal') else 'Specification: '}{group.section} By default they call `visit_any`. A visitor that overrides visits names `Own{group.mark}` in its `Visits`."),
-        f"pub trait {group.trait}: Visitor<Visits: Routes<{group.mark}: ToOwn>> {{",
-    ]
-    for number, op in enumerate(those):
-        out += [] if number == 0 else [""]
-        out += [
-            "    #[inline(always)]",
-            signature(op, "Self::Output"),
-            f"        ensures {{ Self.visits self.old {term(op)} result self.new }}",
-            "    {",
-            f"        self.visit_any({made(op)})",
-            "    }",
-        ]
-    return "\n".join(out + ["}", ""])
+    section = group.section if group.section.startswith("Proposal") else f"Specification: {group.section}"
+    return filled_file(
+        "visits/trait.rt",
+        ghost_uses=[f"ghost use Rattle.wasm_instr.specs.{it.part}.{it.module}.{it.type}.{{{it.type}}};" for it in held() if it.group == group.enum],
+        uses=uses(those),
+        types=braced(sorted({"Operator", type_name(group)})),
+        doc=doc(f"Visits of {group.title}. {section} By default they call `visit_any`. A visitor that overrides visits names `Own{group.mark}` in its `Visits`."),
+        trait=group.trait,
+        mark=group.mark,
+        visits=[line for op in those for line in ["", *visit(op)]][1:],
+    )
 
 
 def arm(op):
@@ -158,39 +138,29 @@ def one_byte_others(ops):
 
 
 def group_dispatch(ops, group):
-    param = "Operator<'_>" if group.enum == "Own" else type_name(group)
-    told = "op.entry" if group.enum == "Own" else f"(Operator.{group.enum} op)"
-    wanted = group.predicate
-    others = one_byte_others(ops) if group.enum == "Own" else "_"
-    return [
-        "",
-        f"/// Calls the visit of {singular(group.short).replace('SIMD operator', 'SIMD operator with a subopcode')}.",
-        f"pub fn {group.module}<V: {group.trait}>(v: &mut V, op: {param}) -> V::Output",
-        *([f"    requires {{ {wanted} op }}"] if wanted else []),
-        f"    ensures {{ V.visits v.old {told} result v.new }}",
-        "{",
-        "    match op {",
-        *[arm(op) for op in group.of(ops)],
-        *([f"        {others} => unreachable!(),"] if wanted else []),
-        "    }",
-        "}",
-    ]
+    is_own = group.enum == "Own"
+    others = one_byte_others(ops) if is_own else "_"
+    return filled(
+        "visits/dispatch_group.rt",
+        operator=singular(group.short).replace("SIMD operator", "SIMD operator with a subopcode"),
+        module=group.module,
+        trait=group.trait,
+        type="Operator<'_>" if is_own else type_name(group),
+        requires=[f"    requires {{ {group.predicate} op }}"] if group.predicate else [],
+        term="op.entry" if is_own else f"(Operator.{group.enum} op)",
+        arms=[*[arm(op) for op in group.of(ops)], *([f"        {others} => unreachable!(),"] if group.predicate else [])],
+    )
 
 
 def dispatch(ops, groups):
-    wanted = sorted(group.predicate for group in groups if group.predicate)
     types = sorted({"Operator"} | {type_name(group) for group in groups}) if groups is FIXED else ["SimdOperator"]
-    out = [
-        f"//! {HEAD}",
-        "ghost use Rattle.wasm_instr.specs.declared.operator.Operator.{Operator};",
-        f"ghost use Rattle.wasm_visit_groups.specs.Groups.{{{', '.join(wanted)}}};",
-        "",
-        f"use wasm_instr::{braced(types)};",
-        f"use wasm_visit_groups::{braced([group.trait for group in groups])};",
-    ]
-    for group in groups:
-        out += group_dispatch(ops, group)
-    return "\n".join(out + [""])
+    return filled_file(
+        "visits/dispatch.rt",
+        predicates=", ".join(sorted(group.predicate for group in groups if group.predicate)),
+        types=braced(types),
+        traits=braced([group.trait for group in groups]),
+        functions=[line for group in groups for line in ["", *group_dispatch(ops, group)]],
+    )
 
 
 def visit_files(ops):
