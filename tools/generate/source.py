@@ -3,7 +3,8 @@
 import re
 
 from immediates import TYPES
-from table import ENUMS, HEAD, Enum, Operator, grouped, held, variant_of
+from table import ENUMS, Enum, Operator, grouped, held, variant_of
+from templates import filled, filled_file
 
 # An enum with more variants than LARGE is split into functions of PART variants.
 LARGE = 128
@@ -93,10 +94,10 @@ def fields_name(names):
     return "".join(word.capitalize() for word in re.split(r"[, _]+", names))
 
 
-def enum_head(enum, ops, shape):
+def enum_uses(enum, ops, shape):
     prelude = ["◌≡◌"]
     words = [f"{enum.module}_proposal", f"{enum.module}_name", f"{enum.opcode}"]
-    out = [f"//! {HEAD}"]
+    out = []
     if shape.is_large:
         prelude += ["◌⊎◌", "◌<◌", "◌≤◌", "MatchOption"]
     if shape.holds_list:
@@ -116,96 +117,50 @@ def enum_head(enum, ops, shape):
     if not shape.derives_debug:
         out.append("use std::fmt::{self, Debug, Formatter};")
     more = [("wasm_imm", "OperatorInfo"), ("wasm_imm", "Proposal")] + ([("wasm_below", "Result")] if shape.holds_list else [])
-    return out + uses(ops, more) + [""]
+    return out + uses(ops, more)
 
 
 def info_of(enum, ops):
-    low = enum.module
     prefix = ops[0].prefix
-    return [
-        "/// Returns the row of the operator.",
-        "pub fn info(&self) -> OperatorInfo",
-        f"ensures proposal {{ result.proposal ≡ {low}_proposal self.now }}",
-        f"ensures name {{ result.name.now ≡ {low}_name self.now }}",
-        f"ensures prefix {{ result.prefix ≡ {f'Some 0x{prefix}' if prefix else 'None'} }}",
-        f"ensures code {{ result.code ≡ {enum.opcode} self.now }}",
-        "{",
-        "OperatorInfo {",
-        "proposal: self.proposal(),",
-        "name: self.name(),",
-        f"prefix: {f'Some(0x{prefix})' if prefix else 'None'},",
-        "code: self.code(),",
-        "}",
-        "}",
-        "",
-        "fn proposal(&self) -> Proposal",
-        f"ensures {{ result ≡ {low}_proposal self.now }}",
-        "{",
-        "match self {",
-        *proposal_arms(ops, enum.type),
-        "}",
-        "}",
-        "",
-        *column(enum, ops, "name", "&'static str", lambda op: f'"{op.name}"'),
-        "",
-        *opcode_column(enum, ops),
-    ]
+    return filled(
+        "source/enum_info.rt",
+        module=enum.module,
+        opcode=enum.opcode,
+        prefix_term=f"Some 0x{prefix}" if prefix else "None",
+        prefix=f"Some(0x{prefix})" if prefix else "None",
+        proposals=proposal_arms(ops, enum.type),
+        names=column(enum, ops, "name", "&'static str", lambda op: f'"{op.name}"'),
+        opcodes=opcode_column(enum, ops),
+    )
 
 
 def opcode_column(enum, ops):
     if any(op.fields for op in ops):
         return column(enum, ops, "code", "u32", Operator.hex)
-    return [
-        "fn code(&self) -> u32",
-        f"ensures {{ result ≡ {enum.opcode} self.now }}",
-        "{",
-        "*self as u32",
-        "}",
-    ]
+    return filled("source/plain_opcode.rt", opcode=enum.opcode)
 
 
 def enum_source(enum, ops):
     shape = Shape(ops)
-    out = enum_head(enum, ops, shape)
-    out += enum.doc
-    out += [f"#[derive({shape.derived})]", f"pub enum {enum.type} {{"]
-    out += [variant(op, shape.is_plain) for op in ops]
-    out += ["}", "", f"impl {enum.type} {{", *info_of(enum, ops)]
-    if shape.holds_list:
-        out += ["", *clone_of(enum.type, f"{enum.module}_holds_list", ops)]
-    if shape.by_fields:
-        ty = f"{enum.group}Fields"
-        out += ["", *in_parts(enum, ops, "fields", ty, lambda part, wrap: field_arms(enum, part, wrap))]
-    out += ["}", ""]
-    if shape.by_fields:
-        out += [*fields_enum(enum, ops), *equality_of(enum)]
-    if not shape.derives_debug:
-        out += debug_of(enum, ops, shape)
-    return "\n".join(out)
+    fields = in_parts(enum, ops, "fields", f"{enum.group}Fields", lambda part, wrap: field_arms(enum, part, wrap)) if shape.by_fields else []
+    return filled_file(
+        "source/enum.rt",
+        uses=enum_uses(enum, ops, shape),
+        doc=enum.doc,
+        derived=shape.derived,
+        type=enum.type,
+        variants=[variant(op, shape.is_plain) for op in ops],
+        info=info_of(enum, ops),
+        clone=["", *clone_of(enum.type, f"{enum.module}_holds_list", ops)] if shape.holds_list else [],
+        fields=["", *fields] if fields else [],
+        equality=[*fields_enum(enum, ops), "", *equality_of(enum), ""] if shape.by_fields else [],
+        debug=[] if shape.derives_debug else debug_of(enum, ops, shape),
+    )
 
 
 def fields_enum(enum, ops):
-    out = [
-        "#[derive(Clone, Copy, PartialEq, Eq)]",
-        f"pub enum {enum.group}Fields {{",
-    ]
-    for names, those in shapes(ops).items():
-        out.append(f"{fields_name(names)} {{ {inner(those[0])} }},")
-    return [
-        *out,
-        "Bare,",
-        "}",
-        "",
-        f"impl {enum.group}Fields {{",
-        f"fn is(&self, other: &{enum.group}Fields) -> bool",
-        f"ensures member {{ result ≡ ⟦<{enum.group}Fields as PartialEq>⟧.eq self.now other.now }}",
-        "ensures same { IsTrue result ↔ (self.now ≡ other.now) }",
-        "{",
-        "self == other",
-        "}",
-        "}",
-        "",
-    ]
+    variants = [f"{fields_name(names)} {{ {inner(those[0])} }}," for names, those in shapes(ops).items()]
+    return filled("source/fields.rt", group=enum.group, variants=variants)
 
 
 def field_arms(enum, ops, wrap):
@@ -219,43 +174,22 @@ def field_arms(enum, ops, wrap):
 
 
 def equality_of(enum):
-    low = enum.module
-    fields = f"{enum.group}Fields"
-    laws = f"(and_equiv (on_equiv {enum.opcode} nat_eq_equiv) (on_equiv {low}_fields laws-law))"
-    member = f"eq_of_both (on {enum.opcode} nat_eq) (on {low}_fields ⟦<{fields} as PartialEq>⟧.eq)"
-    from_fields = f"ghost use Rattle.{enum.crate}.specs.contracts.{low}.{fields}Eq.TheImpl.Laws.{{laws-law}};"
-    return [
-        f"impl PartialEq for {enum.type} {{",
-        "ghost use Rattle.std.specs.Cmp.{partial_equiv_from_equiv, and_equiv, on_equiv, nat_eq_equiv};",
-        from_fields,
-        "",
-        f"ghost eq = {{ {member} }};",
-        "",
-        f"ghost laws = {{ partial_equiv_from_equiv {laws} }};",
-        "",
-        f"fn eq(&self, other: &{enum.type}) -> bool",
-        f"ensures member {{ result ≡ {member} self.now other.now }}",
-        "ensures same { IsTrue result ↔ (self.now ≡ other.now) }",
-        "{",
-        "self.code() == other.code() && self.fields().is(&other.fields())",
-        "}",
-        "}",
-        "",
-        f"impl Eq for {enum.type} {{",
-        "ghost use Rattle.std.specs.Cmp.{and_equiv, on_equiv, nat_eq_equiv};",
-        from_fields,
-        "",
-        f"ghost laws = {{ {laws[1:-1]} }};",
-        "}",
-        "",
-    ]
+    low, fields = enum.module, f"{enum.group}Fields"
+    return filled(
+        "source/equality.rt",
+        type=enum.type,
+        crate=enum.crate,
+        module=low,
+        fields=fields,
+        member=f"eq_of_both (on {enum.opcode} nat_eq) (on {low}_fields ⟦<{fields} as PartialEq>⟧.eq)",
+        laws=f"and_equiv (on_equiv {enum.opcode} nat_eq_equiv) (on_equiv {low}_fields laws-law)",
+    )
 
 
 def debug_of(enum, ops, shape):
-    out = [f"impl Debug for {enum.type} {{", "fn fmt<W: fmt::Write>(&self, f: &mut Formatter<W>) -> fmt::Result {"]
     if shape.is_plain:
-        return [*out, "f.write_str(self.name())", "}", "}", ""]
-    out.append("match self.fields() {" if shape.by_fields else "match self {")
+        return filled("source/debug.rt", type=enum.type, body=["f.write_str(self.name())"])
+    arms = []
     for names, those in shapes(ops).items():
         if shape.by_fields:
             patterns = [f"{enum.group}Fields::{fields_name(names)} {{ {names} }}"]
@@ -263,10 +197,11 @@ def debug_of(enum, ops, shape):
             patterns = [rust_binding(op, enum.type) for op in those]
         refer = "&" if shape.by_fields else ""
         fields = "".join(f'.field("{name}", {refer}{name})' for name in names.split(", "))
-        out.append(joined_arm(patterns, f"f.debug_struct(self.name()){fields}.finish()"))
+        arms.append(joined_arm(patterns, f"f.debug_struct(self.name()){fields}.finish()"))
     if any(not op.fields for op in ops):
-        out.append(f"{enum.group}Fields::Bare => f.write_str(self.name())," if shape.by_fields else "_ => f.write_str(self.name()),")
-    return [*out, "}", "}", "}", ""]
+        arms.append(f"{enum.group}Fields::Bare => f.write_str(self.name())," if shape.by_fields else "_ => f.write_str(self.name()),")
+    matched = "self.fields()" if shape.by_fields else "self"
+    return filled("source/debug.rt", type=enum.type, body=[f"match {matched} {{", *arms, "}"])
 
 
 def column(enum, ops, name, ty, value):
@@ -278,32 +213,18 @@ def column(enum, ops, name, ty, value):
 
 
 def in_parts(enum, ops, name, ty, arms_of):
-    word = enum.opcode if name == "code" else f"{enum.module}_{name}"
-    now = ".now" if ty.startswith("&") else ""
-    head = [f"fn {name}(&self) -> {ty}", f"ensures {{ result{now} ≡ {word} self.now }}", "{"]
+    of = {"name": name, "type": ty, "word": enum.opcode if name == "code" else f"{enum.module}_{name}", "now": ".now" if ty.startswith("&") else ""}
     if len(ops) <= LARGE:
-        return [*head, "match self {", *arms_of(ops, str), "}", "}"]
+        return filled("source/column.rt", **of, arms=arms_of(ops, str))
     ordered = sorted(ops, key=lambda op: op.code)
     parts = [ordered[i : i + PART] for i in range(0, len(ordered), PART)]
     places = ["first", "second", "third", "fourth"][: len(parts)]
-    out = head
-    for place in places:
-        out += [f"if let Some({name}) = self.{place}_{name}() {{", f"return {name};", "}"]
-    out += ["unreachable!()", "}"]
+    calls = [line for place in places for line in (f"if let Some({name}) = self.{place}_{name}() {{", f"return {name};", "}")]
+    out = filled("source/column_in_parts.rt", **of, parts=calls)
     for number, (place, part) in enumerate(zip(places, parts)):
         none = outside(enum, part, number == 0, number == len(parts) - 1)
-        out += [
-            "",
-            f"/// Handles 0x{part[0].code:02x} to 0x{part[-1].code:02x}.",
-            f"fn {place}_{name}(&self) -> Option<{ty}>",
-            f"ensures {{ MatchOption result {none} (λ x. x{now} ≡ {word} self.now) }}",
-            "{",
-            "match self {",
-            *arms_of(part, "Some({})".format),
-            "_ => None,",
-            "}",
-            "}",
-        ]
+        arms = arms_of(part, "Some({})".format)
+        out += ["", *filled("source/column_part.rt", **of, place=place, first=part[0].hex(), last=part[-1].hex(), none=none, arms=arms)]
     return out
 
 
@@ -316,52 +237,6 @@ def outside(enum, part, is_first, is_last):
 
 
 OWN = Enum("Own", "wasm_instr", "operator", "the other operators with a one-byte opcode")
-
-
-def operator_head(ops):
-    more = [(enum.crate, enum.type) for enum in ENUMS]
-    more += [("wasm_imm", "OperatorInfo"), ("wasm_imm", "Proposal"), ("wasm_below", "Result")]
-    return [
-        f"//! {HEAD}",
-        "ghost use Rattle.std.specs.Prelude.{◌≡◌, ◌↔◌, IsTrue, IfOk, IfErr};",
-        "ghost use Rattle.wasm_imm.specs.OutOfMemory.{IsOutOfMemoryAt};",
-        "ghost use Rattle.wasm_instr.specs.Row.{proposal_of, name_of, prefix_of, opcode_of};",
-        "ghost use Rattle.wasm_instr.specs.Kinds.{IsSimd, IsVector, HoldsList};",
-        "",
-        "use std::alloc::Global;",
-        "use std::fmt::{self, Debug, Formatter};",
-        *uses(ops, more),
-        "",
-    ]
-
-
-def operator_enum(ops):
-    out = [
-        "/// An operator with its immediates.",
-        "///",
-        "/// `From` converts the operators of the inner enums, which are the last variants.",
-        "#[derive(Drop, PartialEq, Eq)]",
-        "pub enum Operator<'a> {",
-        *[variant(op) for op in ops],
-        *[f"{enum.group}({enum.type})," for enum in held()],
-        "}",
-        "",
-    ]
-    for enum in held():
-        out += [
-            f"impl<'a> From<{enum.type}> for Operator<'a> {{",
-            "ghost use Rattle.std.specs.Prelude.{◌≡◌};",
-            f"ghost use Rattle.wasm_instr.specs.declared.operator.Operator.TheVariants.{{{enum.group}}};",
-            "",
-            f"ghost from_gives = {{ λ inner operator. operator ≡ {enum.group} inner }};",
-            "",
-            f"fn from(operator: {enum.type}) -> Operator<'a> {{",
-            f"Operator::{enum.group}(operator)",
-            "}",
-            "}",
-            "",
-        ]
-    return out
 
 
 def debug_parts(ops):
@@ -398,103 +273,38 @@ def operator_debug(ops):
     return [line for line in [*out, "}", ""] if line is not None]
 
 
-def operator_info(ops):
-    inner_arms = [f"Operator::{enum.group}(op) => op.info().proposal," for enum in held()]
-    return [
-        "/// Returns the row of the operator.",
-        "pub fn info(&self) -> OperatorInfo",
-        "ensures proposal { result.proposal ≡ proposal_of self.now }",
-        "ensures name { result.name.now ≡ name_of self.now }",
-        "ensures prefix { result.prefix ≡ prefix_of self.now }",
-        "ensures code { result.code ≡ opcode_of self.now }",
-        "{",
-        "match self {",
-        *[f"Operator::{enum.group}(op) => op.info()," for enum in held()],
-        "_ => OperatorInfo {",
-        "proposal: self.proposal(),",
-        "name: self.name(),",
-        "prefix: None,",
-        "code: self.code(),",
-        "},",
-        "}",
-        "}",
-        "",
-        "fn proposal(&self) -> Proposal",
-        "ensures { result ≡ proposal_of self.now }",
-        "{",
-        "match self {",
-        *proposal_arms(ops, "Operator", inner_arms),
-        "}",
-        "}",
-        "",
-        *operator_column(ops, "name", "name_of", "&'static str", lambda op: f'"{op.name}"'),
-        "",
-        *operator_column(ops, "code", "opcode_of", "u32", Operator.hex),
-    ]
-
-
 def operator_column(ops, name, word, ty, value):
+    inner_arms = [f"Operator::{enum.group}(op) => op.info().{name}," for enum in held()]
     now = ".now" if ty.startswith("&") else ""
-    return [
-        f"fn {name}(&self) -> {ty}",
-        f"ensures {{ result{now} ≡ {word} self.now }}",
-        "{",
-        "match self {",
-        *arms(ops, "Operator", value),
-        *[f"Operator::{enum.group}(op) => op.info().{name}," for enum in held()],
-        "}",
-        "}",
-    ]
+    return filled("source/column.rt", name=name, type=ty, word=word, now=now, arms=arms(ops, "Operator", value) + inner_arms)
 
 
 def operator_source(ops, owning=()):
     """Returns the file of `Operator`. `owning` are the inner enums that own lists."""
-    return "\n".join([
-        *operator_head(ops),
-        *operator_enum(ops),
-        "impl<'a> Operator<'a> {",
-        *operator_info(ops),
-        "",
-        "/// Returns whether the proposal is `simd` or `relaxed_simd`.",
-        "pub fn is_simd(&self) -> bool",
-        "ensures simd { IsTrue result ↔ IsSimd self.now }",
-        "ensures vector { IsTrue result ↔ IsVector self.now }",
-        "{",
-        "matches!(self, Operator::Simd(_))",
-        "}",
-        "",
-        *clone_of("Operator", "HoldsList", ops, owning),
-        "}",
-        "",
-        *operator_debug(ops),
-        "/// Copies the table without allocating.",
-        "fn same_table<'a>(table: &BrTable<'a>) -> BrTable<'a>",
-        "ensures { result ≡ table.now }",
-        "{",
-        "match table.clone() {",
-        "Ok(table) => table,",
-        "Err(_) => unreachable!(),",
-        "}",
-        "}",
-        "",
-    ])
+    more = [(enum.crate, enum.type) for enum in ENUMS]
+    more += [("wasm_imm", "OperatorInfo"), ("wasm_imm", "Proposal"), ("wasm_below", "Result")]
+    return filled_file(
+        "source/operator.rt",
+        uses=uses(ops, more),
+        variants=[variant(op) for op in ops],
+        enum_variants=[f"{enum.group}({enum.type})," for enum in held()],
+        conversions=[line for enum in held() for line in [*filled("source/conversion.rt", type=enum.type, group=enum.group), ""]],
+        enum_infos=[f"Operator::{enum.group}(op) => op.info()," for enum in held()],
+        proposals=proposal_arms(ops, "Operator", [f"Operator::{enum.group}(op) => op.info().proposal," for enum in held()]),
+        names=operator_column(ops, "name", "name_of", "&'static str", lambda op: f'"{op.name}"'),
+        codes=operator_column(ops, "code", "opcode_of", "u32", Operator.hex),
+        clone=clone_of("Operator", "HoldsList", ops, owning),
+        debug=operator_debug(ops),
+    )
 
 
 def clone_of(ty, holds_list, ops, owning=()):
-    out = [
-        "/// Copies the operator. Fails only if it owns a list: with `OutOfMemory` at offset 0.",
-        f"pub fn clone(&self, alloc: Global) -> Result<{ty}{lifetime(ty)}>",
-        "ensures ok { IfOk result (λ copy. copy ≡ self.now) }",
-        f"ensures err {{ IfErr result (λ e. {holds_list} self.now × IsOutOfMemoryAt 0 e) }}",
-        "{",
-        "Ok(match self {",
-        *[clone_arm(op, ty) for op in ops],
-    ]
+    arms = [clone_arm(op, ty) for op in ops]
     if ty == "Operator":
         for enum in held():
             copied = "op.clone(alloc)?" if enum.group in owning else "*op"
-            out.append(f"Operator::{enum.group}(op) => Operator::{enum.group}({copied}),")
-    return [*out, "})", "}"]
+            arms.append(f"Operator::{enum.group}(op) => Operator::{enum.group}({copied}),")
+    return filled("source/clone.rt", type=f"{ty}{lifetime(ty)}", holds_list=holds_list, arms=arms)
 
 
 def lifetime(ty):

@@ -1,0 +1,7 @@
+fn $name(&self) -> $type
+    ensures { result$now ≡ $word self.now }
+{
+    match self {
+        $arms
+    }
+}

@@ -1,0 +1,6 @@
+fn $name(&self) -> $type
+    ensures { result$now ≡ $word self.now }
+{
+    $parts
+    unreachable!()
+}

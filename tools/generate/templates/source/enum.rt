@@ -1,0 +1,17 @@
+//! $HEAD
+$uses
+
+$doc
+#[derive($derived)]
+pub enum $type {
+    $variants
+}
+
+impl $type {
+    $info
+    $clone
+    $fields
+}
+
+$equality
+$debug

@@ -1,0 +1,5 @@
+fn code(&self) -> u32
+    ensures { result ≡ $opcode self.now }
+{
+    *self as u32
+}
