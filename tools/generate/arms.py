@@ -2,8 +2,9 @@
 
 from immediates import FORMS, kinds_term
 from parts import run_pattern, runs, title
-from table import NUMERIC, doc, singular
-from visits import type_name
+from table import doc, singular
+from templates import filled
+from visits import FROM, TO, type_name
 
 # The common operators with a one-byte opcode are inlined; the others are decoded by one call.
 ONE_CALL = "one_byte"
@@ -135,8 +136,8 @@ def made_type(group):
 def closed(results):
     """Returns a match on the code, or the only result. The last code has the arm `_`: an unreachable arm would be compiled like the others."""
     if len(results) == 1:
-        return [f"        {results[0][1]}"]
-    return ["        match code {", *[f"            {code} => {it}," for code, it in results[:-1]], f"            _ => {results[-1][1]},", "        }"]
+        return [results[0][1]]
+    return ["match code {", *[f"{code} => {it}," for code, it in results[:-1]], f"_ => {results[-1][1]},", "}"]
 
 
 def operator(part, op):
@@ -145,21 +146,27 @@ def operator(part, op):
     return f"{made} {{ {fields} }}" if fields else made
 
 
-def method(part, name, params, result, results):
-    code = "_code" if part.is_one else "code"
-    it = "it" if part.key else "_it"
-    return ["    #[inline(always)]", f"    fn {name}({params}{code}: u32, {it}: {part.type}) -> {result} {{", *closed(results), "    }", "}", ""]
-
-
 def makes(part):
-    results = [(op.hex(), operator(part, op)) for op in part.ops]
-    return [f"impl Makes<{part.mark}, {part.type}> for Maker {{", *method(part, "make", "", made_type(part.group), results)]
+    return [*filled(
+        "arms/makes.rt",
+        mark=part.mark,
+        type=part.type,
+        code="_code" if part.is_one else "code",
+        it="it" if part.key else "_it",
+        made=made_type(part.group),
+        results=closed([(op.hex(), operator(part, op)) for op in part.ops]),
+    ), ""]
+
+
+def visit(part, ty, code, results):
+    it = "it" if part.key else "_it"
+    return [*filled("arms/visits.rt", trait=part.group.trait, mark=part.mark, type=ty, code=code, it=it, results=results), ""]
 
 
 def visits(part):
     values = ", ".join(values_of(part.key))
     results = [(op.hex(), f"v.{op.visit}({values})") for op in part.ops]
-    return [f"impl<V: {part.group.trait}> At<V, {part.mark}, {part.type}> for Own {{", *method(part, "at", "v: &mut V, ", "V::Output", results)]
+    return visit(part, part.type, "_code" if part.is_one else "code", closed(results))
 
 
 def only(part):
@@ -167,30 +174,17 @@ def only(part):
 
 
 def only_visit(part):
-    it = "it" if part.key else "_it"
-    return [
-        f"impl<V: {part.group.trait}> At<V, {part.mark}, {only(part)}> for Own {{",
-        "    #[inline(always)]",
-        f"    fn at(v: &mut V, _code: u32, {it}: {only(part)}) -> V::Output {{",
-        f"        v.{part.ops[0].visit}({', '.join(values_of(part.key, 'it.0'))})",
-        "    }",
-        "}",
-        "",
-    ]
+    return visit(part, only(part), "_code", [f"v.{part.ops[0].visit}({', '.join(values_of(part.key, 'it.0'))})"])
 
 
 def alignment(part):
-    return [
-        "/// Returns the natural alignment as an exponent.",
-        "#[inline(always)]",
-        f"fn align_of_{part.title}(code: u32) -> u8",
-        f"    requires {{ HasKindsAt {part.place} code (λ bound. {kinds(part.key, 'bound').replace('kind.', 'MemArgKind.')}) }}",
-        f"    ensures {{ result ≡ align_at {part.place} code }}",
-        "{",
-        *[line.removeprefix("    ") for line in closed([(op.hex(), op.align) for op in by_alignment(part)])],
-        "}",
-        "",
-    ]
+    return [*filled(
+        "arms/alignment.rt",
+        title=part.title,
+        place=part.place,
+        kinds=kinds(part.key, "bound").replace("kind.", "MemArgKind."),
+        aligns=closed([(op.hex(), op.align) for op in by_alignment(part)]),
+    ), ""]
 
 
 # ---- arms
@@ -218,90 +212,62 @@ def arms(those, code="code", takes=lambda op: True, call=call):
 
 def alias(group, types, lists=()):
     """Returns the trait of the routes through a group, and the two routes."""
-    mark = group.mark
-    every = " + ".join([f"At<V, {mark}, {ty}>" for ty in types] + [f"AtList<V, {ty}>" for ty in lists])
-    return [
-        *doc(f"A route for {group.short}."),
-        f"pub trait At{mark}<V: Visitor>: {every} {{}}",
-        "",
-        f"impl<V: {group.trait}> At{mark}<V> for Own {{}}",
-        "",
-        f"impl<V: Visitor> At{mark}<V> for ByAny {{}}",
-        "",
-    ]
+    every = " + ".join([f"At<V, {group.mark}, {ty}>" for ty in types] + [f"AtList<V, {ty}>" for ty in lists])
+    return [*filled("arms/alias.rt", doc=doc(f"A route for {group.short}."), mark=group.mark, trait=group.trait, every=every), ""]
 
 
-PARAMS = "v: &mut V, reader: &mut BinaryReader<'_>, start: usize, code: u32"
-OWN_PARAMS = "alloc: Global, v: &mut V, reader: &mut BinaryReader<'_>, start: usize, frame: FrameKind, code: u8"
-
-
-def prefixed_head(group, name, params, text):
-    half = [f"    requires half {{ {group.condition} }}"] if group.condition else []
-    return [
-        *doc(text),
-        "#[inline(always)]",
-        f"pub fn {name}<{params}>({PARAMS}) -> Result<V::Output>",
-        f"    requires after {{ IsAfterCode start (Some 0x{group.prefix}) code reader.old }}",
-        *half,
-        "    ensures { (frame : FrameKind) → DecodesAt V.visits frame start result reader.old reader.new v.old v.new }",
-        "{",
-    ]
+def prefixed_function(group, name, parameters, does, body):
+    """Returns a function of a group with a prefix byte."""
+    return [*filled(
+        "arms/prefixed.rt",
+        doc=doc(f"Reads the immediates of {singular(group.short)} and {does}."),
+        name=name,
+        parameters=parameters,
+        prefix=group.prefix,
+        half=[f"    requires half {{ {group.condition} }}"] if group.condition else [],
+        body=body,
+    ), ""]
 
 
 def returned(those, group):
     """Returns the function that returns the operator in the type of its group."""
-    return [
-        *doc(f"Reads the immediates of {singular(group.short)} and returns the operator."),
-        "#[inline(always)]",
-        f"pub fn read_{group.module}_operator(reader: &mut BinaryReader<'_>, start: usize, code: u32) -> Result<{type_name(group)}>",
-        f"    requires after {{ IsAfterCode start (Some 0x{group.prefix}) code reader.old }}",
-        f"    ensures {{ (frame : FrameKind) → ReadsOperatorAt (λ op. Operator.{group.enum} op) frame start result reader.old reader.new }}",
-        "{",
-        "    match code {",
-        *arms(those, call=read_call),
-        f"        _ => Err(unknown_subopcode(reader, start, 0x{group.prefix}, code)),",
-        "    }", "}", "",
-    ]
+    return [*filled(
+        "arms/returned.rt",
+        doc=doc(f"Reads the immediates of {singular(group.short)} and returns the operator."),
+        module=group.module,
+        type=type_name(group),
+        prefix=group.prefix,
+        enum=group.enum,
+        arms=arms(those, call=read_call),
+    ), ""]
 
 
 def prefixed_body(those, group):
-    unknown = f"Err(unknown_subopcode(reader, start, 0x{those[0].prefix}, code))"
+    unknown = f"Err(unknown_subopcode(reader, start, 0x{group.prefix}, code))"
     if group.enum != "Simd":
-        return ["    match code {", *arms(those), f"        _ => {unknown},", "    }", "}", ""]
+        return ["match code {", *arms(those), f"_ => {unknown},", "}"]
     (bare,) = [part for part in those if part.has_table]
-    out = ["    if has_no_immediates(code) {", f"        return {call(bare, 'code')};", "    }"]
+    out = ["if has_no_immediates(code) {", f"return {call(bare, 'code')};", "}"]
     others = arms([part for part in those if not part.has_table])
     if not others:
-        return [*out, f"    {unknown}", "}", ""]
-    return [*out, "    match code {", *others[:-1], f"        _ => {others[-1].partition(' => ')[2]}", "    }", "}", ""]
+        return [*out, unknown]
+    return [*out, "match code {", *others[:-1], f"_ => {others[-1].partition(' => ')[2]}", "}"]
 
 
 def prefixed(those, group):
     """Returns the functions of a group with a prefix byte: by the visitor's visits, and by any route."""
     name = group.module
-    visited = f"Reads the immediates of {singular(group.short)} and"
     return [
-        *prefixed_head(group, name, f"V: {group.trait}", f"{visited} visits it."),
-        f"    {name}_by::<V, Own>(v, reader, start, code)",
-        "}",
-        "",
-        *prefixed_head(group, f"{name}_by", f"V: Visitor, R: At{group.mark}<V>", f"{visited} passes them to `R`."),
-        *prefixed_body(those, group),
+        *prefixed_function(group, name, f"V: {group.trait}", "visits it", [f"{name}_by::<V, Own>(v, reader, start, code)"]),
+        *prefixed_function(group, f"{name}_by", f"V: Visitor, R: At{group.mark}<V>", "passes them to `R`", prefixed_body(those, group)),
         *(returned(those, group) if group.is_returned else []),
         *alias(group, [part.type for part in those]),
     ]
 
 
-def own_head(name, params, text):
-    return [
-        *doc(text),
-        "#[inline(always)]",
-        f"pub fn {name}<{params}>({OWN_PARAMS}) -> Result<V::Output>",
-        "    requires after { IsAfterCode start None code reader.old }",
-        "    requires apart { IsOneByteCode code }",
-        "    ensures { DecodesAt V.visits frame start result reader.old reader.new v.old v.new }",
-        "{",
-    ]
+def own_function(group, name, parameters, does, body):
+    text = f"Reads the immediates of {singular(group.short)} and {does}"
+    return [*filled("arms/own.rt", doc=doc(text), name=name, parameters=parameters, body=body), ""]
 
 
 def one_byte(ops, those, group):
@@ -309,47 +275,31 @@ def one_byte(ops, those, group):
     singles = alone(ops, group)
     common = [part for part in those if any(op.is_common for op in part.free)]
     with_lists = {op.code: type_of(op.forms) for op in group.of(ops) if has_list_arm(op)}
-    every = alias(group, [*[part.type for part in those], *map(only, singles)], dict.fromkeys(with_lists.values()))
     guarded = [op for op in group.of(ops) if op.has_guard]
-    read = f"Reads the immediates of {singular(group.short)} and"
-    return [
-        *own_head(ONE_CALL, f"V: {group.trait}", f"{read} visits it. Common operators are inlined."),
-        f"    {ONE_CALL}_by::<V, Own>(alloc, v, reader, start, frame, code)", "}", "",
-        *own_head(f"{ONE_CALL}_by", "V: Visitor, R: AtOneByte<V>", f"{read} passes them to `R`. Common operators are inlined."),
-        "    match code {",
+    common_arms = [
         *arms(common, "code as u32", lambda op: op.is_common),
-        *[f"        {part.ops[0].hex()} => {call(part, part.ops[0].hex(), only(part))}," for part in singles],
-        f"        _ => {OTHERS_CALL}_by::<V, R>(alloc, v, reader, start, frame, code),", "    }", "}", "",
-        *own_head(f"{EVERY_CALL}_by", "V: Visitor, R: AtOneByte<V>", f"{read} passes them to `R`. Every operator has an arm here."),
-        "    match code {",
-        *arms(those, "code as u32"),
-        *[f"        {op.hex()} => guarded_arm::<V, {type_of(op.forms)}, R>(v, reader, start, frame, {op.hex()}, Guard::{op.name})," for op in guarded],
-        *[f"        0x{code:02x} => list_arm::<V, {ty}, R>(alloc, v, reader, start, 0x{code:02x})," for code, ty in with_lists.items()],
-        "        _ => Err(unknown_opcode(reader, start, code)),", "    }", "}", "",
-        *every,
+        *[f"{part.ops[0].hex()} => {call(part, part.ops[0].hex(), only(part))}," for part in singles],
+        f"_ => {OTHERS_CALL}_by::<V, R>(alloc, v, reader, start, frame, code),",
     ]
-
-
-def numeric_head(name, params, text):
+    every_arm = [
+        *arms(those, "code as u32"),
+        *[f"{op.hex()} => guarded_arm::<V, {type_of(op.forms)}, R>(v, reader, start, frame, {op.hex()}, Guard::{op.name})," for op in guarded],
+        *[f"0x{code:02x} => list_arm::<V, {ty}, R>(alloc, v, reader, start, 0x{code:02x})," for code, ty in with_lists.items()],
+        "_ => Err(unknown_opcode(reader, start, code)),",
+    ]
+    by_visits = [f"{ONE_CALL}_by::<V, Own>(alloc, v, reader, start, frame, code)"]
+    by_route, inlined = "V: Visitor, R: AtOneByte<V>", "Common operators are inlined."
     return [
-        *doc(text),
-        "#[inline(always)]",
-        f"pub fn {name}<{params}>(v: &mut V, code: u8) -> V::Output",
-        f"    requires from {{ 0x{NUMERIC[0]:02x} ≤ code }}",
-        f"    requires to {{ code ≤ 0x{NUMERIC[-1]:02x} }}",
-        "    ensures { VisitsRow V.visits None code [] v.old result v.new }",
-        "{",
+        *own_function(group, ONE_CALL, f"V: {group.trait}", f"visits it. {inlined}", by_visits),
+        *own_function(group, f"{ONE_CALL}_by", by_route, f"passes them to `R`. {inlined}", ["match code {", *common_arms, "}"]),
+        *own_function(group, f"{EVERY_CALL}_by", by_route, "passes them to `R`. Every operator has an arm here.", ["match code {", *every_arm, "}"]),
+        *alias(group, [*[part.type for part in those], *map(only, singles)], dict.fromkeys(with_lists.values())),
     ]
 
 
 def numeric(group):
     """Returns the functions of the numeric operators, which have no immediates."""
-    return [
-        *numeric_head("numeric", f"V: {group.trait}", "Visits the numeric operator with this opcode."),
-        "    numeric_by::<V, Own>(v, code)", "}", "",
-        *numeric_head("numeric_by", f"V: Visitor, R: At<V, {group.mark}, ()>", "Passes the numeric operator with this opcode to `R`."),
-        "    R::at(v, code as u32, ())", "}", "",
-    ]
+    return [*filled("arms/numeric.rt", trait=group.trait, mark=group.mark, first=FROM, last=TO), ""]
 
 
 def group_text(ops, group):

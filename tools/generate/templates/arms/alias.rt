@@ -1,0 +1,6 @@
+$doc
+pub trait At$mark<V: Visitor>: $every {}
+
+impl<V: $trait> At$mark<V> for Own {}
+
+impl<V: Visitor> At$mark<V> for ByAny {}
