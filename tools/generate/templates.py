@@ -1,5 +1,6 @@
 """Fills in the templates of generated files, which are in the folder `templates`."""
 
+import re
 from pathlib import Path
 from string import Template
 
@@ -21,3 +22,24 @@ def filled(template, /, **values):
 def filled_file(template, /, **values):
     """Returns the text of a file that is one template."""
     return "\n".join(filled(template, **values)) + "\n"
+
+
+def occurs(name, text):
+    if name.startswith("◌"):
+        return f" {name.strip('◌')} " in text
+    return re.search(rf"(?<![\w:.]){re.escape(name)}(?!\w)", text) is not None
+
+
+def used(lines, text):
+    """Keeps in `use` lines the names that occur in a text, and leaves out the lines without such names."""
+    out = []
+    for line in lines:
+        found = re.fullmatch(r"((?:ghost )?use (?:.*[ .:])?)(?:\{(.*)\}|(\w+))(;?)", line)
+        if found is None:
+            out.append(line)
+        elif found[2]:
+            names = ", ".join(it for it in found[2].split(", ") if occurs(it, text))
+            out += [f"{found[1]}{{{names}}}{found[4]}"] if names else []
+        elif occurs(found[3], text):
+            out.append(line)
+    return out

@@ -1,0 +1,4 @@
+$doc
+pub struct $name<R> {
+    others: PhantomData<R>,
+}
