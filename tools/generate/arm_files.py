@@ -8,6 +8,7 @@ from arms import (
 from immediates import FORMS, KIND_WORDS, ROW_WORDS, kinds_term
 from parts import runs
 from table import ENUMS, HEAD, SIMD_HALF
+from templates import filled, filled_file, used
 from visits import GROUPS, type_name
 
 CRATE = "crates/wasm_decode_groups"
@@ -16,55 +17,38 @@ CRATE = "crates/wasm_decode_groups"
 # ---- sources
 
 
-def named(names, text):
-    """Returns the names that occur in the text as whole words."""
-    return [it for it in names if re.search(rf"(?<![\w:]){re.escape(it)}(?!\w)", text)]
-
-
-def read_types(crate):
-    """Returns the types that are read and that this crate defines."""
-    return dict.fromkeys(kind.read for kind in FORMS.values() if kind.read_crate == crate)
+def names(crate, *more):
+    """Returns the types that are read and that this crate defines, and further names, as in a `use` line."""
+    return ", ".join(sorted({kind.read for kind in FORMS.values() if kind.read_crate == crate} | set(more)))
 
 
 def source(ops, group):
     text = group_text(ops, group)
     is_own = group.enum == "Own"
-    prelude = [f"◌{it}◌" for it in "≡≤<" if f" {it} " in text] + (["[]"] if " [] " in text else named(["[]"], text)) + (["◌∷◌"] if " ∷ " in text else [])
-    prelude += ["Some" if group.prefix else "None"]
-    words = named(ROW_WORDS + KIND_WORDS, "\n".join(line for line in text.split("\n") if "{ " in line))
-    words = [it for it in words if it.startswith("is_")]
-    marks = [it.mark for it in GROUPS if it.module != "one_byte"]
-    here = named(["At", "Maker", "Makes", "arm", *marks], text)
-    opcodes = named([*read_types("wasm_decode_opcodes"), "Guard", "Only", "unknown_opcode", "unknown_subopcode"], text)
-    imm = named(sorted([*read_types("wasm_imm"), "MemArgKind"]), text)
-    below = named(sorted([*read_types("wasm_below"), "BinaryReader", "Result"]), text)
-    specs = named(["HasKindsAt", "ReadsOperatorAt"], text)
-    lines = [
-        f"//! Decoding of {group.short.removeprefix('the ')}. {HEAD}",
-        f"ghost use Rattle.std.specs.Prelude.{{{', '.join(prelude)}}};",
-        *(["ghost use Rattle.wasm_grammar.specs.declared.frame_kind.FrameKind.{FrameKind};"] if "FrameKind" in text else []),
-        *(["ghost use Rattle.wasm_instr.specs.declared.operator.Operator.{Operator};"] if group.is_returned else []),
-        *([f"ghost use Rattle.wasm_instr.specs.Immediate.{{{', '.join(words)}}};"] if words else []),
-        f"ghost use Rattle.wasm_decode_opcodes.specs.Decoding.{{{', '.join(named(['DecodesAt', 'IsAfterCode', 'VisitsRow'], text))}}};",
-        *(["ghost use Rattle.wasm_decode_opcodes.specs.Entries.{align_at};"] if "align_at" in text else []),
-        *([f"ghost use Rattle.wasm_decode_groups.specs.Arms.{{{', '.join(specs)}}};"] if specs else []),
-        *(["ghost use Rattle.wasm_decode_groups.specs.OneByte.{IsOneByteCode};"] if is_own else []),
-        "",
-        f"use crate::arm::{{{', '.join(sorted(here))}}};",
-        *(["use crate::one_byte_arms::{AtList, OneByte, guarded_arm, list_arm};", "use crate::out_of_line::other_one_byte_by;", "use std::alloc::Global;", "use wasm_grammar::FrameKind;"] if is_own else []),
-        *(["use crate::read_arm::read_arm;"] if group.is_returned else []),
-        *(["use crate::vectors_without_immediates::has_no_immediates;"] if "has_no_immediates(" in text else []),
-        *([f"use wasm_below::{{{', '.join(below)}}};"] if below else []),
-        *([f"use wasm_imm::{{{', '.join(imm)}}};"] if imm else []),
-        f"use wasm_instr::{{{type_name(group)}}};",
-        *([f"use wasm_decode_opcodes::{{{', '.join(sorted(opcodes))}}};"] if opcodes else []),
-        f"use wasm_visit_groups::{{{', '.join([*named(['ByAny', 'Own'], text), group.trait, 'Visitor'])}}};",
-        "",
-    ]
-    return "\n".join([*lines, text])
+    terms = "\n".join(line for line in text.split("\n") if "{ " in line)
+    uses = filled(
+        "arm_files/source.rt",
+        short=group.short.removeprefix("the "),
+        prefix="Some" if group.prefix else "None",
+        ghost_operator=["ghost use Rattle.wasm_instr.specs.declared.operator.Operator.{Operator};"] if group.is_returned else [],
+        words=", ".join(it for it in dict.fromkeys(ROW_WORDS + KIND_WORDS) if it.startswith("is_")),
+        marks=", ".join(sorted(it.mark for it in GROUPS if it.module != "one_byte")),
+        frame_kind=["use wasm_grammar::FrameKind;"] if is_own else [],
+        below=names("wasm_below", "BinaryReader", "Result"),
+        imm=names("wasm_imm", "MemArgKind"),
+        type=type_name(group),
+        opcodes=names("wasm_decode_opcodes", "Guard", "Only", "unknown_opcode", "unknown_subopcode"),
+        trait=group.trait,
+    )
+    return "\n".join([*used(uses, text), "", text])
 
 
 # ---- codes
+
+
+def named(names, text):
+    """Returns the names that occur in the text as whole words."""
+    return [it for it in names if re.search(rf"(?<![\w:]){re.escape(it)}(?!\w)", text)]
 
 
 def test_name(key):

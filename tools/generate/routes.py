@@ -129,24 +129,15 @@ def passed_proof(group, kind):
     own = group.enum == "Own"
     if group.enum == "Numeric" or own and kind == "RefMut":
         return {}
-    frame, given, ensures = ("c.args.frame", "g c", "") if own else ("k", "g c k", " k")
+    frame, given = ("c.args.frame", "g c") if own else ("k", "g c k")
     call = f"c.decode_{group.module}"
+    if kind == "Box":
+        template, decoded = "routes/through_box.antt", f"{call}.ensures" if own else f"({call}.ensures k)"
+    else:
+        template, decoded = "routes/through_reference.antt", f"{call}.ensures k"
     path = f"routes.{group.module}.ThroughRoute{group.mark}{kind}.decode"
     relation = f"g.V.Visitor.visits (EncodesAllowed r.features {frame}) (OperatorFault r.features {frame}) {call}.result (at_position r c.args.start) {call}.new.reader"
-    decoded = f"{call}.ensures{ensures}"
-    boxed = kind == "Box"
-    if boxed:
-        decoded = f"subst (λ v. Decodes {relation} v {call}.new.self) c.deref_mut.ensures.value {f'({decoded})' if ensures else decoded}"
-    lemma = "through_box" if boxed else "through_reference"
-    body = [
-        "pub returns : goal.returns",
-        f"returns {given} =",
-        "    let r = c.args.reader.now in",
-        f"    {lemma} {relation} c.args.v.now {call}.new.self",
-        f"    ({decoded})",
-    ]
-    uses = used(filled("routes/passed.antt", lemma=lemma, path=path), "\n".join(body))
-    return {f"{CRATE}/proofs/{path.replace('.', '/')}/Answers.antt": "\n".join([*uses, "", *body]) + "\n"}
+    return {f"{CRATE}/proofs/{path.replace('.', '/')}/Answers.antt": filled_file(template, path=path, given=given, relation=relation, call=call, decoded=decoded)}
 
 
 def route_files():
