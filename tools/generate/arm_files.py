@@ -9,7 +9,7 @@ from immediates import FORMS, KIND_WORDS, ROW_WORDS, kinds_term
 from parts import runs
 from table import ENUMS, HEAD, SIMD_HALF
 from templates import filled, filled_file, used
-from visits import GROUPS, type_name
+from visits import GROUPS, HALF, type_name
 
 CRATE = "crates/wasm_decode_groups"
 
@@ -25,7 +25,6 @@ def names(crate, *more):
 def source(ops, group):
     text = group_text(ops, group)
     is_own = group.enum == "Own"
-    terms = "\n".join(line for line in text.split("\n") if "{ " in line)
     uses = filled(
         "arm_files/source.rt",
         short=group.short.removeprefix("the "),
@@ -70,36 +69,40 @@ def entries_name(part):
 
 def codes_lemma(part):
     """Returns the lemma that only the codes of a part have its kinds."""
-    codes, tested = ranges([op.code for op in part.alike]), test_name(part.key)
-    return [
-        f"pub {part.lemma}_codes : (code : ℕ) → HasKindsAt {part.place} code (λ bound. {kinds(part.key, 'bound')}) → InRanges code ({codes})",
-        f"{part.lemma}_codes code h = codes_in (λ e. {tested} (entry_kinds e)) ({codes}) {entries_name(part)} code refl refl (ap {tested} h)",
-        "",
-    ]
+    return [*filled(
+        "arm_files/codes_of_kinds.antt",
+        lemma=part.lemma,
+        place=part.place,
+        kinds=kinds(part.key, "bound"),
+        codes=ranges([op.code for op in part.alike]),
+        test=test_name(part.key),
+        entries=entries_name(part),
+    ), ""]
 
 
 def arm_lemmas(part):
     """Returns the lemmas that the codes of a part have its kinds."""
-    name, place = part.lemma, part.place
     if part.has_table:
-        return [
-            f"pub {name}_arm : (code : ℕ) → entry_at {place} code ≡ free [] → HasArm {place} code [] 0",
-            f"{name}_arm code e = (e, sym (ap align_in e))",
-            "",
-        ]
-    bound = f"(align_at {place} code)" if part.has_align else "0"
-    has = f"HasArm {place} code ({kinds(part.key, bound)}) {bound}"
+        return [*filled("arm_files/arm_in_table.antt", lemma=part.lemma, place=part.place), ""]
+    bound = f"(align_at {part.place} code)" if part.has_align else "0"
+    has = f"HasArm {part.place} code ({kinds(part.key, bound)}) {bound}"
     found = [run for run in runs([op.code for op in part.free]) if run[0] < run[1]]
-    out = [f"abbrev {name}_at : ℕ → Type 0", f"{name}_at code = {has}", ""] if found else []
+    out = [f"abbrev {part.lemma}_at : ℕ → Type 0", f"{part.lemma}_at code = {has}", ""] if found else []
     for first, last in found:
         every = "tt"
         for _ in range(first, last + 1):
             every = f"((refl, refl), {every})"
-        out += [
-            f"pub {name}_{first:02x} : (code : ℕ) → 0x{first:02x} ≤ code → code ≤ 0x{last:02x} → {has}",
-            f"{name}_{first:02x} code from to = in_run {name}_at {last - first + 1} 0x{first:02x} code {every} from (omega arith)",
-            "",
-        ]
+        out += filled(
+            "arm_files/arm_of_run.antt",
+            lemma=part.lemma,
+            number=f"{first:02x}",
+            first=f"0x{first:02x}",
+            last=f"0x{last:02x}",
+            has=has,
+            count=last - first + 1,
+            every=every,
+        )
+        out.append("")
     return out
 
 
@@ -108,16 +111,8 @@ def unknown_lemma(ops, group):
     part = parts(ops, group)[0]
     known = ranges([op.code for op in ops if op.prefix == part.prefix])
     if part.is_own:
-        return [
-            f"pub one_byte_unknown : (code : ℕ) → (entry_at None code ≡ prefixes → ⊥) → (InRanges code ({known}) → ⊥) → entry_at None code ≡ unknown",
-            f"one_byte_unknown code apart outside = unknown_byte ({known}) opcode_entries code refl apart outside",
-            "",
-        ]
-    return [
-        f"pub {group.module}_unknown : (code : ℕ) → (InRanges code ({known}) → ⊥) → entry_at {part.place} code ≡ unknown",
-        f"{group.module}_unknown code outside = unknown_outside ({known}) {entries_name(part)} code refl outside",
-        "",
-    ]
+        return [*filled("arm_files/unknown_own.antt", known=known), ""]
+    return [*filled("arm_files/unknown.antt", module=group.module, known=known, place=part.place, entries=entries_name(part)), ""]
 
 
 def list_lemmas(ops):
@@ -125,34 +120,19 @@ def list_lemmas(ops):
     for op in filter(has_list_arm, ops):
         found.setdefault((op.combination.list_arm, kinds_term(op.immediates)), set()).add(op.code)
     for (arm, those), codes in found.items():
-        name = f"are_{arm}"
-        out += test(name, those)
-        out += [
-            f"pub {arm}_codes : (code : ℕ) → entry_kinds (entry_at None code) ≡ Some ({those}) → InRanges code ({ranges(codes)})",
-            f"{arm}_codes code h = codes_in (λ e. {name} (entry_kinds e)) ({ranges(codes)}) opcode_entries code refl refl (ap {name} h)",
-            "",
-        ]
+        out += test(f"are_{arm}", those)
+        out += [*filled("arm_files/codes_with_list.antt", arm=arm, kinds=those, codes=ranges(codes)), ""]
     return out
 
 
 def simd_lemmas(ops):
     """Returns the lemmas on the codes of SIMD operators with immediates, and on the codes below `SIMD_HALF`, which all have an operator."""
     those = [part for group in GROUPS if group.enum == "Simd" for part in parts(ops, group)]
-    others = ranges([op.code for part in those if not part.has_table for op in part.ops])
     each = "tt"
     for _ in range(SIMD_HALF):
         each = f"(refl, {each})"
-    return [
-        "abbrev pub simd_other_codes : List (ℕ × ℕ)",
-        f"simd_other_codes = {others}",
-        "",
-        "pub simd_others : (code : ℕ) → is_other (entry_at (Some 0xfd) code) ≡ true → InRanges code simd_other_codes",
-        "simd_others code other = codes_in is_other simd_other_codes simd_entries code refl refl other",
-        "",
-        f"pub simd_low_known : (code : ℕ) → code < 0x{SIMD_HALF:02x} → is_known (entry_at (Some 0xfd) code) ≡ true",
-        f"simd_low_known code low = in_run (λ c. is_known (entry_at (Some 0xfd) c) ≡ true) 0x{SIMD_HALF:02x} 0 code {each} (omega arith) (omega (arith, low))",
-        "",
-    ]
+    others = ranges([op.code for part in those if not part.has_table for op in part.ops])
+    return filled("arm_files/simd.antt", others=others, half=HALF, each=each)
 
 
 def codes_file(ops):
@@ -169,22 +149,7 @@ def codes_file(ops):
             body += list_lemmas(ops)
     body += simd_lemmas(ops)
     text = "\n".join(body)
-    common = ["◌≡◌", "ℕ", *[f"◌{it}◌" for it in "<≤" if f" {it} " in text], "Bool", "true", "false", "List", "[]", "◌∷◌", "Option", "Some", *named(["None", "refl", "sym"], text), "ap", "arith"]
-    entries = named(["opcode_entries", "gc_entries", "misc_entries", "simd_entries", "atomic_entries"], text)
-    return "\n".join([
-        f"-- {HEAD}",
-        "-- The codes whose entries have these kinds, by groups.",
-        f"use Rattle.std.proofs.Common.{{{', '.join(common)}}}",
-        *(["use Rattle.wasm_imm.specs.declared.memory_argument.MemArgKind.TheVariants as kind"] if "kind." in text else []),
-        f"use Rattle.wasm_instr.specs.Immediate.{{Kind, {', '.join(named(KIND_WORDS, text))}}}",
-        f"use Rattle.wasm_decode_opcodes.specs.Entry.{{{', '.join(named(['unknown', 'prefixes', 'free', 'entry_kinds', 'align_in'], text))}}}",
-        f"use Rattle.wasm_decode_opcodes.specs.Entries.{{{', '.join([*entries, 'entry_at', *named(['align_at'], text)])}}}",
-        "use Rattle.wasm_decode_groups.specs.Arms.{HasArm, HasKindsAt}",
-        f"use Rattle.wasm_decode_groups.proofs.Ranges.{{{', '.join(['InRanges', 'codes_in', 'unknown_outside', 'unknown_byte', 'in_run', 'is_known', 'is_other'])}}}",
-        "",
-        text.rstrip(),
-        "",
-    ])
+    return "\n".join([*used(filled("arm_files/Codes.antt", kinds=", ".join(KIND_WORDS)), text), "", text]) + "\n"
 
 
 # ---- proofs
