@@ -184,29 +184,16 @@ def last_code(part, given):
 def proof(part, path, lines):
     text = "\n".join(lines)
     enum = part.ops[0].group
-    folder = next((it.part for it in ENUMS if it.group == enum), "")
-    common = named(["[]", "None", "Some", "refl", "subst", "ap", "arith"], text)
-    common += [f"◌{it}◌" for it in ("≡", "∷", "≤", "<") if it in text]
-    words = named(ROW_WORDS, text.replace("c.", "@."))
-    if "to_z" in text:
-        common += ["rules", *named(["w32", "w64"], text), "to_z", "of_z"]
-    return "\n".join([
-        f"-- {HEAD}",
-        f"use Rattle.std.proofs.Common.{{{', '.join(common)}}}",
-        *(["use Rattle.std.proofs.lemmas.Int.{to_z-of_z}", "use mir.Val.{SFits}"] if "to_z" in text else []),
-        *(["use Rattle.wasm_imm.specs.declared.memory_argument.MemArgKind.TheVariants as kind"] if "kind." in text else []),
-        *(["use Rattle.wasm_instr.specs.declared.operator.Operator.TheVariants as operator"] if "operator." in text else []),
-        *([f"use Rattle.wasm_instr.specs.{folder}.{enum.lower()}.{enum}Operator.TheVariants as {enum.lower()}"] if f"({enum.lower()}." in text else []),
-        *([f"use Rattle.wasm_instr.specs.Immediate.{{{', '.join(words)}}}"] if words else []),
-        *(["use Rattle.wasm_decode_opcodes.specs.Decoding.{VisitsRow}"] if "VisitsRow" in text else []),
-        *(["use Rattle.wasm_decode_opcodes.specs.Entries.{align_at}"] if "align_at" in text else []),
-        *(["use Rattle.wasm_decode_groups.specs.Arms.{IsRow}"] if "IsRow" in text else []),
-        *([f"use Rattle.wasm_decode_groups.proofs.Codes.{{{part.lemma}_codes}}"] if "_codes " in text else []),
-        f"use Rattle.wasm_decode_groups.proofs.{path}.Goals as goal",
-        "",
-        text,
-        "",
-    ])
+    uses = filled(
+        "arm_files/proof_of_part.antt",
+        folder=next((it.part for it in ENUMS if it.group == enum), ""),
+        module=enum.lower(),
+        enum=enum,
+        words=", ".join(ROW_WORDS),
+        lemma=part.lemma,
+        path=path,
+    )
+    return "\n".join([*used(uses, text), "", text]) + "\n"
 
 
 def is_signed(part):
@@ -244,21 +231,16 @@ def makes_proof(part, path):
 
 def alignment_proof(part, path):
     last = by_alignment(part)[-1]
-    goal = "returns" if part.is_one else "returns-in_default"
-    return "\n".join([
-        f"-- {HEAD}",
-        f"use Rattle.std.proofs.Common.{{refl, subst, {'Some' if part.prefix else 'None'}, arith, ◌≡◌}}",
-        "use Rattle.wasm_decode_opcodes.specs.Entries.{align_at}",
-        f"use Rattle.wasm_decode_groups.proofs.Codes.{{{part.lemma}_codes}}",
-        f"use Rattle.wasm_decode_groups.proofs.{path}.Goals as goal",
-        "",
-        f"pub {goal} : goal.{goal}",
-        f"{goal} c =",
-        f"    let h = {part.lemma}_codes c.args.code c.requires in",
-        f"    let same : {last.hex()} ≡ c.args.code = first_of (omega (arith, h), grind (arith, h)) in",
-        f"    subst (λ k. {last.align} ≡ align_at {part.place} k) same refl",
-        "",
-    ])
+    return filled_file(
+        "arm_files/alignment.antt",
+        prefix="Some" if part.prefix else "None",
+        lemma=part.lemma,
+        path=path,
+        goal="returns" if part.is_one else "returns-in_default",
+        last=last.hex(),
+        align=last.align,
+        place=part.place,
+    )
 
 
 def run_name(run):
@@ -294,19 +276,8 @@ def run_proofs(those, takes, bare):
 
 def group_proof(path, body, names):
     text = "\n".join(body)
-    return "\n".join([
-        f"-- {HEAD}",
-        f"use Rattle.std.proofs.Common.{{{', '.join([*named(['[]', 'None', 'Some', 'refl', 'sym', 'subst', 'ap', 'arith'], text), *[f'◌{it}◌' for it in '∷∙' if it in text]])}}}",
-        *(["use Rattle.wasm_imm.specs.declared.memory_argument.MemArgKind.TheVariants as kind"] if "kind." in text else []),
-        *([f"use Rattle.wasm_instr.specs.Immediate.{{{', '.join(named(KIND_WORDS, text))}}}"] if named(KIND_WORDS, text) else []),
-        *(["use Rattle.wasm_decode_opcodes.specs.Entry.{entry_kinds}"] if "entry_kinds" in text else []),
-        *(["use Rattle.wasm_decode_groups.specs.Arms.{HasArm}"] if "HasArm" in text else []),
-        *([f"use Rattle.wasm_decode_groups.proofs.Codes.{{{', '.join(dict.fromkeys(names))}}}"] if names else []),
-        *([f"use Rattle.wasm_decode_groups.proofs.WithoutImmediates.{{{', '.join(named(['others', 'no_operator'], text))}}}"] if named(["others", "no_operator"], text) else []),
-        f"use Rattle.wasm_decode_groups.proofs.{path}.Goals as goal",
-        "",
-        text,
-    ])
+    uses = filled("arm_files/proof_of_group.antt", kinds=", ".join(KIND_WORDS), lemmas=", ".join(dict.fromkeys(names)), path=path)
+    return "\n".join([*used(uses, text), "", text])
 
 
 def has_single(those):
