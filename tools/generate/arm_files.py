@@ -7,7 +7,7 @@ from arms import (
 )
 from immediates import FORMS, KIND_WORDS, ROW_WORDS, kinds_term
 from parts import runs
-from table import ENUMS, HEAD, SIMD_HALF
+from table import ENUMS, SIMD_HALF
 from templates import filled, filled_file, used
 from visits import GROUPS, HALF, type_name
 
@@ -43,11 +43,6 @@ def source(ops, group):
 
 
 # ---- codes
-
-
-def named(names, text):
-    """Returns the names that occur in the text as whole words."""
-    return [it for it in names if re.search(rf"(?<![\w:]){re.escape(it)}(?!\w)", text)]
 
 
 def test_name(key):
@@ -243,6 +238,10 @@ def alignment_proof(part, path):
     )
 
 
+def proved(goal, given, proof):
+    return [f"pub {goal} : goal.{goal}", f"{goal} {given} = {proof}", ""]
+
+
 def run_name(run):
     first, last = run
     return f"in-{first}" if first == last else f"in-{first}-to-{last}"
@@ -262,15 +261,14 @@ def run_proofs(those, takes, bare):
             found = f"{names[-1]} c.args.code (omega (arith, {here})) (omega (arith, {here}))"
             place = f"-{run_name(run)}" if bare else ""
             bare = True
-            goal = f"arm-requires{place}-clause-kinds"
             if part.has_align:
                 align = f"align_of_{part.title}"
                 first = "" if align not in aligned else f"-{run_name(run)}"
                 aligned.add(align)
-                out += [f"pub {align}-requires{first} : goal.{align}-requires{first}", f"{align}-requires{first} g c = ap entry_kinds ({found}).0", ""]
+                out += proved(f"{align}-requires{first}", "g c", f"ap entry_kinds ({found}).0")
                 has = f"HasArm {part.place} c.args.code ({kinds(part.key, 'z')}) z"
                 found = f"subst (λ z. {has}) (sym c.{align}{first}.ensures) ({found})"
-            out += [f"pub {goal} : goal.{goal}", f"{goal} g c = {found}", ""]
+            out += proved(f"arm-requires{place}-clause-kinds", "g c", found)
     return out, names
 
 
@@ -288,11 +286,11 @@ def prefixed_proof(ops, group):
     those = [part for part in parts(ops, group) if not part.has_table]
     body, names = run_proofs(those, lambda op: True, has_single(those) or group.enum == "Simd")
     path = f"{group.module}_operators.{group.module}_by"
-    goal = "unknown_subopcode-requires-clause-unknown"
+    unknown = "unknown_subopcode-requires-clause-unknown"
     if group.enum != "Simd":
         names.append(f"{group.module}_unknown")
-        body += [f"pub {goal} : goal.{goal}", f"{goal} g c = {names[-1]} c.args.code (λ h. grind (arith, h))", ""]
-        body += ["pub returns-in_default : goal.returns-in_default", "returns-in_default g c k = (refl, c.unknown_subopcode.ensures k)", ""]
+        body += proved(unknown, "g c", f"{names[-1]} c.args.code (λ h. grind (arith, h))")
+        body += proved("returns-in_default", "g c k", "(refl, c.unknown_subopcode.ensures k)")
         return group_proof(path, body, names)
     exact = "c.has_no_immediates.ensures.exact"
     (bare,) = [part for part in parts(ops, group) if part.has_table]
@@ -301,15 +299,13 @@ def prefixed_proof(ops, group):
         # the last arm has all other codes: what the table leaves
         last = next(line for line in reversed(body) if line.startswith("pub arm-requires-")).split()[1]
         at = body.index(f"pub {last} : goal.{last}")
-        goal = "arm-requires-in_default-clause-kinds"
         left = f"others c.args.code (omega (arith, c.requires.half)) (sym {exact} ∙ c.if-has_no_immediates.false)"
-        body[at:at + 2] = [f"pub {goal} : goal.{goal}", f"{goal} g c = let h = {left} in {names[-2]} c.args.code (grind (arith, h)) (grind (arith, h))"]
-    first = "arm-requires-clause-kinds"
-    body += [f"pub {first} : goal.{first}", f"{first} g c = {names[-1]} c.args.code (c.has_no_immediates.ensures.without c.if-has_no_immediates.true)", ""]
+        kinds_left = f"let h = {left} in {names[-2]} c.args.code (grind (arith, h)) (grind (arith, h))"
+        body[at:at + 3] = proved("arm-requires-in_default-clause-kinds", "g c", kinds_left)
+    body += proved("arm-requires-clause-kinds", "g c", f"{names[-1]} c.args.code (c.has_no_immediates.ensures.without c.if-has_no_immediates.true)")
     if not those:
-        goal = "unknown_subopcode-requires-clause-unknown"
-        body += [f"pub {goal} : goal.{goal}", f"{goal} g c = no_operator c.args.code c.requires.half (sym {exact} ∙ c.if-has_no_immediates.false)", ""]
-        body += ["pub returns : goal.returns", "returns g c k = (refl, c.unknown_subopcode.ensures k)", ""]
+        body += proved(unknown, "g c", f"no_operator c.args.code c.requires.half (sym {exact} ∙ c.if-has_no_immediates.false)")
+        body += proved("returns", "g c k", "(refl, c.unknown_subopcode.ensures k)")
     return group_proof(path, body, names)
 
 
@@ -326,10 +322,9 @@ def one_byte_proofs(ops, group):
     common = [part for part in those if any(op.is_common for op in part.free)]
     few, few_names = run_proofs(common, lambda op: op.is_common, True)
     body, names = run_proofs(those, lambda op: True, True)
-    goal = "unknown_opcode-requires-clause-unknown"
     apart = "c.requires.apart"
-    body += [f"pub {goal} : goal.{goal}", f"{goal} g c = one_byte_unknown c.args.code {apart}.apart (λ h. grind (arith, h, {apart}.table, {apart}.numeric))", ""]
-    body += ["pub returns-in_default : goal.returns-in_default", "returns-in_default g c = (refl, c.unknown_opcode.ensures c.args.frame)", ""]
+    body += proved("unknown_opcode-requires-clause-unknown", "g c", f"one_byte_unknown c.args.code {apart}.apart (λ h. grind (arith, h, {apart}.table, {apart}.numeric))")
+    body += proved("returns-in_default", "g c", "(refl, c.unknown_opcode.ensures c.args.frame)")
     module = "one_byte_operators"
     return {
         f"{module}.{ONE_CALL}_by": group_proof(f"{module}.{ONE_CALL}_by", few, few_names),
@@ -339,10 +334,10 @@ def one_byte_proofs(ops, group):
 
 def numeric_proof(part):
     """Returns the proof that numeric opcodes have no immediates."""
-    path, group, goal = "numeric_operators.numeric_by", "at-requires-clause-group", "at-requires-clause-kinds"
+    path = "numeric_operators.numeric_by"
     lemma = f"{part.lemma}_{part.ops[0].hex()[2:]}"
-    body = [f"pub {group} : goal.{group}", f"{group} g c = (c.requires.from, c.requires.to)", ""]
-    body += [f"pub {goal} : goal.{goal}", f"{goal} g c = ap entry_kinds ({lemma} c.args.code c.requires.from c.requires.to).0", ""]
+    body = proved("at-requires-clause-group", "g c", "(c.requires.from, c.requires.to)")
+    body += proved("at-requires-clause-kinds", "g c", f"ap entry_kinds ({lemma} c.args.code c.requires.from c.requires.to).0")
     return {path: group_proof(path, body, [lemma])}
 
 
