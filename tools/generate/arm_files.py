@@ -3,12 +3,12 @@
 import re
 
 from arms import (
-    EVERY_CALL, ONE_CALL, by_alignment, group_text, has_list_arm, kinds, listed, parts, places,
+    EVERY_CALL, ONE_CALL, by_alignment, group_lines, has_list_arm, kinds, listed, parts, places,
 )
 from immediates import FORMS, KIND_WORDS, ROW_WORDS, kinds_term
 from parts import runs
 from table import ENUMS, SIMD_HALF
-from templates import filled, filled_file, used
+from templates import filled, filled_file, with_uses
 from visits import GROUPS, HALF, type_name
 
 CRATE = "crates/wasm_decode_groups"
@@ -23,10 +23,10 @@ def names(crate, *more):
 
 
 def source(ops, group):
-    text = group_text(ops, group)
     is_own = group.enum == "Own"
-    uses = filled(
+    return with_uses(
         "arm_files/source.rt",
+        group_lines(ops, group),
         short=group.short.removeprefix("the "),
         prefix="Some" if group.prefix else "None",
         ghost_operator=["ghost use Rattle.wasm_instr.specs.declared.operator.Operator.{Operator};"] if group.is_returned else [],
@@ -39,7 +39,6 @@ def source(ops, group):
         opcodes=names("wasm_decode_opcodes", "Guard", "Only", "unknown_opcode", "unknown_subopcode"),
         trait=group.trait,
     )
-    return "\n".join([*used(uses, text), "", text])
 
 
 # ---- codes
@@ -143,8 +142,7 @@ def codes_file(ops):
         if group.enum == "Own":
             body += list_lemmas(ops)
     body += simd_lemmas(ops)
-    text = "\n".join(body)
-    return "\n".join([*used(filled("arm_files/Codes.antt", kinds=", ".join(KIND_WORDS)), text), "", text]) + "\n"
+    return with_uses("arm_files/Codes.antt", body, kinds=", ".join(KIND_WORDS))
 
 
 # ---- proofs
@@ -177,10 +175,10 @@ def last_code(part, given):
 
 
 def proof(part, path, lines):
-    text = "\n".join(lines)
     enum = part.ops[0].group
-    uses = filled(
+    return with_uses(
         "arm_files/proof_of_part.antt",
+        lines,
         folder=next((it.part for it in ENUMS if it.group == enum), ""),
         module=enum.lower(),
         enum=enum,
@@ -188,7 +186,6 @@ def proof(part, path, lines):
         lemma=part.lemma,
         path=path,
     )
-    return "\n".join([*used(uses, text), "", text]) + "\n"
 
 
 def is_signed(part):
@@ -273,9 +270,7 @@ def run_proofs(those, takes, bare):
 
 
 def group_proof(path, body, names):
-    text = "\n".join(body)
-    uses = filled("arm_files/proof_of_group.antt", kinds=", ".join(KIND_WORDS), lemmas=", ".join(dict.fromkeys(names)), path=path)
-    return "\n".join([*used(uses, text), "", text])
+    return with_uses("arm_files/proof_of_group.antt", body, kinds=", ".join(KIND_WORDS), lemmas=", ".join(dict.fromkeys(names)), path=path)
 
 
 def has_single(those):

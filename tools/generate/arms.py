@@ -302,7 +302,7 @@ def numeric(group):
     return [*filled("arms/numeric.rt", trait=group.trait, mark=group.mark, first=FROM, last=TO), ""]
 
 
-def group_text(ops, group):
+def group_lines(ops, group):
     those = parts(ops, group)
     if group.enum == "Numeric":
         out = numeric(group)
@@ -313,4 +313,4 @@ def group_text(ops, group):
         out += [*makes(part), *visits(part)]
     for part in alone(ops, group):
         out += only_visit(part)
-    return "\n".join(out)
+    return out

@@ -3,7 +3,7 @@
 import textwrap
 
 from table import WIDTH, doc
-from templates import filled, filled_file, used
+from templates import filled, filled_file, with_uses
 from visits import FROM, GROUPS, TO, type_name
 
 CRATE = "crates/wasm_visit"
@@ -110,15 +110,15 @@ def group_file(group):
         ],
         doc_group=doc(f"Visits {group.short} by the route that the visitor names. Every visitor with such a route implements it."),
     )
-    uses = filled(
+    return with_uses(
         "routes/uses.rt",
+        body,
         short=group.short,
         ghost_operator=[] if own else ["ghost use Rattle.wasm_instr.specs.declared.operator.Operator.{Operator};"],
         frame_kind=["use wasm_grammar::FrameKind;"] if own else [],
         types=", ".join(sorted({"Operator", type_name(group)})),
         trait=group.trait,
     )
-    return "\n".join([*used(uses, "\n".join(body)), "", *body]) + "\n"
 
 
 # ---- proofs

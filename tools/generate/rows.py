@@ -3,10 +3,8 @@
 from immediates import ROW_WORDS, VALUE_WORDS
 from source import Shape, fields_name, names_of, shapes
 from table import (
-    HEAD,
     NUMERIC,
     PREFIXES,
-    by_cases,
     enum_uses,
     grouped,
     held,
@@ -17,30 +15,14 @@ from table import (
     shared,
     variant_of,
 )
-from templates import filled, filled_file
+from templates import filled, filled_file, with_uses
 
-IMMEDIATE = "Rattle.wasm_imm.specs.Immediate"
-VALUES = "Rattle.wasm_imm.proofs.Values"
 # In the list by opcode, an operator for the opcodes without one. Any without immediates serves.
 FILLER = "operator.Nop"
 ALIASES = {
     "kind": "use Rattle.wasm_imm.specs.declared.memory_argument.MemArgKind.TheVariants as kind",
     "select": "use Rattle.wasm_imm.specs.control.select.Select.TheVariants as select",
 }
-OPERATOR_USES = [
-    "use Rattle.wasm_instr.specs.declared.operator.Operator.{Operator}",
-    "use Rattle.wasm_instr.specs.declared.operator.Operator.TheVariants as operator",
-]
-
-
-def file_of(titles, uses, body, words=()):
-    text = "\n".join(body)
-    head = [f"-- {line}" for line in [HEAD, *titles]] + list(uses)
-    head.append(f"use {IMMEDIATE}.{{{', '.join(['Immediate', *words, *imported(text, ROW_WORDS)])}}}")
-    values = imported(text, VALUE_WORDS)
-    if values:
-        head.append(f"use {VALUES}.{{{', '.join(values)}}}")
-    return "\n".join([*head, "", text, ""])
 
 
 def aliases(body, *names):
@@ -91,56 +73,32 @@ def enum_rows(enum, ops):
     )
 
 
-def makers(enum, ops):
+def makers(enum, ops, none):
+    """Returns the list from which an operator is made by its opcode, and the operator from it."""
     low = enum.module
-    is_plain = not any(op.fields for op in ops)
     found = {op.code: op for op in ops}
-    least, most = min(found), max(found)
-    none = found[least]
-    each = [found.get(code, none) for code in range(least, most + 1)]
-    place = f"(code - 0x{least:02x})" if least else "code"
-    if is_plain:
-        body = [f"abbrev operators : List {enum.type}", "operators ="]
-        body += [f"    {low}.{op.name} ∷" for op in each]
-        got = f"get_or operators {place} {low}.{none.name}"
-    else:
-        body = [f"abbrev makers : List (List Immediate → {enum.type})", "makers ="]
-        body += [f"    (λ is. {made_of(op, low)}) ∷" for op in each]
-        got = f"get_or makers {place} (λ is. {made_of(none, low)}) is"
-    body += ["    []", "", f"abbrev pub {low}_at : ℕ → List Immediate → {enum.type}"]
-    return [*body, f"{low}_at code is = {got}"], none
+    each = [found.get(code, none) for code in range(none.code, max(found) + 1)]
+    place = f"(code - {none.hex()})" if none.code else "code"
+    if not any(op.fields for op in ops):
+        lines = [f"abbrev operators : List {enum.type}", "operators =", *[f"    {low}.{op.name} ∷" for op in each]]
+        return lines, f"get_or operators {place} {low}.{none.name}"
+    lines = [f"abbrev makers : List (List Immediate → {enum.type})", "makers =", *[f"    (λ is. {made_of(op, low)}) ∷" for op in each]]
+    return lines, f"get_or makers {place} (λ is. {made_of(none, low)}) is"
 
 
 def enum_by_opcode(enum, ops):
     low = enum.module
-    body, none = makers(enum, ops)
-    bare = f"({low}_at ({enum.opcode} op) [])"
-    lemmas = {
-        f"{low}_by_opcode": f"{low}_at ({enum.opcode} op) ({low}_immediates op) ≡ op",
-        f"{low}_kinds": f"map kind_of ({low}_immediates op) ≡ map kind_of ({low}_immediates {bare})",
-        f"{low}_named": f"{low}_name op ≡ {low}_name {bare}",
-    }
-    for lemma, claim in lemmas.items():
-        body += ["", f"pub {lemma} : (op : {enum.type}) → {claim}", *by_cases(lemma, none, low, "refl")]
+    first = min(ops, key=lambda op: op.code)
+    of = {"module": low, "type": enum.type, "opcode": enum.opcode, "group": enum.group, "first": pattern(first, low)}
+    lines, made = makers(enum, ops, first)
+    body = filled("rows/by_opcode.antt", **of, makers=lines, made=made)
     if enum.group == "Numeric":
-        body += numeric_range(none)
-    by_fields = Shape(ops).by_fields
-    if by_fields:
-        body += ["", *from_fields(enum, ops, none)]
-    minus = ["◌-◌"] if any(" - " in line for line in body) else []
-    prelude = ["◌≡◌", "ℕ", *minus, "List", "[]", "◌∷◌", "map", "get_or", "refl"]
-    if enum.group == "Numeric":
-        prelude += ["Bool", "true", "ltb", "◌&&◌"]
-    if by_fields:
-        prelude += ["sym", "ap", "◌∙◌"]
-    uses = [
-        f"use Rattle.std.proofs.Common.{{{', '.join(prelude)}}}",
-        *aliases(body, "kind", "select"),
-        *enum_uses(enum),
-        *(fields_uses(enum) if by_fields else []),
-        f"use Rattle.{enum.crate}.specs.{enum.group}.{{{low}_name, {enum.opcode}, {low}_immediates{f', {low}_fields' if by_fields else ''}}}",
-    ]
-    return file_of([], uses, body, ["kind_of"])
+        before, after = f"0x{NUMERIC.start - 1:02x}", f"0x{NUMERIC.stop:02x}"
+        body += ["", *filled("rows/numeric_range.antt", **of, before=before, after=after)]
+    if Shape(ops).by_fields:
+        of_fields = [f"of_fields (fields.{fields_name(names)} {names.replace(',', '')}) = {immediates_of(those[0])}" for names, those in shapes(ops).items()]
+        body += ["", *filled("rows/from_fields.antt", **of, of_fields=of_fields)]
+    return with_uses("rows/by_opcode_uses.antt", body, **of, crate=enum.crate, immediates=", ".join(ROW_WORDS), values=", ".join(VALUE_WORDS))
 
 
 def fields_uses(enum):
@@ -148,33 +106,8 @@ def fields_uses(enum):
     return [f"use {path}.{{{enum.group}Fields}}", f"use {path}.TheVariants as fields"]
 
 
-def from_fields(enum, ops, none):
-    low = enum.module
-    return filled(
-        "rows/from_fields.antt",
-        group=enum.group,
-        module=low,
-        type=enum.type,
-        opcode=enum.opcode,
-        of_fields=[f"of_fields (fields.{fields_name(names)} {names.replace(',', '')}) = {immediates_of(those[0])}" for names, those in shapes(ops).items()],
-        by_fields=by_cases(f"{low}_by_fields", none, low, "refl"),
-    )
-
-
 def equality_answer(enum):
     return filled_file("rows/equality_answer.antt", crate=enum.crate, group=enum.group, module=enum.module, type=enum.type)
-
-
-def numeric_range(none):
-    out = ["", "abbrev pub is_numeric : ℕ → Bool"]
-    out.append(f"is_numeric code = ltb 0x{NUMERIC.start - 1:02x} code && ltb code 0x{NUMERIC.stop:02x}")
-    for lemma, claim in {
-        "numeric_range": "is_numeric (numeric_opcode op)",
-        "numeric_short": "ltb (numeric_opcode op) 0xfb",
-    }.items():
-        out += ["", f"pub {lemma} : (op : NumericOperator) → {claim} ≡ true"]
-        out += by_cases(lemma, none, "numeric", "refl")
-    return out
 
 
 def operator_rows(ops):
@@ -221,11 +154,4 @@ def operators_by_opcode(ops):
             made = "select_at (select_in is)"
         makers.append(f"    (λ is. {made}) ∷")
     body = filled("rows/own_at.antt", one=one.name, many=many.name, makers=makers, filler=FILLER)
-    titles = ["The operators with a one-byte opcode by opcode, except the numeric ones."]
-    uses = [
-        "use Rattle.std.proofs.Common.{ℕ, List, [], ◌∷◌, get_or}",
-        "use Rattle.wasm_imm.specs.control.select.Select.{Select}",
-        *aliases(body, "select"),
-        *OPERATOR_USES,
-    ]
-    return file_of(titles, uses, body)
+    return with_uses("rows/own_at_uses.antt", body, immediates=", ".join(ROW_WORDS), values=", ".join(VALUE_WORDS))

@@ -24,14 +24,13 @@ def filled_file(template, /, **values):
     return "\n".join(filled(template, **values)) + "\n"
 
 
-def occurs(name, text):
-    if name.startswith("◌"):
-        return f" {name.strip('◌')} " in text
-    return re.search(rf"(?<![\w:.]){re.escape(name)}(?!\w)", text) is not None
+def with_uses(template, body, /, **values):
+    """Returns the text of a file: its `use` lines from a template, with only the names that occur in the body, and the body."""
+    text = "\n".join(body).rstrip("\n")
+    return "\n".join([*used(filled(template, **values), text), "", text]) + "\n"
 
 
 def used(lines, text):
-    """Keeps in `use` lines the names that occur in a text, and leaves out the lines without such names."""
     out = []
     for line in lines:
         found = re.fullmatch(r"((?:ghost )?use (?:.*[ .:])?)(?:\{(.*)\}|(\w+))(;?)", line)
@@ -43,3 +42,9 @@ def used(lines, text):
         elif occurs(found[3], text):
             out.append(line)
     return out
+
+
+def occurs(name, text):
+    if name.startswith("◌"):
+        return re.search(rf" {re.escape(name.strip('◌'))}\s", text) is not None
+    return re.search(rf"(?<![\w:.]){re.escape(name)}(?!\w)", text) is not None
