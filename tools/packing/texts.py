@@ -6,17 +6,8 @@ import subprocess
 
 from packing.builds import TOP
 
-PKG_CONFIG = """\
-prefix=${{pcfiledir}}/../..
-includedir=${{prefix}}/include
-libdir=${{prefix}}/lib
-
-Name: wasm_operators
-Description: A decoder of the operators of WebAssembly function bodies{note}
-Version: {version}
-Cflags: -I${{includedir}}
-Libs: -L${{libdir}} -lwasm_c -llibc_c
-"""
+# For `str.format`.
+PKG_CONFIG = (TOP / "tools/packing/wasm_operators.pc").read_text(encoding="utf-8")
 PROVED = """\
 commit  {commit}
 kit     {kit}
