@@ -17,8 +17,8 @@ The lines of the input have cells with tabs between them:
     module  HEX  FUNCTIONS            a module and its functions: the index, the offset and the name of each
     function  HEX  FUNCTIONS          the same with the length and the type index of each
 
-It takes every eighth body, and the first of each refusal; `tools/bindings` replays all in C. The texts are wabt's, from
-crates/wasm_tests_bodies/stdin and crates/wasm_objdump/data. VALUES and FUNCTIONS are made by hand.
+The README of the program says which bodies it takes. The texts are from crates/wasm_tests_bodies/stdin and
+crates/wasm_objdump/data. VALUES and FUNCTIONS are made by hand.
 """
 
 import re

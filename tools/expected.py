@@ -4,8 +4,7 @@
     tools/expected.py            writes crates/wasm_tests_lists/stdin and stdout
     tools/expected.py --check    fails if a file is not what these lists give
 
-It reads tools/original and two handwritten files of the program: by_rule.tsv has the arities that depend on the module,
-edges.txt the lines of edge cases and visitors. It reads nothing generated from the table.
+The README of the program says what it reads: nothing generated from the table.
 """
 
 import csv

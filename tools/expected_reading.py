@@ -4,9 +4,8 @@
     tools/expected_reading.py            writes crates/wasm_tests_decode/stdin and stdout
     tools/expected_reading.py --check    fails if a file is not what the samples and rows give
 
-It reads tools/original and the handwritten rows.tsv of the program, and nothing generated from the table. It adds each
-subopcode lengthened by a byte, unknown opcodes, the subopcodes next to known ones, and the operators that need a frame in
-each frame.
+The README of the program says what it reads: nothing generated from the table. It adds each subopcode lengthened by a
+byte, unknown opcodes, the subopcodes next to known ones, and the operators that need a frame in each frame.
 """
 
 import csv
