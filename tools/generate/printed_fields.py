@@ -72,7 +72,7 @@ def enum_source(name, ty, ops, held_enums=()):
             continue
         uses.append(f"use crate::fields::{enum.module}::{enum.module};")
         inner.append(f"Operator::{enum.group}(op) => {enum.module}(out, op),")
-    return filled_file("fields/enum.rt", uses=sorted(uses), name=name, type=given, arms=match_arms(ops, ty) + inner)
+    return filled_file("printed_fields/enum.rt", uses=sorted(uses), name=name, type=given, arms=match_arms(ops, ty) + inner)
 
 
 def printed_field_files(ops):
