@@ -5,11 +5,9 @@ from source import Shape, fields_name, names_of, shapes
 from table import (
     NUMERIC,
     PREFIXES,
-    enum_uses,
     grouped,
     held,
     immediates_of,
-    imported,
     made_of,
     pattern,
     shared,
@@ -19,15 +17,6 @@ from templates import filled, filled_file, with_uses
 
 # In the list by opcode, an operator for the opcodes without one. Any without immediates serves.
 FILLER = "operator.Nop"
-ALIASES = {
-    "kind": "use Rattle.wasm_imm.specs.declared.memory_argument.MemArgKind.TheVariants as kind",
-    "select": "use Rattle.wasm_imm.specs.control.select.Select.TheVariants as select",
-}
-
-
-def aliases(body, *names):
-    text = "\n".join(body)
-    return [ALIASES[name] for name in names if f"{name}." in text]
 
 
 def enum_rows(enum, ops):
@@ -50,19 +39,10 @@ def enum_rows(enum, ops):
         more += ["", "-- The operator owns a list.", f"abbrev pub {low}_holds_list : {enum.type} → Type 0"]
         more += [f"{low}_holds_list {pattern(op, low, False)} = Unit {{0}}" for op in ops if op.holds_list]
         more.append(f"{low}_holds_list _ = ⊥")
-    text = "\n".join([*rows, *more])
-    cons = ["◌∷◌"] if "∷" in text else []
-    return filled_file(
+    of = {"module": low, "type": enum.type, "crate": enum.crate, "group": enum.group, "title": enum.title, "section": enum.section}
+    body = filled(
         "rows/enum.antt",
-        title=enum.title,
-        section=enum.section,
-        prelude=", ".join(["ℕ", "List", "[]", *imported(text, ["Some"]), *cons, "codes"]),
-        aliases=aliases(rows, "kind", "select"),
-        fields_uses=fields_uses(enum) if shape.by_fields else [],
-        enum_uses=enum_uses(enum),
-        immediates=", ".join(["Immediate", *imported(text, ROW_WORDS)]),
-        module=low,
-        type=enum.type,
+        **of,
         proposals=[*proposals, f"{low}_proposal _ = proposal.{variant_of(most)}"],
         names=[f'{low}_name {pattern(op, low, False)} = codes "{op.name}"' for op in ops],
         opcode_word="subopcode" if ops[0].prefix else "opcode",
@@ -71,6 +51,7 @@ def enum_rows(enum, ops):
         rows=rows,
         more=more,
     )
+    return with_uses("rows/enum_uses.antt", body, **of, immediates=", ".join(ROW_WORDS))
 
 
 def makers(enum, ops, none):
@@ -101,11 +82,6 @@ def enum_by_opcode(enum, ops):
     return with_uses("rows/by_opcode_uses.antt", body, **of, crate=enum.crate, immediates=", ".join(ROW_WORDS), values=", ".join(VALUE_WORDS))
 
 
-def fields_uses(enum):
-    path = f"Rattle.{enum.crate}.specs.declared.{enum.module}.{enum.group}Fields"
-    return [f"use {path}.{{{enum.group}Fields}}", f"use {path}.TheVariants as fields"]
-
-
 def equality_answer(enum):
     return filled_file("rows/equality_answer.antt", crate=enum.crate, group=enum.group, module=enum.module, type=enum.type)
 
@@ -120,11 +96,8 @@ def operator_rows(ops):
     for enum in held():
         columns = f"{enum.module}_proposal, {enum.module}_name, {enum.opcode}, {enum.module}_immediates"
         uses.append(f"use Rattle.{enum.crate}.specs.{enum.group}.{{{columns}}}")
-    return filled_file(
+    body = filled(
         "rows/operator.antt",
-        aliases=aliases(rows, "kind", "select"),
-        enum_uses=uses,
-        immediates=", ".join(["Immediate", *imported("\n".join(rows), ROW_WORDS)]),
         proposals=[
             *proposals,
             *[f"proposal_of {pat} = {enum.module}_proposal op" for enum, pat in inner],
@@ -141,6 +114,7 @@ def operator_rows(ops):
         ],
         rows=[*rows, *[f"immediates_of {pat} = {enum.module}_immediates op" for enum, pat in inner]],
     )
+    return with_uses("rows/operator_uses.antt", body, enum_uses=uses, immediates=", ".join(ROW_WORDS))
 
 
 def operators_by_opcode(ops):

@@ -26,8 +26,8 @@ def filled_file(template, /, **values):
 
 def with_uses(template, body, /, **values):
     """Returns the text of a file: its `use` lines from a template, with only the names that occur in the body, and the body."""
-    text = "\n".join(body).rstrip("\n")
-    return "\n".join([*used(filled(template, **values), text), "", text]) + "\n"
+    code = "\n".join(line for line in body if not line.lstrip().startswith(("//", "--")))
+    return "\n".join([*used(filled(template, **values), code), "", *body]).rstrip("\n") + "\n"
 
 
 def used(lines, text):

@@ -1,14 +1,3 @@
--- $HEAD
--- The table of $title: a function for each column.
--- Specification: Binary Format, $section.
-use Rattle.std.specs.Prelude.{$prelude}
-$aliases
-$fields_uses
-use Rattle.wasm_imm.specs.declared.proposal.Proposal.{Proposal}
-use Rattle.wasm_imm.specs.declared.proposal.Proposal.TheVariants as proposal
-$enum_uses
-use Rattle.wasm_imm.specs.Immediate.{$immediates}
-
 -- The operator's proposal.
 abbrev pub ${module}_proposal : $type → Proposal
 $proposals

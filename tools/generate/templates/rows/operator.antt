@@ -1,15 +1,3 @@
--- $HEAD
--- The table of all operators: a function for each column.
--- Specification: Binary Format, Instructions; Appendix, Index of Instructions.
-use Rattle.std.specs.Prelude.{ℕ, List, [], ◌∷◌, Option, Some, None, codes}
-$aliases
-use Rattle.wasm_imm.specs.declared.proposal.Proposal.{Proposal}
-use Rattle.wasm_imm.specs.declared.proposal.Proposal.TheVariants as proposal
-use Rattle.wasm_instr.specs.declared.operator.Operator.{Operator}
-use Rattle.wasm_instr.specs.declared.operator.Operator.TheVariants as operator
-$enum_uses
-use Rattle.wasm_imm.specs.Immediate.{$immediates}
-
 -- The operator's proposal.
 abbrev pub proposal_of : Operator → Proposal
 $proposals
