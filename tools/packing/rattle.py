@@ -7,12 +7,11 @@ import subprocess
 from packing.builds import TOP, identity_of
 
 HERE = TOP / "tools/packing"
-PARTS = ["README.md", "src", "specs", "proofs"]
-# Pages and proved callers, by the library whose folder gets them.
+# What a library's folder has, if it exists.
+PARTS = ["README.md", "CALLING.md", "src", "specs", "proofs"]
+# Other pages and proved callers, by the library whose folder gets them.
 MORE = {
     "wasm_operators": {
-        "CALLING.md": "docs/CALLING.md",
-        "WRITING-A-VISITOR.md": "docs/WRITING-A-VISITOR.md",
         "ERRORS-AND-FEATURES.md": "docs/ERRORS-AND-FEATURES.md",
         "DEFINITIONS.md": "docs/DEFINITIONS.md",
         "uses": "crates/uses",

@@ -26,6 +26,14 @@ def tool(name):
     return module
 
 
+class Pages(unittest.TestCase):
+    def test_what_libraries_get_exists(self):
+        self.assertTrue((TOP / "crates/wasm_operators/CALLING.md").is_file())
+        for name, parts in rattle.MORE.items():
+            for path in parts.values():
+                self.assertTrue((TOP / path).exists(), f"{name}: {path}")
+
+
 class Folders(unittest.TestCase):
     def setUp(self):
         folder = tempfile.TemporaryDirectory()
