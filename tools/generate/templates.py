@@ -10,10 +10,13 @@ FOLDER = Path(__file__).resolve().parent / "templates"
 
 
 def filled(template, /, **values):
-    """Returns the lines of a template, with the values for its `$word`s. A list of lines replaces the line `$word`."""
+    """Returns the lines of a template, with the values for its `$word`s. A list of lines replaces the line `$word`.
+
+    The file's name ends in `.template`: `rt ci` refuses other .rt and .antt files outside of crates.
+    """
     lists = {f"${word}": value for word, value in values.items() if isinstance(value, list)}
     out = []
-    for line in (FOLDER / template).read_text(encoding="utf-8").splitlines():
+    for line in (FOLDER / f"{template}.template").read_text(encoding="utf-8").splitlines():
         word = line.strip()
         out += lists[word] if word in lists else [Template(line).substitute(values, HEAD=HEAD)]
     return out

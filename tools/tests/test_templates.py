@@ -6,8 +6,8 @@ from templates import FOLDER, filled, used
 class Templates(unittest.TestCase):
     def test_each_is_filled_in(self):
         generators = "".join(path.read_text(encoding="utf-8") for path in FOLDER.parent.glob("*.py"))
-        for path in FOLDER.rglob("*.*"):
-            self.assertIn(f'"{path.relative_to(FOLDER)}"', generators)
+        for path in FOLDER.rglob("*.template"):
+            self.assertIn(f'"{path.relative_to(FOLDER).with_suffix("")}"', generators)
 
     def test_a_value_that_lacks(self):
         with self.assertRaises(KeyError):
