@@ -9,6 +9,11 @@ class Templates(unittest.TestCase):
         for path in FOLDER.rglob("*.template"):
             self.assertIn(f'"{path.relative_to(FOLDER).with_suffix("")}"', generators)
 
+    def test_rt_ci_takes_the_names(self):
+        top = FOLDER.parents[2]
+        sources = [it for suffix in ("rt", "antt") for folder in ("tools", "docs") for it in (top / folder).rglob(f"*.{suffix}")]
+        self.assertEqual(sources, [])
+
     def test_a_value_that_lacks(self):
         with self.assertRaises(KeyError):
             filled("own_visits.rt", type="MiscOperator", trait="VisitMisc")
