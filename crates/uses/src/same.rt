@@ -83,7 +83,7 @@ pub fn same_block_type(a: BlockType, b: BlockType) -> bool
     false
 }
 
-/// Returns whether two branch tables are encoded alike. Then they have the same targets (law
+/// Returns whether two branch tables are equal. Then they have the same targets (law
 /// `equal_tables`).
 pub fn same_branch_table(a: &BrTable<'_>, b: &BrTable<'_>) -> bool
     ensures exact { IsTrue result ↔ (a.now ≡ b.now) }
