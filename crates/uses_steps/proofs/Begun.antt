@@ -6,7 +6,7 @@ use Rattle.wasm_operators.specs.below.bytes.message.Message.TheVariants as messa
 use Rattle.wasm_operators.specs.below.Source.{Reader, rest, offset_of, source_of, reader_of, Takes}
 use Rattle.wasm_operators.specs.grammar.OpenPath.{OpenPath}
 use Rattle.wasm_operators.specs.instr.Roles.{roles_of}
-use Rattle.wasm_operators.specs.Expression.{Placed, OfPlaced, operators, LaidOut, EncodesExpression, IsLongestOf}
+use Rattle.wasm_operators.specs.Expression.{Placed, OfPlaced, operators, LaidOut, EncodesExpression, Longest, IsPrefixAfter}
 use Rattle.wasm_operators.specs.MainTheorem.{BeginningAt, ReadsBeginning, CutFault}
 use Rattle.wasm_operators.specs.Reading.{State, Taking, Refusing, Allocating}
 use Rattle.uses_steps.specs.Begun.{BeginsExpression}
@@ -19,7 +19,7 @@ cut_at_end message.EndOfData left memory frames data_end cut = data_end refl
 cut_at_end _ left memory frames data_end cut = cut
 
 pub longest_at : (Kept : OfPlaced) (m : Message) (r : Reader) (placed : Placed) → m ≢ message.OutOfMemory → BeginningAt Kept m [] r placed →
-    IsLongestOf Kept [] (source_of r) placed
+    Longest (IsPrefixAfter [] (source_of r)) Kept placed
 longest_at Kept message.OutOfMemory r placed other h = absurd (other refl)
 longest_at Kept _ r placed other h = h
 

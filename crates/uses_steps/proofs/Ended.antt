@@ -9,7 +9,7 @@ use Rattle.wasm_operators.specs.grammar.declared.frame_kind.FrameKind.TheVariant
 use Rattle.wasm_operators.specs.grammar.Beginning.{IsWalk}
 use Rattle.wasm_operators.specs.grammar.Frames.{frames_after, frames_along}
 use Rattle.wasm_operators.specs.instr.Roles.{role_of, roles_of}
-use Rattle.wasm_operators.specs.Expression.{Placed, IsAny, operators, LaidOut, AreEncoded, IsLongestOf}
+use Rattle.wasm_operators.specs.Expression.{Placed, IsAny, operators, LaidOut, AreEncoded, Longest, IsPrefixAfter}
 use Rattle.wasm_operators.specs.Laws.{HasEncodings, BeginsLonger}
 use Rattle.wasm_operators.specs.Reading.{State}
 use Rattle.uses_steps.specs.Begun.{BeginsExpression}
@@ -38,7 +38,7 @@ none_follows (p ∷ ps) frames h = absurd (cc h)
 
 pub begins_none : (features : WasmFeatures) (bytes text : List ℕ) (new : State) (longest : Placed) → BeginsLonger features → HasEncodings features →
     ((placed : Placed) → IsWalk (roles_of (operators placed)) → along (frame.Block ∷ []) placed ≡ Some []) →
-    IsLongestOf IsAny [] (input features bytes) longest → Takes (reader_of features 0 bytes) new.reader text → LaidOut features 0 longest text →
+    Longest (IsPrefixAfter [] (input features bytes)) IsAny longest → Takes (reader_of features 0 bytes) new.reader text → LaidOut features 0 longest text →
     along (frame.Block ∷ []) longest ≡ Some new.frames → (new.frames ≡ [] → ⊥) → (n : ℕ) → BeginsExpression (input features bytes) n → ⊥
 begins_none features bytes text new longest beginnings encodings closes is takes laid runs is_open n h =
     let nothing = append-nil (operators h.placed) in

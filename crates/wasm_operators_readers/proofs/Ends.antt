@@ -20,8 +20,8 @@ use Rattle.wasm_decode.specs.instr.declared.operator.Operator.{Operator}
 use Rattle.wasm_decode.specs.instr.declared.operator.Operator.TheVariants as operator
 use Rattle.wasm_decode.specs.instr.Encoding.{EncodesOperator}
 use Rattle.wasm_decode.specs.instr.Roles.{role_of, roles_of}
-use Rattle.wasm_operators_readers.specs.Expression.{Placed, OfPlaced, operators, LaidOut, IsLongestOf}
-use Rattle.wasm_operators_readers.specs.Flat.{IsFlatOf}
+use Rattle.wasm_operators_readers.specs.Expression.{Placed, OfPlaced, operators, LaidOut, Longest, IsPrefixAfter}
+use Rattle.wasm_operators_readers.specs.Flat.{IsAllowedFrom}
 use Rattle.wasm_operators_readers.specs.Reading.{Taking, Refusing, Allocating, State, TakesOperators, StopsRun, EndsRun}
 use Rattle.wasm_operators_readers.specs.MainTheorem.{ReadSoFar, BeginningAt, ReadsBeginning, IsNotOutOfMemory, ClosesFrom, IsCut, CutFault, IsCompletedByEnds}
 use Rattle.wasm_operators_readers.proofs.LayoutLemmas.{roles_of-append, operators-append, roles_of-ends, laid_append, laid_goes_on, laid_no_longer, laid_same, one_longest, GoesOn, next_allowed, goes_allowed}
@@ -29,8 +29,8 @@ use Rattle.wasm_operators_readers.proofs.OneRead.{refused_none, one_refusal, clo
 use Rattle.wasm_operators_readers.proofs.Premises.{AreEach, Keeps, TakesEach, IsReading, IsDetermined}
 use Rattle.wasm_operators_readers.proofs.Runs.{features_stay, read_further, IsStuckFor, stuck, run_flat, no_refusal}
 
-pub one_flat : (Kept : OfPlaced) (frames : List FrameKind) (s : Source) (first second : Placed) → IsFlatOf Kept frames s first →
-    IsFlatOf Kept frames s second → first ≡ second
+pub one_flat : (Kept : OfPlaced) (frames : List FrameKind) (s : Source) (first second : Placed) → Longest (IsAllowedFrom frames s) Kept first →
+    Longest (IsAllowedFrom frames s) Kept second → first ≡ second
 one_flat Kept frames s first second p q =
     let le = p.longest second q.beginning q.kept in
     let ge = q.longest first p.beginning p.kept in
@@ -62,7 +62,7 @@ closes_exactly Encodes Fault Allocates (Err e) old new placed r stops = (
 
 pub flat_run : {X : Type 0} (Sort : Operator → Type 0) (Kept : OfPlaced) (Encodes : Taking) (Fault : Refusing) (Allocates : Allocating) →
     Keeps Sort Kept Encodes → (result : Result X Error) (old new : State) (placed flat : Placed) → TakesOperators old new placed → Kept placed →
-    EndsRun Encodes Fault Allocates result new → IsFlatOf Kept old.frames (source_of old.reader) flat → IsNotOutOfMemory result →
+    EndsRun Encodes Fault Allocates result new → Longest (IsAllowedFrom old.frames (source_of old.reader)) Kept flat → IsNotOutOfMemory result →
     (placed ≡ flat) × (IsOk result ↔ ClosesFrom old.frames (source_of old.reader) flat)
 flat_run Sort Kept Encodes Fault Allocates keeps result old new placed flat r kept ended h other =
     let same = one_flat Kept old.frames (source_of old.reader) placed flat
@@ -276,7 +276,7 @@ run_left Encodes Fault Allocates reading e before old new placed h r stops is =
     run_completed before old new placed h r ((reports_left Encodes Fault Allocates reading e new stops).0 is).0
 
 longest_at : (Kept : OfPlaced) (m : Message) (before : List Operator) (r : Reader) (placed : Placed) → BeginningAt Kept m before r placed →
-    (m ≡ message.OutOfMemory → ⊥) → IsLongestOf Kept before (source_of r) placed
+    (m ≡ message.OutOfMemory → ⊥) → Longest (IsPrefixAfter before (source_of r)) Kept placed
 longest_at Kept message.OutOfMemory before r placed h other = absurd (other refl)
 longest_at Kept _ before r placed h other = h
 

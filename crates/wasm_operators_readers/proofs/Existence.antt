@@ -6,8 +6,8 @@ use Rattle.wasm_decode.specs.below.bytes.features.WasmFeatures.{WasmFeatures}
 use Rattle.wasm_decode.specs.below.Source.{Source, source_of}
 use Rattle.wasm_decode.specs.grammar.declared.frame_kind.FrameKind.{FrameKind}
 use Rattle.wasm_decode.specs.instr.declared.operator.Operator.{Operator}
-use Rattle.wasm_operators_readers.specs.Expression.{Placed, OfPlaced, LaidOut, Begins, IsPrefixAfter, IsLongestOf}
-use Rattle.wasm_operators_readers.specs.Flat.{IsAllowedFrom, IsFlatOf}
+use Rattle.wasm_operators_readers.specs.Expression.{Placed, OfPlaced, LaidOut, Begins, IsPrefixAfter, Longest}
+use Rattle.wasm_operators_readers.specs.Flat.{IsAllowedFrom}
 use Rattle.wasm_operators_readers.specs.MainTheorem.{ReadSoFar}
 use Rattle.wasm_operators_readers.specs.Reading.{State}
 use Rattle.wasm_operators_readers.proofs.LayoutLemmas.{path_begins}
@@ -32,7 +32,7 @@ short f offset placed bytes beginning more parts laid =
     omega (arith, few, whole)
 
 pub longest_is_some : (Kept : OfPlaced) → Kept [] → (before : List Operator) (s : State) → ReadSoFar before s →
-    ((placed : Placed) → IsLongestOf Kept before (source_of s.reader) placed → ⊥) → ⊥
+    ((placed : Placed) → Longest (IsPrefixAfter before (source_of s.reader)) Kept placed → ⊥) → ⊥
 longest_is_some Kept kept before s read_so_far none =
     let source = source_of s.reader in
     let begins = path_begins source.features before s.frames read_so_far.path read_so_far.encodes in
@@ -47,7 +47,7 @@ longest_is_some Kept kept before s read_so_far none =
     (λ x h long. none x (record { beginning = h.0; kept = h.1; longest = λ y b k. long y (b, k) })) (length source.bytes)
     (λ x h. short source.features source.offset x source.bytes h.0.beginning h.0.more h.0.parts h.0.laid)
 
-pub flat_is_some : (Kept : OfPlaced) → Kept [] → (frames : List FrameKind) (s : Source) → ((placed : Placed) → IsFlatOf Kept frames s placed → ⊥) → ⊥
+pub flat_is_some : (Kept : OfPlaced) → Kept [] → (frames : List FrameKind) (s : Source) → ((placed : Placed) → Longest (IsAllowedFrom frames s) Kept placed → ⊥) → ⊥
 flat_is_some Kept kept frames s none =
     let first : IsAllowedFrom frames s [] = record { beginning = []; more = s.bytes; parts = refl; laid = refl; allowed = refl } in
     no_longest (λ x. IsAllowedFrom frames s x × Kept x) [] (first, kept)

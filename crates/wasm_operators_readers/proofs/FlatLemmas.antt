@@ -11,8 +11,8 @@ use Rattle.wasm_decode.proofs.of_grammar.Runs.{some_of, IsSome_of, path_run, pat
 use Rattle.wasm_decode.proofs.of_grammar.Steps.{path_start}
 use Rattle.wasm_decode.specs.instr.declared.operator.Operator.{Operator}
 use Rattle.wasm_decode.specs.instr.Roles.{roles_of}
-use Rattle.wasm_operators_readers.specs.Expression.{Placed, OfPlaced, IsAny, operators, AreEncoded, IsPrefixAfter, IsLongestOf, IsLongestBeginning}
-use Rattle.wasm_operators_readers.specs.Flat.{IsAllowedFrom, IsFlatOf, IsFlatBeginning}
+use Rattle.wasm_operators_readers.specs.Expression.{Placed, OfPlaced, IsAny, operators, AreEncoded, IsPrefixAfter, Longest, IsLongestBeginning}
+use Rattle.wasm_operators_readers.specs.Flat.{IsAllowedFrom, IsFlatBeginning}
 use Rattle.wasm_operators_readers.proofs.LayoutLemmas.{roles_of-append, laid_encoded, both_encoded, path_begins, begins_walk}
 
 pub allowed_begins : (before : List Operator) (frames : List FrameKind) (s : Source) (placed : Placed) → AreEncoded s.features before →
@@ -44,7 +44,7 @@ begins_allowed before frames s placed path h =
     }
 
 pub flat_longest : (Kept : OfPlaced) (before : List Operator) (frames : List FrameKind) (s : Source) (placed : Placed) → AreEncoded s.features before →
-    OpenPath (roles_of before) frames → IsFlatOf Kept frames s placed → IsLongestOf Kept before s placed
+    OpenPath (roles_of before) frames → Longest (IsAllowedFrom frames s) Kept placed → Longest (IsPrefixAfter before s) Kept placed
 flat_longest Kept before frames s placed encodes path h =
     record {
       beginning = allowed_begins before frames s placed encodes path h.beginning;
@@ -53,7 +53,7 @@ flat_longest Kept before frames s placed encodes path h =
     }
 
 pub longest_flat : (Kept : OfPlaced) (before : List Operator) (frames : List FrameKind) (s : Source) (placed : Placed) → AreEncoded s.features before →
-    OpenPath (roles_of before) frames → IsLongestOf Kept before s placed → IsFlatOf Kept frames s placed
+    OpenPath (roles_of before) frames → Longest (IsPrefixAfter before s) Kept placed → Longest (IsAllowedFrom frames s) Kept placed
 longest_flat Kept before frames s placed encodes path h =
     record {
       beginning = begins_allowed before frames s placed path h.beginning;

@@ -19,7 +19,7 @@ use Rattle.wasm_decode.specs.instr.Encoding.{EncodesOpcode, EncodesOperator}
 use Rattle.wasm_decode.specs.instr.Roles.{role_of, roles_of}
 use Rattle.wasm_decode.specs.instr.Row.{prefix_of, opcode_of}
 use Rattle.wasm_decode.proofs.of_instr.OperatorPrefixCode.{operator_prefix_code}
-use Rattle.wasm_operators_readers.specs.Expression.{Placed, OfPlaced, operators, LaidOut, AreEncoded, Begins, IsLongestOf, IsBeginningOf}
+use Rattle.wasm_operators_readers.specs.Expression.{Placed, OfPlaced, operators, LaidOut, AreEncoded, Begins, Longest, IsBeginningOf, IsPrefixAfter}
 
 pub roles_of-append : (xs ys : List Operator) → roles_of (xs ++ ys) ≡ roles_of xs ++ roles_of ys
 roles_of-append [] ys = refl
@@ -155,8 +155,8 @@ laid_beginning f offset ps qs a b x y l m e le =
       | inr ge ↦ ([], sym (laid_same f offset ps qs a b x y l m e (omega arith)).0 ∙ sym (append-nil ps))
     ]
 
-pub one_longest : (Kept : OfPlaced) (before : List Operator) (s : Source) (first second : Placed) → IsLongestOf Kept before s first →
-    IsLongestOf Kept before s second → first ≡ second
+pub one_longest : (Kept : OfPlaced) (before : List Operator) (s : Source) (first second : Placed) → Longest (IsPrefixAfter before s) Kept first →
+    Longest (IsPrefixAfter before s) Kept second → first ≡ second
 one_longest Kept before s first second p q =
     let le = p.longest second q.beginning q.kept in
     let ge = q.longest first p.beginning p.kept in

@@ -20,8 +20,8 @@ use Rattle.wasm_decode.proofs.of_grammar.Steps.{path_start}
 use Rattle.wasm_decode.specs.instr.declared.operator.Operator.{Operator}
 use Rattle.wasm_decode.specs.instr.Encoding.{EncodesOperator}
 use Rattle.wasm_decode.specs.instr.Roles.{role_of, roles_of}
-use Rattle.wasm_operators_readers.specs.Expression.{Placed, OfPlaced, operators, LaidOut, AreEncoded, EncodesRest, IsPrefixAfter, IsLongestOf}
-use Rattle.wasm_operators_readers.specs.Flat.{IsAllowedFrom, IsFlatOf}
+use Rattle.wasm_operators_readers.specs.Expression.{Placed, OfPlaced, operators, LaidOut, AreEncoded, EncodesRest, IsPrefixAfter, Longest}
+use Rattle.wasm_operators_readers.specs.Flat.{IsAllowedFrom}
 use Rattle.wasm_operators_readers.specs.Openings.{opened_along, most_open}
 use Rattle.wasm_operators_readers.specs.Reading.{Taking, Refusing, Allocating, State, StopsRead, IsFresh, GrowsLittle, IsUnchanged, TakesOperator, TakesOperators, StopsRun, FramesLeft, StopsFinish, EndsRun}
 use Rattle.wasm_operators_readers.specs.Stack.{frame_memory}
@@ -212,7 +212,7 @@ ran_allowed old new placed r =
     }
 
 pub run_flat : (Sort : Operator → Type 0) (Kept : OfPlaced) → ((ps : Placed) → Kept ps → AreEach Sort ps) → (old new : State) (placed : Placed) →
-    TakesOperators old new placed → Kept placed → IsStuckFor Sort new → IsFlatOf Kept old.frames (source_of old.reader) placed
+    TakesOperators old new placed → Kept placed → IsStuckFor Sort new → Longest (IsAllowedFrom old.frames (source_of old.reader)) Kept placed
 run_flat Sort Kept each old new placed r kept none = record { beginning = ran_allowed old new placed r; kept = kept; longest = not_longer }
   where
     goes_on : (others : Placed) → IsAllowedFrom old.frames (source_of old.reader) others → Kept others →
@@ -237,7 +237,7 @@ beginning_of_run before old new placed h r =
     allowed_begins before old.frames (source_of old.reader) placed h.encodes h.path (ran_allowed old new placed r)
 
 pub encoded_longest : (Kept : OfPlaced) (before : List Operator) (s : Source) (whole : Placed) → AreEncoded s.features before → EncodesRest before s whole →
-    Kept whole → IsLongestOf Kept before s whole
+    Kept whole → Longest (IsPrefixAfter before s) Kept whole
 encoded_longest Kept before s whole encodes (laid, walked) kept =
     record {
       beginning = record {
@@ -271,13 +271,13 @@ no_refusal Encodes Fault Allocates e s (inr (left, stops)) closed all = left all
 
 module _ (Sort : Operator → Type 0) (Kept : OfPlaced) (Encodes : Taking) (Fault : Refusing) (Allocates : Allocating) (keeps : Keeps Sort Kept Encodes) where
   pub run_longest : (before : List Operator) (e : Error) (old new : State) (placed : Placed) → ReadSoFar before old → TakesOperators old new placed → Kept placed →
-      StopsRun Encodes Fault Allocates e new → (e.message ≡ message.OutOfMemory → ⊥) → IsLongestOf Kept before (source_of old.reader) placed
+      StopsRun Encodes Fault Allocates e new → (e.message ≡ message.OutOfMemory → ⊥) → Longest (IsPrefixAfter before (source_of old.reader)) Kept placed
   run_longest before e old new placed h r kept stops other =
       flat_longest Kept before old.frames (source_of old.reader) placed h.encodes h.path
       (run_flat Sort Kept keeps.each old new placed r kept (stuck_run Encodes Fault Allocates Sort keeps.takes e new stops other))
 
   beginning_at : (m : Message) (before : List Operator) (old new : State) (placed : Placed) → ReadSoFar before old → TakesOperators old new placed →
-      ((m ≡ message.OutOfMemory → ⊥) → IsLongestOf Kept before (source_of old.reader) placed) → BeginningAt Kept m before old.reader placed
+      ((m ≡ message.OutOfMemory → ⊥) → Longest (IsPrefixAfter before (source_of old.reader)) Kept placed) → BeginningAt Kept m before old.reader placed
   beginning_at message.OutOfMemory before old new placed h r longest = beginning_of_run before old new placed h r
   beginning_at _ before old new placed h r longest = longest (λ is. absurd (cc is))
 

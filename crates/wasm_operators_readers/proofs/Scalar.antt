@@ -17,8 +17,8 @@ use Rattle.wasm_decode.specs.instr.Encoding.{EncodesOperator}
 use Rattle.wasm_decode.specs.instr.Kinds.{IsVector}
 use Rattle.wasm_decode.specs.instr.Roles.{role_of, roles_of}
 use Rattle.wasm_decode.specs.instr.Row.{prefix_of, opcode_of}
-use Rattle.wasm_operators_readers.specs.Expression.{Placed, OfPlaced, operators, LaidOut, AreEncoded, IsPrefixAfter, IsLongestOf, IsLongestAfter, IsBeginningOf}
-use Rattle.wasm_operators_readers.specs.Flat.{IsAllowedFrom, IsFlatOf, IsFlatFrom}
+use Rattle.wasm_operators_readers.specs.Expression.{Placed, OfPlaced, operators, LaidOut, AreEncoded, IsPrefixAfter, Longest, IsLongestAfter, IsBeginningOf}
+use Rattle.wasm_operators_readers.specs.Flat.{IsAllowedFrom, IsFlatFrom}
 use Rattle.wasm_operators_readers.specs.Reading.{Taking, Refusing, Allocating, State, TakesOperators, StopsRun, RunsToEnd}
 use Rattle.wasm_operators_readers.specs.MainTheorem.{ReadSoFar, ClosesFrom}
 use Rattle.wasm_operators_readers.specs.Visiting.{is_vector, scalar_beginning, IsScalar}
@@ -163,7 +163,7 @@ scalar_is_scalar (p ∷ ps) = go (is_vector p.0) refl (scalar_is_scalar ps)
     go false is h = ap (λ c. cond c [] (p ∷ scalar_beginning (scalar_beginning ps))) is ∙ ap (λ (z : Placed). p ∷ z) h
 
 scalar_longest_of : (before : List Operator) (s : Source) (longest : Placed) → IsLongestAfter before s longest →
-    IsLongestOf IsScalar before s (scalar_beginning longest)
+    Longest (IsPrefixAfter before s) IsScalar (scalar_beginning longest)
 scalar_longest_of before s longest l =
     let part = scalar_begins longest in
     record {
@@ -175,10 +175,10 @@ scalar_longest_of before s longest l =
     }
 
 pub scalar_exactly : (before : List Operator) (s : Source) (longest placed : Placed) → IsLongestAfter before s longest →
-    IsLongestOf IsScalar before s placed ↔ (placed ≡ scalar_beginning longest)
+    Longest (IsPrefixAfter before s) IsScalar placed ↔ (placed ≡ scalar_beginning longest)
 scalar_exactly before s longest placed l = (
   λ h. one_longest IsScalar before s placed (scalar_beginning longest) h (scalar_longest_of before s longest l),
-  λ same. subst (IsLongestOf IsScalar before s) (sym same) (scalar_longest_of before s longest l),
+  λ same. subst (Longest (IsPrefixAfter before s) IsScalar) (sym same) (scalar_longest_of before s longest l),
 )
 
 pub scalar_part : (before : List Operator) (s : Source) (longest placed : Placed) → IsLongestAfter before s longest → IsPrefixAfter before s placed →
@@ -187,7 +187,7 @@ scalar_part before s longest placed l h scalar =
     scalar_longest longest placed (laid_beginning s.features s.offset placed longest h.beginning l.beginning.beginning h.more l.beginning.more h.laid
     l.beginning.laid (sym h.parts ∙ l.beginning.parts) (l.longest placed h tt)) scalar
 
-pub scalar_flat : (frames : List FrameKind) (s : Source) (flat : Placed) → IsFlatFrom frames s flat → IsFlatOf IsScalar frames s (scalar_beginning flat)
+pub scalar_flat : (frames : List FrameKind) (s : Source) (flat : Placed) → IsFlatFrom frames s flat → Longest (IsAllowedFrom frames s) IsScalar (scalar_beginning flat)
 scalar_flat frames s flat l =
     let part = scalar_begins flat in
     record {

@@ -62,15 +62,15 @@ pub record IsPrefixAfter (before : List Operator) (s : Source) (placed : Placed)
   pub laid : LaidOut s.features s.offset placed beginning
   pub begins : Begins s.features (before ++ operators placed)
 
--- The longest `Kept` list with `IsPrefixAfter`.
-pub record IsLongestOf (Kept : OfPlaced) (before : List Operator) (s : Source) (placed : Placed) : Type 0 where
-  pub beginning : IsPrefixAfter before s placed
+-- The longest `Kept` list with the property `Is`.
+pub record Longest (Is Kept : OfPlaced) (placed : Placed) : Type 0 where
+  pub beginning : Is placed
   pub kept : Kept placed
-  pub longest : (others : Placed) → IsPrefixAfter before s others → Kept others → length others ≤ length placed
+  pub longest : (others : Placed) → Is others → Kept others → length others ≤ length placed
 
--- As `IsLongestOf`, for all lists.
+-- The longest list with `IsPrefixAfter`.
 abbrev pub IsLongestAfter : List Operator → Source → Placed → Type 0
-IsLongestAfter before s placed = IsLongestOf IsAny before s placed
+IsLongestAfter before s placed = Longest (IsPrefixAfter before s) IsAny placed
 
 -- As `IsLongestAfter`, with no operators before.
 abbrev pub IsLongestBeginning : Source → Placed → Type 0

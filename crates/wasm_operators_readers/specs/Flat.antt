@@ -1,12 +1,12 @@
 -- Prefixes of expressions, by the frames alone. Specification: Validation, Control Instructions;
 -- Appendix, Validation Algorithm. Proposal legacy exception handling.
-use Rattle.std.specs.Prelude.{◌≡◌, ℕ, ◌≤◌, List, [], ◌∷◌, ◌++◌, length, IsSome}
+use Rattle.std.specs.Prelude.{◌≡◌, ℕ, List, [], ◌∷◌, ◌++◌, IsSome}
 use Rattle.wasm_decode.specs.below.Source.{Source}
 use Rattle.wasm_decode.specs.grammar.declared.frame_kind.FrameKind.{FrameKind}
 use Rattle.wasm_decode.specs.grammar.declared.frame_kind.FrameKind.TheVariants as frame
 use Rattle.wasm_decode.specs.grammar.Frames.{frames_along}
 use Rattle.wasm_decode.specs.instr.Roles.{roles_of}
-use Rattle.wasm_operators_readers.specs.Expression.{Placed, OfPlaced, IsAny, operators, LaidOut}
+use Rattle.wasm_operators_readers.specs.Expression.{Placed, IsAny, operators, LaidOut, Longest}
 
 -- A prefix of the bytes encodes these operators, and the frames allow them step by step.
 pub record IsAllowedFrom (frames : List FrameKind) (s : Source) (placed : Placed) : Type 0 where
@@ -16,15 +16,9 @@ pub record IsAllowedFrom (frames : List FrameKind) (s : Source) (placed : Placed
   pub laid : LaidOut s.features s.offset placed beginning
   pub allowed : IsSome (frames_along frames (roles_of (operators placed)))
 
--- The longest `Kept` list that the bytes start with and the frames allow.
-pub record IsFlatOf (Kept : OfPlaced) (frames : List FrameKind) (s : Source) (placed : Placed) : Type 0 where
-  pub beginning : IsAllowedFrom frames s placed
-  pub kept : Kept placed
-  pub longest : (others : Placed) → IsAllowedFrom frames s others → Kept others → length others ≤ length placed
-
--- As `IsFlatOf`, for all lists.
+-- The longest list that the bytes start with and the frames allow.
 abbrev pub IsFlatFrom : List FrameKind → Source → Placed → Type 0
-IsFlatFrom frames s placed = IsFlatOf IsAny frames s placed
+IsFlatFrom frames s placed = Longest (IsAllowedFrom frames s) IsAny placed
 
 -- As `IsFlatFrom`, for the one frame of an expression.
 abbrev pub IsFlatBeginning : Source → Placed → Type 0

@@ -11,8 +11,8 @@ use Rattle.wasm_decode.specs.grammar.Frames.{frames_along}
 use Rattle.wasm_decode.specs.grammar.OpenPath.{OpenPath}
 use Rattle.wasm_decode.specs.instr.declared.operator.Operator.{Operator}
 use Rattle.wasm_decode.specs.instr.Roles.{roles_of}
-use Rattle.wasm_operators_readers.specs.Expression.{Placed, OfPlaced, operators, LaidOut, AreEncoded, EncodesRest, IsPrefixAfter, IsLongestOf, IsLongestAfter}
-use Rattle.wasm_operators_readers.specs.Flat.{IsFlatOf}
+use Rattle.wasm_operators_readers.specs.Expression.{Placed, OfPlaced, operators, LaidOut, AreEncoded, EncodesRest, IsPrefixAfter, Longest, IsLongestAfter}
+use Rattle.wasm_operators_readers.specs.Flat.{IsAllowedFrom}
 use Rattle.wasm_operators_readers.specs.Reading.{State, Taking, Refusing, Allocating, StopsRun}
 
 -- These operators were read before: they have encodings, and lead to the open frames.
@@ -32,7 +32,7 @@ pub record ReadsTree (before : List Operator) (old new : State) (placed : Placed
 -- The longest `Kept` list that begins an expression; after `OutOfMemory`, some list that begins one.
 abbrev pub BeginningAt : OfPlaced → Message → List Operator → Reader → Placed → Type 0
 BeginningAt Kept message.OutOfMemory before r placed = IsPrefixAfter before (source_of r) placed
-BeginningAt Kept _ before r placed = IsLongestOf Kept before (source_of r) placed
+BeginningAt Kept _ before r placed = Longest (IsPrefixAfter before (source_of r)) Kept placed
 
 -- The operators are the longest `Kept` list that begins an expression; after `OutOfMemory`, some
 -- list that begins one. The error describes the bytes after them.
@@ -60,7 +60,7 @@ ClosesFrom frames s placed = LaidOut s.features s.offset placed s.bytes × (fram
 -- if and only if all of the bytes encode it and it closes every frame.
 abbrev pub ReadsFlat : {X : Type 0} → OfPlaced → OfPlaced → Result X Error → State → Type 0
 ReadsFlat Effect Kept result old =
-    (flat : Placed) → IsFlatOf Kept old.frames (source_of old.reader) flat → IsNotOutOfMemory result → Effect flat ×
+    (flat : Placed) → Longest (IsAllowedFrom old.frames (source_of old.reader)) Kept flat → IsNotOutOfMemory result → Effect flat ×
     (IsOk result ↔ ClosesFrom old.frames (source_of old.reader) flat)
 
 -- Each added frame took at least two bytes.

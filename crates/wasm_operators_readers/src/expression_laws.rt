@@ -6,8 +6,8 @@ ghost use Rattle.wasm_decode.specs.instr.declared.operator.Operator.{Operator};
 ghost use Rattle.wasm_decode.specs.instr.Encoding.{EncodesOperator};
 ghost use Rattle.wasm_decode.specs.instr.Kinds.{IsVector};
 ghost use Rattle.wasm_decode.specs.instr.Roles.{change_at};
-ghost use Rattle.wasm_operators_readers.specs.Expression.{Placed, LaidOut, EndsAt, AreEncoded, EncodesRest, EncodesExpression, IsBeginningOf, IsPrefixAfter, IsLongestOf, IsLongestAfter, IsLongestBeginning};
-ghost use Rattle.wasm_operators_readers.specs.Flat.{IsFlatOf, IsFlatFrom, IsFlatBeginning};
+ghost use Rattle.wasm_operators_readers.specs.Expression.{Placed, LaidOut, EndsAt, AreEncoded, EncodesRest, EncodesExpression, IsBeginningOf, IsPrefixAfter, Longest, IsLongestAfter, IsLongestBeginning};
+ghost use Rattle.wasm_operators_readers.specs.Flat.{IsAllowedFrom, IsFlatFrom, IsFlatBeginning};
 ghost use Rattle.wasm_operators_readers.specs.Laws.{IsNoLonger, HasEncodings, LaysOutBoth, BeginsLonger};
 ghost use Rattle.wasm_operators_readers.specs.MainTheorem.{ReadSoFar, ClosesFrom};
 ghost use Rattle.wasm_operators_readers.specs.Openings.{opened_by};
@@ -67,10 +67,10 @@ pub fn longest_exists()
     ensures any { (before : List Operator) (s : State) → ReadSoFar before s
         → ¬ ((placed : Placed) → ¬ IsLongestAfter before (source_of s.reader) placed) }
     ensures scalar { (before : List Operator) (s : State) → ReadSoFar before s
-        → ¬ ((placed : Placed) → ¬ IsLongestOf IsScalar before (source_of s.reader) placed) }
+        → ¬ ((placed : Placed) → ¬ Longest (IsPrefixAfter before (source_of s.reader)) IsScalar placed) }
     ensures flat { (frames : List FrameKind) (s : Source) → ¬ ((placed : Placed) → ¬ IsFlatFrom frames s placed) }
     ensures scalar_flat { (frames : List FrameKind) (s : Source)
-        → ¬ ((placed : Placed) → ¬ IsFlatOf IsScalar frames s placed) }
+        → ¬ ((placed : Placed) → ¬ Longest (IsAllowedFrom frames s) IsScalar placed) }
 {}
 
 /// States that if all bytes encode the rest of an expression, their operators are the longest list.
@@ -97,11 +97,11 @@ pub fn scalar_beginnings()
 /// trees and by frames. It is a whole expression if and only if the longest list is one and scalar.
 pub fn scalar_longest()
     ensures exactly { (before : List Operator) (s : Source) (longest placed : Placed) → IsLongestAfter before s longest
-        → IsLongestOf IsScalar before s placed ↔ (placed ≡ scalar_beginning longest) }
+        → Longest (IsPrefixAfter before s) IsScalar placed ↔ (placed ≡ scalar_beginning longest) }
     ensures part { (before : List Operator) (s : Source) (longest placed : Placed) → IsLongestAfter before s longest
         → IsPrefixAfter before s placed → IsScalar placed → IsBeginningOf placed (scalar_beginning longest) }
     ensures flat { (frames : List FrameKind) (s : Source) (flat : Placed) → IsFlatFrom frames s flat
-        → IsFlatOf IsScalar frames s (scalar_beginning flat) }
+        → Longest (IsAllowedFrom frames s) IsScalar (scalar_beginning flat) }
     ensures closes { (frames : List FrameKind) (s : Source) (flat : Placed) → IsFlatFrom frames s flat
         → ClosesFrom frames s (scalar_beginning flat) ↔ (ClosesFrom frames s flat × IsScalar flat) }
 {}
