@@ -4,19 +4,18 @@ use Rattle.wasm_operators.specs.below.bytes.error.Error.{Error}
 use Rattle.wasm_operators.specs.below.bytes.message.Message.TheVariants as message
 use Rattle.wasm_operators.specs.below.Source.{Reader, rest}
 use Rattle.wasm_operators.specs.opcodes.Allowed.{EncodesAllowed}
-use Rattle.wasm_operators.specs.opcodes.OperatorFaults.{OperatorFault}
 use Rattle.wasm_operators.specs.Expression.{Placed}
 use Rattle.wasm_operators.specs.Laws.{IsNoLonger}
 use Rattle.wasm_operators.specs.MainTheorem.{IsWithinDepth}
-use Rattle.wasm_operators.specs.Next.{ListMayAllocate, NextMayAllocate}
-use Rattle.wasm_operators.specs.Reading.{State, Adds, Anywhere, RunsToEnd, StopsRun, TakesOperators}
+use Rattle.wasm_operators.specs.Next.{ListMayAllocate, NextMayAllocate, adding}
+use Rattle.wasm_operators.specs.Reading.{State, Adds, RunsToEnd, StopsRun, TakesOperators}
 use Rattle.wasm_operators.specs.Stack.{frame_memory}
 
 some_left : (bytes : List ℕ) → (bytes ≡ [] → ⊥) → 0 < length bytes
 some_left [] none = absurd (none refl)
 some_left (byte ∷ bytes) none = omega arith
 
-data_left : (e : Error) (s : State) → StopsRun EncodesAllowed OperatorFault Anywhere e s → e.message ≡ message.OutOfMemory → 0 < length (rest s.reader)
+data_left : (e : Error) (s : State) → StopsRun adding e s → e.message ≡ message.OutOfMemory → 0 < length (rest s.reader)
 data_left e s (inl (all, open_frame, left, at)) is = absurd (cc (sym left ∙ is))
 data_left e s (inr (some, why)) is = some_left (rest s.reader) some
 
@@ -46,7 +45,7 @@ left_over (inr c) none other = absurd (other c)
 
 pub only_lists : {X : Type 0} (result : Result X Error) (old new : State) (items more : Placed) (capacity grown : ℕ) → IsNoLonger old.reader.features →
     length (rest old.reader) ≤ 2 * old.room → length items + length (rest old.reader) ≤ capacity → capacity ≤ grown →
-    RunsToEnd (Adds items more) EncodesAllowed OperatorFault Anywhere result old new → IsWithinDepth old new →
+    RunsToEnd adding (Adds items more) result old new → IsWithinDepth old new →
     IfErr result (λ e. e.message ≡ message.OutOfMemory → NextMayAllocate EncodesAllowed new ⊎ (grown < length more + 1)) →
     IfErr result (λ e. e.message ≡ message.OutOfMemory → ListMayAllocate EncodesAllowed new)
 only_lists (Ok x) old new items more capacity grown shorter frames fits kept runs depth memory = tt

@@ -8,7 +8,7 @@ use Rattle.wasm_operators.specs.grammar.OpenPath.{OpenPath}
 use Rattle.wasm_operators.specs.instr.Roles.{roles_of}
 use Rattle.wasm_operators.specs.Expression.{Placed, OfPlaced, operators, LaidOut, EncodesExpression, Longest, IsPrefixAfter}
 use Rattle.wasm_operators.specs.MainTheorem.{BeginningAt, ReadsBeginning, CutFault}
-use Rattle.wasm_operators.specs.Reading.{State, Taking, Refusing, Allocating}
+use Rattle.wasm_operators.specs.Reading.{State, Decoder}
 use Rattle.uses_steps.specs.Begun.{BeginsExpression}
 use Rattle.uses_steps.specs.Input.{input}
 
@@ -23,10 +23,10 @@ pub longest_at : (Kept : OfPlaced) (m : Message) (r : Reader) (placed : Placed) 
 longest_at Kept message.OutOfMemory r placed other h = absurd (other refl)
 longest_at Kept _ r placed other h = h
 
-pub begins_same : (Kept : OfPlaced) (Encodes : Taking) (Fault : Refusing) (Allocates : Allocating) (e : Error) (old other new : State) (placed : Placed) →
-    other.reader ≡ old.reader → ReadsBeginning Kept Encodes Fault Allocates [] e other new placed → ReadsBeginning Kept Encodes Fault Allocates [] e old new placed
-begins_same Kept Encodes Fault Allocates e old other new placed same h = record {
-  at = subst (λ r. BeginningAt Kept e.message [] r placed) same h.at;
+pub begins_same : (decoder : Decoder) (e : Error) (old other new : State) (placed : Placed) → other.reader ≡ old.reader →
+    ReadsBeginning decoder [] e other new placed → ReadsBeginning decoder [] e old new placed
+begins_same decoder e old other new placed same h = record {
+  at = subst (λ r. BeginningAt decoder.Kept e.message [] r placed) same h.at;
   text = h.text;
   takes = subst (λ r. Takes r new.reader h.text) same h.takes;
   laid = subst (λ (r : Reader). LaidOut r.features (offset_of r) placed h.text) same h.laid;

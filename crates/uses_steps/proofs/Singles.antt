@@ -19,22 +19,22 @@ use Rattle.wasm_operators.specs.opcodes.Allowed.{EncodesAllowed}
 use Rattle.wasm_operators.specs.opcodes.OperatorFaults.{OperatorFault}
 use Rattle.wasm_operators.specs.opcodes.Refused.{LeadsList}
 use Rattle.wasm_operators.specs.Expression.{Placed, operators, LaidOut, EncodesRest, EncodesExpression}
-use Rattle.wasm_operators.specs.Next.{NextMayAllocate, ReadsNext, StopsNext}
-use Rattle.wasm_operators.specs.Reading.{State, Taking, Refusing, TakesOperator, StopsRead, StopsFinish}
+use Rattle.wasm_operators.specs.Next.{NextMayAllocate, ReadsNext, StopsNext, simd}
+use Rattle.wasm_operators.specs.Reading.{State, TakesOperator, StopsRead, StopsFinish, Decoder}
 use Rattle.uses_steps.specs.Complaints.{IsRefusal}
 use Rattle.uses_steps.specs.Input.{input}
 use Rattle.uses_steps.proofs.Codes.{may_follow}
 use Rattle.uses_steps.proofs.Ended.{along}
 
-fault_there : (Encodes : Taking) (Fault : Refusing) (e : Error) (s : State) (frame : FrameKind) → innermost s.frames ≡ Some frame →
-    e.message ≢ message.OutOfMemory → StopsRead Encodes Fault (NextMayAllocate Encodes) e s → Fault s.reader.features frame e.message s.reader e.offset
-fault_there Encodes Fault e s frame inner other (inl (closed, said, at)) =
+fault_there : (decoder : Decoder) (e : Error) (s : State) (frame : FrameKind) → innermost s.frames ≡ Some frame → e.message ≢ message.OutOfMemory →
+    StopsRead decoder e s → decoder.Fault s.reader.features frame e.message s.reader e.offset
+fault_there decoder e s frame inner other (inl (closed, said, at)) =
     let none : innermost [] ≡ Some frame = subst (λ frames. innermost frames ≡ Some frame) closed inner in
     absurd (cc none)
-fault_there Encodes Fault e s frame inner other (inr (inl there)) =
+fault_there decoder e s frame inner other (inr (inl there)) =
     let same : there.kind ≡ frame = cc (there.open_frame, inner) in
-    subst (λ kind. Fault s.reader.features kind e.message s.reader e.offset) same there.fault
-fault_there Encodes Fault e s frame inner other (inr (inr (memory, at, may))) = absurd (other memory)
+    subst (λ kind. decoder.Fault s.reader.features kind e.message s.reader e.offset) same there.fault
+fault_there decoder e s frame inner other (inr (inr (memory, at, may))) = absurd (other memory)
 
 list_leads : (s : State) → 0 < s.room → NextMayAllocate EncodesAllowed s → (byte : ℕ) × LeadsList byte × BeginsWith byte (rest s.reader)
 list_leads s some (inl (kind, inner, byte, begins, leads, none)) = absurd (omega arith)
@@ -56,15 +56,15 @@ first_then features bytes old mid op placed fresh taken (laid, walk) =
     let there = subst (λ o. LaidOut features o placed (rest mid.reader)) place (subst (λ f. LaidOut f (offset_of mid.reader) placed (rest mid.reader)) same laid) in
     ((refl, taken.text, rest mid.reader, takes.parts, encodes, there), walk)
 
-pub fault_of : (Encodes : Taking) (Fault : Refusing) (e : Error) (old new : State) (frame : FrameKind) → innermost old.frames ≡ Some frame →
-    e.message ≢ message.OutOfMemory → StopsNext Encodes Fault e old new → Fault old.reader.features frame e.message old.reader e.offset
-fault_of Encodes Fault e old new frame inner other (unchanged, stops) =
-    let there = fault_there Encodes Fault e new frame (ap innermost unchanged.1 ∙ inner) other stops in
-    subst (λ (r : Reader). Fault r.features frame e.message r e.offset) unchanged.0 there
+pub fault_of : (decoder : Decoder) (e : Error) (old new : State) (frame : FrameKind) → innermost old.frames ≡ Some frame → e.message ≢ message.OutOfMemory →
+    StopsNext decoder e old new → decoder.Fault old.reader.features frame e.message old.reader e.offset
+fault_of decoder e old new frame inner other (unchanged, stops) =
+    let there = fault_there decoder e new frame (ap innermost unchanged.1 ∙ inner) other stops in
+    subst (λ (r : Reader). decoder.Fault r.features frame e.message r e.offset) unchanged.0 there
 
 pub fault_before : (e : Error) (old new : State) (frame : FrameKind) → innermost old.frames ≡ Some frame → e.message ≢ message.OutOfMemory →
-    StopsNext EncodesAllowed OperatorFault e old new → OperatorFault old.reader.features frame e.message old.reader e.offset
-fault_before = fault_of EncodesAllowed OperatorFault
+    StopsNext simd e old new → OperatorFault old.reader.features frame e.message old.reader e.offset
+fault_before = fault_of simd
 
 pub read_fault : (result : Option Error) (old new : State) (frame : FrameKind) → innermost old.frames ≡ Some frame →
     ((m : Message) (r : Reader) (offset : ℕ) → OperatorFault old.reader.features frame m r offset → IsReadFault m) → IsRefusal result old new →
@@ -87,8 +87,7 @@ first_read (Ok op) r old new same inner taken =
 first_read (Err e) r old new same inner stopped = tt
 
 none_there : (e : Error) (s : State) (frame : FrameKind) → innermost s.frames ≡ Some frame → e.message ≢ message.OutOfMemory →
-    StopsRead EncodesAllowed OperatorFault (NextMayAllocate EncodesAllowed) e s → (op : Operator) (text more : List ℕ) →
-    rest s.reader ≡ text ++ more → EncodesAllowed s.reader.features frame text op → ⊥
+    StopsRead simd e s → (op : Operator) (text more : List ℕ) → rest s.reader ≡ text ++ more → EncodesAllowed s.reader.features frame text op → ⊥
 none_there e s frame inner other (inl (closed, said, at)) op text more parts encodes =
     let none : innermost [] ≡ Some frame = subst (λ frames. innermost frames ≡ Some frame) closed inner in
     absurd (cc none)
@@ -117,8 +116,7 @@ is_no_expression features bytes (p ∷ ps) closes none ((at, text, more, parts, 
     none p.0 text more parts (encodes, allowed)
 
 abbrev pub IsAsked : Type 0
-IsAsked = (e : Error) (s : State) → StopsRead EncodesAllowed OperatorFault (NextMayAllocate EncodesAllowed) e s → e.message ≡ message.OutOfMemory →
-    NextMayAllocate EncodesAllowed s
+IsAsked = (e : Error) (s : State) → StopsRead simd e s → e.message ≡ message.OutOfMemory → NextMayAllocate EncodesAllowed s
 
 pub first_memory : (result : Result Operator Error) (r : Reader) (old new : State) → IsAsked → old.reader ≡ r → 0 < old.room → ReadsNext result old new →
     IfErr result (λ e. e.message ≡ message.OutOfMemory → (byte : ℕ) × LeadsList byte × BeginsWith byte (rest r))

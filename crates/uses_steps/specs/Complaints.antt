@@ -7,16 +7,16 @@ use Rattle.wasm_operators.specs.instr.declared.operator.Operator.{Operator}
 use Rattle.wasm_operators.specs.opcodes.Allowed.{EncodesAllowed}
 use Rattle.wasm_operators.specs.opcodes.declared.guard.Guard.{Guard}
 use Rattle.wasm_operators.specs.opcodes.Entry.{guarded_role}
-use Rattle.wasm_operators.specs.opcodes.OperatorFaults.{LacksFeature, OperatorFault}
+use Rattle.wasm_operators.specs.opcodes.OperatorFaults.{LacksFeature}
 use Rattle.wasm_operators.specs.readers.Guarded.{BeginsGuarded}
-use Rattle.wasm_operators.specs.Next.{StopsNext}
+use Rattle.wasm_operators.specs.Next.{StopsNext, simd}
 use Rattle.wasm_operators.specs.Reading.{State, TakesOperator}
 use Rattle.uses_steps.specs.declared.single.Complaint.{Complaint}
 use Rattle.uses_steps.specs.declared.single.Complaint.TheVariants as complaint
 
 -- Reading the next operator fails with this error, or takes an operator.
 abbrev pub IsRefusal : Option Error → State → State → Type 0
-IsRefusal (Some e) old new = StopsNext EncodesAllowed OperatorFault e old new
+IsRefusal (Some e) old new = StopsNext simd e old new
 IsRefusal None old new = (op : Operator) × TakesOperator EncodesAllowed op old new
 
 -- `Feature`: the next operator's is disabled. `Frame`: the innermost forbids it. `Other`: no claim.

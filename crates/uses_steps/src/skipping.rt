@@ -1,10 +1,8 @@
 ghost use Rattle.std.specs.Prelude.{◌≡◌, ◌-◌, ◌<◌, length, IfOk, IfErr};
-ghost use Rattle.wasm_operators.specs.opcodes.Allowed.{EncodesAllowed};
-ghost use Rattle.wasm_operators.specs.opcodes.OperatorFaults.{OperatorFault};
 ghost use Rattle.wasm_operators.specs.Expression.{Placed};
 ghost use Rattle.wasm_operators.specs.MainTheorem.{IsWithinDepth};
-ghost use Rattle.wasm_operators.specs.readers.Next.{NextMayAllocate};
 ghost use Rattle.wasm_operators.specs.Reading.{GrowsLittle, TakesOperators, StopsRead};
+ghost use Rattle.wasm_operators.specs.Next.{simd};
 
 use wasm_operators::{OperatorsReader, Result, run_laws};
 
@@ -17,7 +15,7 @@ pub fn skip_operators(operators: &mut OperatorsReader<'_>, count: u32) -> Result
         × TakesOperators operators.old operators.new placed) }
     ensures refused { IfErr result (λ e. (placed : Placed) × (length placed < count)
         × TakesOperators operators.old operators.new placed
-        × StopsRead EncodesAllowed OperatorFault (NextMayAllocate EncodesAllowed) e operators.new) }
+        × StopsRead simd e operators.new) }
     ensures depth { IsWithinDepth operators.old operators.new }
     ensures memory { GrowsLittle (operators.new.reader.position - operators.old.reader.position) operators.old operators.new }
 {

@@ -5,14 +5,13 @@ use Rattle.std.specs.Io.KnownBytes.{Appends}
 use Rattle.wasm_operators.specs.below.bytes.error.Error.{Error}
 use Rattle.wasm_operators.specs.below.bytes.message.Message.TheVariants as message
 use Rattle.wasm_operators.specs.below.Source.{Source, Reader, rest, offset_of, source_of}
-use Rattle.wasm_operators.specs.opcodes.Allowed.{EncodesAllowed}
-use Rattle.wasm_operators.specs.opcodes.OperatorFaults.{OperatorFault}
 use Rattle.wasm_operators.specs.Body.{EncodesBody, NoExpression}
-use Rattle.wasm_operators.specs.Expression.{Placed, IsAny, EncodesExpression}
+use Rattle.wasm_operators.specs.Expression.{Placed, EncodesExpression}
 use Rattle.wasm_operators.specs.MainTheorem.{ReadsBeginning}
 use Rattle.wasm_operators.specs.Locals.{Locals, OpensLocals, ReadsDeclaration}
-use Rattle.wasm_operators.specs.Reading.{State, IsFresh, Anywhere}
+use Rattle.wasm_operators.specs.Reading.{State, IsFresh}
 use Rattle.wasm_operators.specs.instr.declared.operator.Operator.{Operator}
+use Rattle.wasm_operators.specs.Next.{adding}
 use Rattle.wasm_operators.specs.instr.declared.operator.Operator.TheVariants as operator
 use Rattle.wasm_lines.specs.Lines.{shown_name, header_of, lines_of}
 use Rattle.wasm_lines.specs.text.Operands.{text_of}
@@ -115,6 +114,6 @@ ListsOperators names start bytes (Ok x) reader before after =
     Appends before after (lines_of (called_text names) start bytes (offset_of reader + length (rest reader)) placed)
 ListsOperators names start bytes (Err (fault.Refused e)) reader before after =
     (e.message ≢ message.OutOfMemory) × (opened stopped : State) × (opened.reader ≡ reader) × IsFresh opened × (placed : Placed) ×
-    ReadsBeginning IsAny EncodesAllowed OperatorFault Anywhere [] e opened stopped placed ×
+    ReadsBeginning adding [] e opened stopped placed ×
     Appends before after (lines_of (called_text names) start bytes (offset_of stopped.reader) placed)
 ListsOperators names start bytes (Err _) reader before after = Unit {0}

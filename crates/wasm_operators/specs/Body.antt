@@ -3,11 +3,10 @@ use Rattle.std.specs.Prelude.{◌≡◌, ◌≢◌, ℕ, ◌+◌, List, [], ◌+
 use Rattle.wasm_operators_readers.specs.below.bytes.error.Error.{Error}
 use Rattle.wasm_operators_readers.specs.below.bytes.message.Message.TheVariants as message
 use Rattle.wasm_operators_readers.specs.below.Source.{Source, Reader, source_of}
-use Rattle.wasm_operators_readers.specs.opcodes.Allowed.{EncodesAllowed}
-use Rattle.wasm_operators_readers.specs.opcodes.OperatorFaults.{OperatorFault}
-use Rattle.wasm_operators_readers.specs.Expression.{Placed, OfPlaced, IsAny, EncodesExpression}
-use Rattle.wasm_operators_readers.specs.Reading.{State, IsFresh, Anywhere}
+use Rattle.wasm_operators_readers.specs.Expression.{Placed, OfPlaced, EncodesExpression}
+use Rattle.wasm_operators_readers.specs.Reading.{State, IsFresh}
 use Rattle.wasm_operators_readers.specs.MainTheorem.{ReadsBeginning}
+use Rattle.wasm_operators_readers.specs.Next.{adding}
 use Rattle.wasm_operators.specs.Locals.{Declaration, EncodesLocals, RefusesLocals, ReadsPastLocals}
 
 -- The bytes of a source after the prefix `text`, as a source.
@@ -38,7 +37,7 @@ pub record NoExpression (e : Error) (body : Reader) (placed : Placed) : Type 0 w
   pub opened : State
   pub opens : OpensBody (Ok opened) body
   pub stopped : State
-  pub reads : ReadsBeginning IsAny EncodesAllowed OperatorFault Anywhere [] e opened stopped placed
+  pub reads : ReadsBeginning adding [] e opened stopped placed
 
 -- Except after `OutOfMemory`: the bytes encode no body; these operators are the longest prefix of
 -- an expression, or none if the locals are in error.

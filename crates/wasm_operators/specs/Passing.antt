@@ -3,8 +3,7 @@ use Rattle.wasm_operators_readers.specs.below.bytes.error.Error.{Error}
 use Rattle.wasm_operators_readers.specs.instr.declared.operator.Operator.{Operator}
 use Rattle.wasm_operators_readers.specs.instr.declared.operator.Operator.TheVariants as operator
 use Rattle.wasm_operators_readers.specs.opcodes.Allowed.{EncodesAllowed}
-use Rattle.wasm_operators_readers.specs.opcodes.OperatorFaults.{OperatorFault}
-use Rattle.wasm_operators_readers.specs.Next.{NextMayAllocate}
+use Rattle.wasm_operators_readers.specs.Next.{simd}
 use Rattle.wasm_operators_readers.specs.Expression.{Placed, operators}
 use Rattle.wasm_operators_readers.specs.Reading.{State, IsUnchanged, TakesOperator, StopsRead, TakesOperators}
 use Rattle.wasm_operators.specs.Constant.{EndsOnce}
@@ -12,7 +11,7 @@ use Rattle.wasm_operators.specs.Constant.{EndsOnce}
 -- An operator was read, and the result is whether it is `end`; or the read failed.
 abbrev pub PassesOne : Result Bool Error → State → State → Type 0
 PassesOne (Ok outcome) old new = (op : Operator) × TakesOperator EncodesAllowed op old new × (IsTrue outcome ↔ (op ≡ operator.End))
-PassesOne (Err e) old new = IsUnchanged old new × StopsRead EncodesAllowed OperatorFault (NextMayAllocate EncodesAllowed) e new
+PassesOne (Err e) old new = IsUnchanged old new × StopsRead simd e new
 
 abbrev pub PassesEnd : State → State → Type 0
 PassesEnd old new = (placed : Placed) × TakesOperators old new placed × EndsOnce (operators placed)

@@ -3,12 +3,10 @@ ghost use Rattle.wasm_operators_readers.specs.below.bytes.error.Error.{Error};
 ghost use Rattle.wasm_operators_readers.specs.below.Fault.{DeterminesRefusal};
 ghost use Rattle.wasm_operators_readers.specs.below.Sequence.{PrefixCode};
 ghost use Rattle.wasm_operators_readers.specs.below.Source.{Source, Reader, source_of};
-ghost use Rattle.wasm_operators_readers.specs.opcodes.Allowed.{EncodesAllowed};
-ghost use Rattle.wasm_operators_readers.specs.opcodes.OperatorFaults.{OperatorFault};
-ghost use Rattle.wasm_operators_readers.specs.Expression.{Placed, IsAny, EncodesExpression};
+ghost use Rattle.wasm_operators_readers.specs.Expression.{Placed, EncodesExpression};
 ghost use Rattle.wasm_operators_readers.specs.MainTheorem.{ReadsTree, ReadsBeginning};
-ghost use Rattle.wasm_operators_readers.specs.Next.{NextMayAllocate};
-ghost use Rattle.wasm_operators_readers.specs.Reading.{State, Anywhere};
+ghost use Rattle.wasm_operators_readers.specs.Next.{simd, adding};
+ghost use Rattle.wasm_operators_readers.specs.Reading.{State};
 ghost use Rattle.wasm_operators.specs.Body.{EncodesBody, OpensBody, StopsBody};
 ghost use Rattle.wasm_operators.specs.Locals.{Declaration, EncodesDeclaration, EncodesLocals, DeclarationFault, LocalsFault, NextFault, RefusesLocals, IsPastLocals, Locals, LocalsLeft, OpensLocals, StepsLocals, HasStepped, all_left};
 
@@ -55,11 +53,9 @@ pub fn opened_bodies()
         → OpensBody (Ok opened) body → EncodesBody (source_of body) declarations placed
         → EncodesExpression (source_of opened.reader) placed }
     ensures stopped { (e : Error) (body : Reader) (opened new : State) (placed : Placed) → OpensBody (Ok opened) body
-        → ReadsBeginning IsAny EncodesAllowed OperatorFault Anywhere [] e opened new placed
-        → StopsBody e body placed }
+        → ReadsBeginning adding [] e opened new placed → StopsBody e body placed }
     ensures stopped_visits { (e : Error) (body : Reader) (opened new : State) (placed : Placed) → OpensBody (Ok opened) body
-        → ReadsBeginning IsAny EncodesAllowed OperatorFault (NextMayAllocate EncodesAllowed) [] e opened new placed
-        → StopsBody e body placed }
+        → ReadsBeginning simd [] e opened new placed → StopsBody e body placed }
 {}
 
 /// States that if the locals are in error, the bytes encode no body, and that reading locals does

@@ -12,7 +12,7 @@ use Rattle.wasm_operators_readers.specs.Stack.{OpenFrames, frame_memory}
 use Rattle.wasm_operators_readers.proofs.FrameMemory.{memory_stays, as_little}
 use Rattle.wasm_operators_readers.specs.Reading.{Taking, Refusing}
 use Rattle.wasm_operators_readers.specs.Next.{StopsNext, state_of}
-use Rattle.wasm_operators_readers.proofs.Taken.{room_refused}
+use Rattle.wasm_operators_readers.proofs.Taken.{one_read, room_refused}
 use Rattle.wasm_decode.proofs.DecodingLemmas.{occurs}
 
 pub back_to : (old mid : Reader) (code start : ℕ) → HasRead IsByte code old mid → start ≡ old.position → (start ≤ mid.position) × (at_position mid start ≡ old) × BeginsWith code (rest old)
@@ -23,7 +23,7 @@ back_to old mid code start reads same =
 
 pub begun_without_room : (Encodes : Taking) (Fault : Refusing) (old mid new : Reader) (s t : OpenFrames) (kind : FrameKind) (code start : ℕ) (c : FrameChange) (e : Error) →
     innermost s.frames ≡ Some kind → HasRead IsByte code old mid → start ≡ old.position → c ≡ change_at code → OpensFrame c → s.room ≡ 0 → t ≡ s → new ≡ at_position mid start →
-    e.message ≡ message.OutOfMemory → e.offset ≡ mid.start + start → StopsNext Encodes Fault e (state_of old s) (state_of new t)
+    e.message ≡ message.OutOfMemory → e.offset ≡ mid.start + start → StopsNext (one_read Encodes Fault) e (state_of old s) (state_of new t)
 begun_without_room Encodes Fault old mid new s t kind code start c e open_frame reads same changes opens none stays went is at =
     let b = back_to old mid code start reads same in
     let begin : mid.start ≡ old.start = ap (λ (r : Reader). r.start) b.1 in

@@ -3,7 +3,7 @@ use Rattle.wasm_decode.specs.instr.declared.operator.Operator.{Operator}
 use Rattle.wasm_operators_readers.specs.Expression.{Placed}
 use Rattle.wasm_operators_readers.specs.Collecting.{CollectsOne, AreMade, Collects}
 use Rattle.wasm_decode.specs.below.bytes.error.Error.{Error}
-use Rattle.wasm_operators_readers.specs.Reading.{Taking, Refusing, Allocating, State, Adds, RunsToEnd}
+use Rattle.wasm_operators_readers.specs.Reading.{State, Adds, RunsToEnd, Decoder}
 
 made_push : {T : Type 0} (holds : Operator → T → Type 0) (placed : Placed) (items : List (T × ℕ)) (op : Operator) (at : ℕ) (made : T) → AreMade holds placed items →
     holds op made → AreMade holds (placed ++ (op, at) ∷ []) (items ++ (made, at) ∷ [])
@@ -27,6 +27,6 @@ made_same (p ∷ ps) items (first, others, same, one, more) =
 pub collected_adds : (old new placed : Placed) → Collects (λ op made. made ≡ op) old new placed → Adds old new placed
 collected_adds old new placed (items, are, same) = same ∙ ap (λ (x : Placed). old ++ x) (made_same placed items are)
 
-pub collected_runs : {X : Type 0} (Encodes : Taking) (Fault : Refusing) (Allocates : Allocating) (result : Result X Error) (start end : State) (old new : Placed) →
-    RunsToEnd (Collects (λ op made. made ≡ op) old new) Encodes Fault Allocates result start end → RunsToEnd (Adds old new) Encodes Fault Allocates result start end
-collected_runs Encodes Fault Allocates result start end old new (placed, collects, takes, ends) = (placed, collected_adds old new placed collects, takes, ends)
+pub collected_runs : {X : Type 0} (decoder : Decoder) (result : Result X Error) (start end : State) (old new : Placed) →
+    RunsToEnd decoder (Collects (λ op made. made ≡ op) old new) result start end → RunsToEnd decoder (Adds old new) result start end
+collected_runs decoder result start end old new (placed, collects, takes, ends) = (placed, collected_adds old new placed collects, takes, ends)

@@ -22,7 +22,7 @@ use Rattle.wasm_decode.specs.instr.Encoding.{EncodesOperator}
 use Rattle.wasm_decode.specs.instr.Roles.{role_of, roles_of}
 use Rattle.wasm_operators_readers.specs.Expression.{Placed, OfPlaced, operators, LaidOut, Longest, IsPrefixAfter}
 use Rattle.wasm_operators_readers.specs.Flat.{IsAllowedFrom}
-use Rattle.wasm_operators_readers.specs.Reading.{Taking, Refusing, Allocating, State, TakesOperators, StopsRun, EndsRun}
+use Rattle.wasm_operators_readers.specs.Reading.{State, TakesOperators, StopsRun, EndsRun, Decoder}
 use Rattle.wasm_operators_readers.specs.MainTheorem.{ReadSoFar, BeginningAt, ReadsBeginning, IsNotOutOfMemory, ClosesFrom, IsCut, CutFault, IsCompletedByEnds}
 use Rattle.wasm_operators_readers.proofs.LayoutLemmas.{roles_of-append, operators-append, roles_of-ends, laid_append, laid_goes_on, laid_no_longer, laid_same, one_longest, GoesOn, next_allowed, goes_allowed}
 use Rattle.wasm_operators_readers.proofs.OneRead.{refused_none, one_refusal, closed_read, read_closed}
@@ -52,23 +52,23 @@ closes_run old new placed r (laid, closes) =
       (laid_same old.reader.features (offset_of old.reader) placed placed r.text (rest old.reader) (rest new.reader) [] r.laid laid both refl).2,
     )
 
-closes_exactly : {X : Type 0} (Encodes : Taking) (Fault : Refusing) (Allocates : Allocating) (result : Result X Error) (old new : State) (placed : Placed) →
-    TakesOperators old new placed → EndsRun Encodes Fault Allocates result new → IsOk result ↔ ClosesFrom old.frames (source_of old.reader) placed
-closes_exactly Encodes Fault Allocates (Ok x) old new placed r (closed, all) = (λ ok. run_closes old new placed r closed all, λ closes. refl)
-closes_exactly Encodes Fault Allocates (Err e) old new placed r stops = (
+closes_exactly : {X : Type 0} (decoder : Decoder) (result : Result X Error) (old new : State) (placed : Placed) →
+    TakesOperators old new placed → EndsRun decoder result new → IsOk result ↔ ClosesFrom old.frames (source_of old.reader) placed
+closes_exactly decoder (Ok x) old new placed r (closed, all) = (λ ok. run_closes old new placed r closed all, λ closes. refl)
+closes_exactly decoder (Err e) old new placed r stops = (
   λ ok. absurd (cc ok),
-  λ closes. let end = closes_run old new placed r closes in absurd (no_refusal Encodes Fault Allocates e new stops end.0 end.1),
+  λ closes. let end = closes_run old new placed r closes in absurd (no_refusal decoder e new stops end.0 end.1),
 )
 
-pub flat_run : {X : Type 0} (Sort : Operator → Type 0) (Kept : OfPlaced) (Encodes : Taking) (Fault : Refusing) (Allocates : Allocating) →
-    Keeps Sort Kept Encodes → (result : Result X Error) (old new : State) (placed flat : Placed) → TakesOperators old new placed → Kept placed →
-    EndsRun Encodes Fault Allocates result new → Longest (IsAllowedFrom old.frames (source_of old.reader)) Kept flat → IsNotOutOfMemory result →
+pub flat_run : {X : Type 0} (Sort : Operator → Type 0) (decoder : Decoder) →
+    Keeps Sort decoder.Kept decoder.Encodes → (result : Result X Error) (old new : State) (placed flat : Placed) → TakesOperators old new placed → decoder.Kept placed →
+    EndsRun decoder result new → Longest (IsAllowedFrom old.frames (source_of old.reader)) decoder.Kept flat → IsNotOutOfMemory result →
     (placed ≡ flat) × (IsOk result ↔ ClosesFrom old.frames (source_of old.reader) flat)
-flat_run Sort Kept Encodes Fault Allocates keeps result old new placed flat r kept ended h other =
-    let same = one_flat Kept old.frames (source_of old.reader) placed flat
-    (run_flat Sort Kept keeps.each old new placed r kept (stuck Encodes Fault Allocates Sort keeps.takes result new ended other)) h in (
+flat_run Sort decoder keeps result old new placed flat r kept ended h other =
+    let same = one_flat decoder.Kept old.frames (source_of old.reader) placed flat
+    (run_flat Sort decoder.Kept keeps.each old new placed r kept (stuck decoder Sort keeps.takes result new ended other)) h in (
       same,
-      subst (λ ps. IsOk result ↔ ClosesFrom old.frames (source_of old.reader) ps) same (closes_exactly Encodes Fault Allocates result old new placed r ended),
+      subst (λ ps. IsOk result ↔ ClosesFrom old.frames (source_of old.reader) ps) same (closes_exactly decoder result old new placed r ended),
     )
 
 -- Some operator that the frames allow is encoded at the start of these bytes.
@@ -81,18 +81,18 @@ record NextOccurs (Sort : Operator → Type 0) (s : State) (left : List ℕ) : T
   bytes : left ≡ text ++ after
   allowed : frames_after s.frames (role_of op) ≡ None → ⊥
 
-cut_stops : (Sort : Operator → Type 0) (Encodes : Taking) (Fault : Refusing) (Allocates : Allocating) → TakesEach Sort Encodes → (m : Message) (e : Error)
-    (s : State) (more : List ℕ) → e.message ≡ m → StopsRun Encodes Fault Allocates e s → NextOccurs Sort s (rest s.reader ++ more) →
+cut_stops : (Sort : Operator → Type 0) (decoder : Decoder) → TakesEach Sort decoder.Encodes → (m : Message) (e : Error)
+    (s : State) (more : List ℕ) → e.message ≡ m → StopsRun decoder e s → NextOccurs Sort s (rest s.reader ++ more) →
     CutFault m (rest s.reader)
-cut_stops Sort Encodes Fault Allocates takes m e s more is (inl left) next = subst (λ m. CutFault m (rest s.reader)) (sym left.2 ∙ is) left.0
-cut_stops Sort Encodes Fault Allocates takes m e s more is (inr (some, inl none)) next =
+cut_stops Sort decoder takes m e s more is (inl left) next = subst (λ m. CutFault m (rest s.reader)) (sym left.2 ∙ is) left.0
+cut_stops Sort decoder takes m e s more is (inr (some, inl none)) next =
     absurd (next.allowed (ap (λ frames. frames_after frames (role_of next.op)) none.0))
-cut_stops Sort Encodes Fault Allocates takes m e s more is (inr (some, inr (inr memory))) next = subst (λ m. CutFault m (rest s.reader)) (sym memory.0 ∙ is) tt
-cut_stops Sort Encodes Fault Allocates takes m e s more is (inr (some, inr (inl there))) next = by_message m is
+cut_stops Sort decoder takes m e s more is (inr (some, inr (inr memory))) next = subst (λ m. CutFault m (rest s.reader)) (sym memory.0 ∙ is) tt
+cut_stops Sort decoder takes m e s more is (inr (some, inr (inl there))) next = by_message m is
   where
     follows : MayFollow e.message more → ⊥
     follows follow =
-        next.allowed (refused_none Encodes Fault e s there more follow next.text next.after next.op
+        next.allowed (refused_none decoder.Encodes decoder.Fault e s there more follow next.text next.after next.op
         (λ allows. takes s.reader.features there.kind next.text next.op next.encodes allows next.sort) next.bytes)
 
     by_message : (m : Message) → e.message ≡ m → CutFault m (rest s.reader)
@@ -104,11 +104,11 @@ right_none : (xs ys : List ℕ) → xs ++ ys ≡ [] → ys ≡ []
 right_none [] ys e = e
 right_none (x ∷ xs) ys e = absurd (cc e)
 
-pub run_cut : (Sort : Operator → Type 0) (Kept : OfPlaced) (Encodes : Taking) (Fault : Refusing) (Allocates : Allocating) → Keeps Sort Kept Encodes → (e : Error)
-    (before : List Operator) (old new : State) (placed : Placed) → ReadSoFar before old → TakesOperators old new placed → StopsRun Encodes Fault Allocates e new →
-    IsCut Kept before (source_of old.reader) → CutFault e.message (rest new.reader)
-run_cut Sort Kept Encodes Fault Allocates keeps e before old new placed h r stops cut =
-    cut_stops Sort Encodes Fault Allocates keeps.takes e.message e new cut.more refl stops next
+pub run_cut : (Sort : Operator → Type 0) (decoder : Decoder) → Keeps Sort decoder.Kept decoder.Encodes → (e : Error)
+    (before : List Operator) (old new : State) (placed : Placed) → ReadSoFar before old → TakesOperators old new placed → StopsRun decoder e new →
+    IsCut decoder.Kept before (source_of old.reader) → CutFault e.message (rest new.reader)
+run_cut Sort decoder keeps e before old new placed h r stops cut =
+    cut_stops Sort decoder keeps.takes e.message e new cut.more refl stops next
   where
     whole : rest old.reader ++ cut.more ≡ r.text ++ (rest new.reader ++ cut.more)
     whole = ap (λ z. z ++ cut.more) r.takes.parts ∙ append_assoc r.text (rest new.reader) cut.more
@@ -191,25 +191,25 @@ SameResult (Ok x) (Ok y) = Unit {0}
 SameResult (Err d) (Err e) = (d.message ≡ e.message) × (d.offset ≡ e.offset)
 SameResult _ _ = ⊥
 
-same_stops : (Encodes : Taking) (Fault : Refusing) (Allocates : Allocating) → IsDetermined Fault → (d e : Error) (s t : State) → t.reader ≡ s.reader →
-    t.frames ≡ s.frames → StopsRun Encodes Fault Allocates d s → StopsRun Encodes Fault Allocates e t → (d.message ≡ message.OutOfMemory → ⊥) →
+same_stops : (decoder : Decoder) → IsDetermined decoder.Fault → (d e : Error) (s t : State) → t.reader ≡ s.reader →
+    t.frames ≡ s.frames → StopsRun decoder d s → StopsRun decoder e t → (d.message ≡ message.OutOfMemory → ⊥) →
     (e.message ≡ message.OutOfMemory → ⊥) → (d.message ≡ e.message) × (d.offset ≡ e.offset)
-same_stops Encodes Fault Allocates determined d e s t reader frames (inl a) (inl b) other others = (a.2 ∙ sym b.2, a.3 ∙ ap offset_of (sym reader) ∙ sym b.3)
-same_stops Encodes Fault Allocates determined d e s t reader frames (inl a) (inr b) other others = absurd (b.0 (ap rest reader ∙ a.0))
-same_stops Encodes Fault Allocates determined d e s t reader frames (inr a) (inl b) other others = absurd (a.0 (ap rest (sym reader) ∙ b.0))
-same_stops Encodes Fault Allocates determined d e s t reader frames (inr a) (inr b) other others =
-    one_refusal Encodes Fault Allocates determined d e s t reader frames a.1 b.1 other others
+same_stops decoder determined d e s t reader frames (inl a) (inl b) other others = (a.2 ∙ sym b.2, a.3 ∙ ap offset_of (sym reader) ∙ sym b.3)
+same_stops decoder determined d e s t reader frames (inl a) (inr b) other others = absurd (b.0 (ap rest reader ∙ a.0))
+same_stops decoder determined d e s t reader frames (inr a) (inl b) other others = absurd (a.0 (ap rest (sym reader) ∙ b.0))
+same_stops decoder determined d e s t reader frames (inr a) (inr b) other others =
+    one_refusal decoder determined d e s t reader frames a.1 b.1 other others
 
-same_ends : {X Y : Type 0} (Encodes : Taking) (Fault : Refusing) (Allocates : Allocating) → IsDetermined Fault → (first : Result X Error) (second : Result Y Error)
-    (s t : State) → t.reader ≡ s.reader → t.frames ≡ s.frames → EndsRun Encodes Fault Allocates first s → EndsRun Encodes Fault Allocates second t →
+same_ends : {X Y : Type 0} (decoder : Decoder) → IsDetermined decoder.Fault → (first : Result X Error) (second : Result Y Error)
+    (s t : State) → t.reader ≡ s.reader → t.frames ≡ s.frames → EndsRun decoder first s → EndsRun decoder second t →
     IsNotOutOfMemory first → IsNotOutOfMemory second → SameResult first second
-same_ends Encodes Fault Allocates determined (Ok x) (Ok y) s t reader frames a b other others = tt
-same_ends Encodes Fault Allocates determined (Ok x) (Err e) s t reader frames a b other others =
-    no_refusal Encodes Fault Allocates e t b (frames ∙ a.0) (ap rest reader ∙ a.1)
-same_ends Encodes Fault Allocates determined (Err d) (Ok y) s t reader frames a b other others =
-    no_refusal Encodes Fault Allocates d s a (sym frames ∙ b.0) (ap rest (sym reader) ∙ b.1)
-same_ends Encodes Fault Allocates determined (Err d) (Err e) s t reader frames a b other others =
-    same_stops Encodes Fault Allocates determined d e s t reader frames a b other others
+same_ends decoder determined (Ok x) (Ok y) s t reader frames a b other others = tt
+same_ends decoder determined (Ok x) (Err e) s t reader frames a b other others =
+    no_refusal decoder e t b (frames ∙ a.0) (ap rest reader ∙ a.1)
+same_ends decoder determined (Err d) (Ok y) s t reader frames a b other others =
+    no_refusal decoder d s a (sym frames ∙ b.0) (ap rest (sym reader) ∙ b.1)
+same_ends decoder determined (Err d) (Err e) s t reader frames a b other others =
+    same_stops decoder determined d e s t reader frames a b other others
 
 record RanOver (reader : Reader) (frames : List FrameKind) (new : State) (placed : Placed) : Type 0 where
   text : List ℕ
@@ -235,58 +235,58 @@ not_shorter Kept reader frames new end placed others r q each none =
         next_allowed reader.features frames new.frames end.frames placed others (rest new.reader) r.along q.along g
         (none g.text g.more g.next.0 encodes (each placed g.others g.next g.parts) g.bytes)
 
-pub run_determined : {X Y : Type 0} (Encodes : Taking) (Fault : Refusing) (Allocates : Allocating) (Kept : Operator → Type 0) → TakesEach Kept Encodes →
-    IsDetermined Fault → (first : Result X Error) (second : Result Y Error) (old new other end : State) (placed others : Placed) → other.reader ≡ old.reader →
+pub run_determined : {X Y : Type 0} (decoder : Decoder) (Kept : Operator → Type 0) → TakesEach Kept decoder.Encodes →
+    IsDetermined decoder.Fault → (first : Result X Error) (second : Result Y Error) (old new other end : State) (placed others : Placed) → other.reader ≡ old.reader →
     other.frames ≡ old.frames → TakesOperators old new placed → TakesOperators other end others → AreEach Kept placed → AreEach Kept others →
-    EndsRun Encodes Fault Allocates first new → EndsRun Encodes Fault Allocates second end → IsNotOutOfMemory first → IsNotOutOfMemory second →
+    EndsRun decoder first new → EndsRun decoder second end → IsNotOutOfMemory first → IsNotOutOfMemory second →
     (placed ≡ others) × (end.reader ≡ new.reader) × (end.frames ≡ new.frames) × SameResult first second
-run_determined Encodes Fault Allocates Kept takes determined first second old new other end placed others reader frames r q each_placed each_others a b memory
+run_determined decoder Kept takes determined first second old new other end placed others reader frames r q each_placed each_others a b memory
     other_memory =
     let r1 = ran_over old new placed r in
     let q1 = subst (λ s. RanOver s old.frames end others) reader (subst (λ fs. RanOver other.reader fs end others) frames (ran_over other end others q)) in
-    let le = not_shorter Kept old.reader old.frames new end placed others r1 q1 each_others (stuck Encodes Fault Allocates Kept takes first new a memory) in
-    let ge = not_shorter Kept old.reader old.frames end new others placed q1 r1 each_placed (stuck Encodes Fault Allocates Kept takes second end b other_memory) in
+    let le = not_shorter Kept old.reader old.frames new end placed others r1 q1 each_others (stuck decoder Kept takes first new a memory) in
+    let ge = not_shorter Kept old.reader old.frames end new others placed q1 r1 each_placed (stuck decoder Kept takes second end b other_memory) in
     let same = laid_same old.reader.features (offset_of old.reader) placed others r1.text q1.text (rest new.reader) (rest end.reader) r1.laid q1.laid
     (sym r1.takes.parts ∙ q1.takes.parts) (omega arith) in
     let readers : end.reader ≡ new.reader = q1.takes.moved ∙ ap (λ z. at_position old.reader (old.reader.position + length z)) (sym same.1) ∙
     sym r1.takes.moved in
     let stacks : end.frames ≡ new.frames = some_is (sym q1.along ∙ ap (λ ps. frames_along old.frames (roles_of (operators ps))) (sym same.0) ∙ r1.along) in
-    (same.0, readers, stacks, same_ends Encodes Fault Allocates determined first second new end readers stacks a b memory other_memory)
+    (same.0, readers, stacks, same_ends decoder determined first second new end readers stacks a b memory other_memory)
 
-pub reports_closed : (Encodes : Taking) (Fault : Refusing) (Allocates : Allocating) → IsReading Fault → (e : Error) (s : State) → StopsRun Encodes Fault Allocates e s →
+pub reports_closed : (decoder : Decoder) → IsReading decoder.Fault → (e : Error) (s : State) → StopsRun decoder e s →
     (e.message ≡ message.OutOfMemory → ⊥) → (e.message ≡ message.OperatorsRemaining) ↔ (s.frames ≡ [])
-reports_closed Encodes Fault Allocates reading e s (inl left) other = (λ is. absurd (cc (is, left.2)), λ closed. absurd (left.1 closed))
-reports_closed Encodes Fault Allocates reading e s (inr (some, stops)) other =
-    (closed_read Encodes Fault Allocates reading e s stops, read_closed Encodes Fault Allocates e s stops other)
+reports_closed decoder reading e s (inl left) other = (λ is. absurd (cc (is, left.2)), λ closed. absurd (left.1 closed))
+reports_closed decoder reading e s (inr (some, stops)) other =
+    (closed_read decoder reading e s stops, read_closed decoder e s stops other)
 
-pub reports_left : (Encodes : Taking) (Fault : Refusing) (Allocates : Allocating) → IsReading Fault → (e : Error) (s : State) → StopsRun Encodes Fault Allocates e s →
+pub reports_left : (decoder : Decoder) → IsReading decoder.Fault → (e : Error) (s : State) → StopsRun decoder e s →
     (e.message ≡ message.FramesRemain) ↔ ((rest s.reader ≡ []) × (s.frames ≡ [] → ⊥))
-reports_left Encodes Fault Allocates reading e s (inl left) = (λ is. (left.0, left.1), λ h. left.2)
-reports_left Encodes Fault Allocates reading e s (inr (some, inl none)) = (λ is. absurd (cc (is, none.1)), λ h. absurd (some h.0))
-reports_left Encodes Fault Allocates reading e s (inr (some, inr (inl there))) = (
+reports_left decoder reading e s (inl left) = (λ is. (left.0, left.1), λ h. left.2)
+reports_left decoder reading e s (inr (some, inl none)) = (λ is. absurd (cc (is, none.1)), λ h. absurd (some h.0))
+reports_left decoder reading e s (inr (some, inr (inl there))) = (
   λ is. absurd (subst IsReadFault is (reading s.reader.features there.kind e.message s.reader e.offset there.fault)),
   λ h. absurd (some h.0),
 )
-reports_left Encodes Fault Allocates reading e s (inr (some, inr (inr memory))) = (λ is. absurd (cc (is, memory.0)), λ h. absurd (some h.0))
+reports_left decoder reading e s (inr (some, inr (inr memory))) = (λ is. absurd (cc (is, memory.0)), λ h. absurd (some h.0))
 
-pub run_left : (Encodes : Taking) (Fault : Refusing) (Allocates : Allocating) → IsReading Fault → (e : Error) (before : List Operator) (old new : State)
-    (placed : Placed) → ReadSoFar before old → TakesOperators old new placed → StopsRun Encodes Fault Allocates e new → e.message ≡ message.FramesRemain →
+pub run_left : (decoder : Decoder) → IsReading decoder.Fault → (e : Error) (before : List Operator) (old new : State)
+    (placed : Placed) → ReadSoFar before old → TakesOperators old new placed → StopsRun decoder e new → e.message ≡ message.FramesRemain →
     IsCompletedByEnds before (source_of old.reader) (length new.frames)
-run_left Encodes Fault Allocates reading e before old new placed h r stops is =
-    run_completed before old new placed h r ((reports_left Encodes Fault Allocates reading e new stops).0 is).0
+run_left decoder reading e before old new placed h r stops is =
+    run_completed before old new placed h r ((reports_left decoder reading e new stops).0 is).0
 
 longest_at : (Kept : OfPlaced) (m : Message) (before : List Operator) (r : Reader) (placed : Placed) → BeginningAt Kept m before r placed →
     (m ≡ message.OutOfMemory → ⊥) → Longest (IsPrefixAfter before (source_of r)) Kept placed
 longest_at Kept message.OutOfMemory before r placed h other = absurd (other refl)
 longest_at Kept _ before r placed h other = h
 
-pub beginnings_same : (Kept : OfPlaced) (Encodes : Taking) (Fault : Refusing) (Allocates : Allocating) → IsDetermined Fault → (before : List Operator)
-    (d e : Error) (old new end : State) (placed others : Placed) → ReadsBeginning Kept Encodes Fault Allocates before d old new placed →
-    ReadsBeginning Kept Encodes Fault Allocates before e old end others → (d.message ≡ message.OutOfMemory → ⊥) → (e.message ≡ message.OutOfMemory → ⊥) →
+pub beginnings_same : (decoder : Decoder) → IsDetermined decoder.Fault → (before : List Operator)
+    (d e : Error) (old new end : State) (placed others : Placed) → ReadsBeginning decoder before d old new placed →
+    ReadsBeginning decoder before e old end others → (d.message ≡ message.OutOfMemory → ⊥) → (e.message ≡ message.OutOfMemory → ⊥) →
     (placed ≡ others) × (end.reader ≡ new.reader) × (end.frames ≡ new.frames) × (d.message ≡ e.message) × (d.offset ≡ e.offset)
-beginnings_same Kept Encodes Fault Allocates determined before d e old new end placed others a b other_d other_e =
-    let same = one_longest Kept before (source_of old.reader) placed others (longest_at Kept d.message before old.reader placed a.at other_d)
-    (longest_at Kept e.message before old.reader others b.at other_e) in
+beginnings_same decoder determined before d e old new end placed others a b other_d other_e =
+    let same = one_longest decoder.Kept before (source_of old.reader) placed others (longest_at decoder.Kept d.message before old.reader placed a.at other_d)
+    (longest_at decoder.Kept e.message before old.reader others b.at other_e) in
     let layout = laid_same old.reader.features (offset_of old.reader) placed others a.text b.text (rest new.reader) (rest end.reader) a.laid b.laid
     (sym a.takes.parts ∙ b.takes.parts) (ap length same) in
     let readers : end.reader ≡ new.reader = b.takes.moved ∙ ap (λ z. at_position old.reader (old.reader.position + length z)) (sym layout.1) ∙
@@ -294,5 +294,5 @@ beginnings_same Kept Encodes Fault Allocates determined before d e old new end p
     let path : OpenPath (roles_of (before ++ operators placed)) end.frames =
     subst (λ (ps : Placed). OpenPath (roles_of (before ++ operators ps)) end.frames) (sym same) b.read_so_far.path in
     let stacks : end.frames ≡ new.frames = same_frames end.frames new.frames (roles_of (before ++ operators placed)) path a.read_so_far.path in
-    let both = same_stops Encodes Fault Allocates determined d e new end readers stacks a.stops b.stops other_d other_e in
+    let both = same_stops decoder determined d e new end readers stacks a.stops b.stops other_d other_e in
     (same, readers, stacks, both.0, both.1)

@@ -1,24 +1,24 @@
 use Rattle.std.proofs.Common.{◌≡◌, ℕ, ◌+◌, ◌-◌, ◌≤◌, List, length, Err, inl, inr, sym, ap, ◌∙◌, length-append, length-drop, arith}
 use Rattle.wasm_decode.specs.below.bytes.error.Error.{Error}
 use Rattle.wasm_decode.specs.below.Source.{Reader, rest, offset_of, end_of, Takes, IsAhead}
-use Rattle.wasm_operators_readers.specs.Reading.{Taking, Refusing, Allocating, State, Finishes, StopsRead, StopsRun}
+use Rattle.wasm_operators_readers.specs.Reading.{State, Finishes, StopsRead, StopsRun, Decoder}
 
 here : (r : Reader) (offset : ℕ) → offset_of r ≤ end_of r → offset ≡ offset_of r → IsAhead r offset
 here r offset within at = (omega (arith, at), omega (arith, at, within))
 
-pub read_ahead : (Encodes : Taking) (Fault : Refusing) (Allocates : Allocating) (e : Error) (s : State) → StopsRead Encodes Fault Allocates e s →
+pub read_ahead : (decoder : Decoder) (e : Error) (s : State) → StopsRead decoder e s →
     offset_of s.reader ≤ end_of s.reader → IsAhead s.reader e.offset
-read_ahead Encodes Fault Allocates e s (inl none) within = here s.reader e.offset within none.2
-read_ahead Encodes Fault Allocates e s (inr (inl there)) within = there.ahead
-read_ahead Encodes Fault Allocates e s (inr (inr memory)) within = here s.reader e.offset within memory.1
+read_ahead decoder e s (inl none) within = here s.reader e.offset within none.2
+read_ahead decoder e s (inr (inl there)) within = there.ahead
+read_ahead decoder e s (inr (inr memory)) within = here s.reader e.offset within memory.1
 
 pub finish_ahead : (e : Error) (s : State) → Finishes {X = Unit {0}} (Err e) s → offset_of s.reader ≤ end_of s.reader → IsAhead s.reader e.offset
 finish_ahead e s (at, stops) within = here s.reader e.offset within at
 
-pub run_ahead : (Encodes : Taking) (Fault : Refusing) (Allocates : Allocating) (e : Error) (s : State) → StopsRun Encodes Fault Allocates e s →
+pub run_ahead : (decoder : Decoder) (e : Error) (s : State) → StopsRun decoder e s →
     offset_of s.reader ≤ end_of s.reader → IsAhead s.reader e.offset
-run_ahead Encodes Fault Allocates e s (inl left) within = here s.reader e.offset within left.3
-run_ahead Encodes Fault Allocates e s (inr (some, stops)) within = read_ahead Encodes Fault Allocates e s stops within
+run_ahead decoder e s (inl left) within = here s.reader e.offset within left.3
+run_ahead decoder e s (inr (some, stops)) within = read_ahead decoder e s stops within
 
 pub took_within : (old new : Reader) (text : List ℕ) → Takes old new text → offset_of old ≤ end_of old →
     (offset_of old ≤ offset_of new) × (offset_of new ≤ end_of new) × (end_of new ≡ end_of old)

@@ -23,7 +23,7 @@ use Rattle.wasm_decode.specs.instr.Roles.{role_of, roles_of}
 use Rattle.wasm_operators_readers.specs.Expression.{Placed, OfPlaced, operators, LaidOut, AreEncoded, EncodesRest, IsPrefixAfter, Longest}
 use Rattle.wasm_operators_readers.specs.Flat.{IsAllowedFrom}
 use Rattle.wasm_operators_readers.specs.Openings.{opened_along, most_open}
-use Rattle.wasm_operators_readers.specs.Reading.{Taking, Refusing, Allocating, State, StopsRead, IsFresh, GrowsLittle, IsUnchanged, TakesOperator, TakesOperators, StopsRun, FramesLeft, StopsFinish, EndsRun}
+use Rattle.wasm_operators_readers.specs.Reading.{Taking, State, StopsRead, IsFresh, GrowsLittle, IsUnchanged, TakesOperator, TakesOperators, StopsRun, FramesLeft, StopsFinish, EndsRun, Decoder}
 use Rattle.wasm_operators_readers.specs.Stack.{frame_memory}
 use Rattle.wasm_operators_readers.specs.MainTheorem.{ReadSoFar, ReadsTree, BeginningAt, ReadsBeginning, IsWithinDepth, IsNotOutOfMemory}
 use Rattle.wasm_operators_readers.proofs.FlatLemmas.{allowed_begins, flat_longest}
@@ -104,9 +104,9 @@ ran_unchanged old mid new placed r (reader, frames, room, memory) =
       deepest = let most = r.deepest in let depth = ap length frames in omega (arith, most, room, depth);
     }
 
-pub run_stops : (Encodes : Taking) (Fault : Refusing) (Allocates : Allocating) (e : Error) (mid new : State) → (rest mid.reader ≡ [] → ⊥) → IsUnchanged mid new →
-    StopsRead Encodes Fault Allocates e new → StopsRun Encodes Fault Allocates e new
-run_stops Encodes Fault Allocates e mid new left same stops = inr (λ none. left (ap rest (sym same.0) ∙ none), stops)
+pub run_stops : (decoder : Decoder) (e : Error) (mid new : State) → (rest mid.reader ≡ [] → ⊥) → IsUnchanged mid new →
+    StopsRead decoder e new → StopsRun decoder e new
+run_stops decoder e mid new left same stops = inr (λ none. left (ap rest (sym same.0) ∙ none), stops)
 
 pub fresh_before : (s : State) → IsFresh s → ReadSoFar [] s
 fresh_before s fresh = record { encodes = tt; path = subst (OpenPath []) (sym fresh) path_start }
@@ -183,23 +183,23 @@ abbrev pub IsStuckFor : (Operator → Type 0) → State → Type 0
 IsStuckFor Kept s = (text more : List ℕ) (op : Operator) → EncodesOperator s.reader.features text op → Kept op → rest s.reader ≡ text ++ more →
     frames_after s.frames (role_of op) ≡ None
 
-pub stuck_run : (Encodes : Taking) (Fault : Refusing) (Allocates : Allocating) (Kept : Operator → Type 0) → TakesEach Kept Encodes → (e : Error) (s : State) →
-    StopsRun Encodes Fault Allocates e s → (e.message ≡ message.OutOfMemory → ⊥) → IsStuckFor Kept s
-stuck_run Encodes Fault Allocates Kept takes e s (inl left) other text more op encodes kept eb =
+pub stuck_run : (decoder : Decoder) (Kept : Operator → Type 0) → TakesEach Kept decoder.Encodes → (e : Error) (s : State) →
+    StopsRun decoder e s → (e.message ≡ message.OutOfMemory → ⊥) → IsStuckFor Kept s
+stuck_run decoder Kept takes e s (inl left) other text more op encodes kept eb =
     absurd (not_empty s.reader.features op text more encodes (sym left.0 ∙ eb))
-stuck_run Encodes Fault Allocates Kept takes e s (inr (some, inl none)) other text more op encodes kept eb =
+stuck_run decoder Kept takes e s (inr (some, inl none)) other text more op encodes kept eb =
     ap (λ frames. frames_after frames (role_of op)) none.0
-stuck_run Encodes Fault Allocates Kept takes e s (inr (some, inr (inl there))) other text more op encodes kept eb =
-    refused_none Encodes Fault e s there [] (may_end e.message other) text more op
+stuck_run decoder Kept takes e s (inr (some, inr (inl there))) other text more op encodes kept eb =
+    refused_none decoder.Encodes decoder.Fault e s there [] (may_end e.message other) text more op
     (λ allows. takes s.reader.features there.kind text op encodes allows kept) (append-nil (rest s.reader) ∙ eb)
-stuck_run Encodes Fault Allocates Kept takes e s (inr (some, inr (inr memory))) other text more op encodes kept eb = absurd (other memory.0)
+stuck_run decoder Kept takes e s (inr (some, inr (inr memory))) other text more op encodes kept eb = absurd (other memory.0)
 
-pub stuck : {X : Type 0} (Encodes : Taking) (Fault : Refusing) (Allocates : Allocating) (Kept : Operator → Type 0) → TakesEach Kept Encodes →
-    (result : Result X Error) (s : State) → EndsRun Encodes Fault Allocates result s → IsNotOutOfMemory result → IsStuckFor Kept s
-stuck Encodes Fault Allocates Kept takes (Ok x) s (closed, taken) other text more op encodes kept eb =
+pub stuck : {X : Type 0} (decoder : Decoder) (Kept : Operator → Type 0) → TakesEach Kept decoder.Encodes →
+    (result : Result X Error) (s : State) → EndsRun decoder result s → IsNotOutOfMemory result → IsStuckFor Kept s
+stuck decoder Kept takes (Ok x) s (closed, taken) other text more op encodes kept eb =
     absurd (not_empty s.reader.features op text more encodes (sym taken ∙ eb))
-stuck Encodes Fault Allocates Kept takes (Err e) s stops other text more op encodes kept eb =
-    stuck_run Encodes Fault Allocates Kept takes e s stops other text more op encodes kept eb
+stuck decoder Kept takes (Err e) s stops other text more op encodes kept eb =
+    stuck_run decoder Kept takes e s stops other text more op encodes kept eb
 
 pub ran_allowed : (old new : State) (placed : Placed) → TakesOperators old new placed → IsAllowedFrom old.frames (source_of old.reader) placed
 ran_allowed old new placed r =
@@ -264,25 +264,25 @@ whole_run before old new placed whole h r (laid, walked) same =
       (laid_same f o placed whole r.text (rest old.reader) (rest new.reader) [] r.laid laid both (ap length same)).2,
     )
 
-pub no_refusal : (Encodes : Taking) (Fault : Refusing) (Allocates : Allocating) (e : Error) (s : State) → StopsRun Encodes Fault Allocates e s → s.frames ≡ [] →
+pub no_refusal : (decoder : Decoder) (e : Error) (s : State) → StopsRun decoder e s → s.frames ≡ [] →
     rest s.reader ≡ [] → ⊥
-no_refusal Encodes Fault Allocates e s (inl left) closed all = left.1 closed
-no_refusal Encodes Fault Allocates e s (inr (left, stops)) closed all = left all
+no_refusal decoder e s (inl left) closed all = left.1 closed
+no_refusal decoder e s (inr (left, stops)) closed all = left all
 
-module _ (Sort : Operator → Type 0) (Kept : OfPlaced) (Encodes : Taking) (Fault : Refusing) (Allocates : Allocating) (keeps : Keeps Sort Kept Encodes) where
-  pub run_longest : (before : List Operator) (e : Error) (old new : State) (placed : Placed) → ReadSoFar before old → TakesOperators old new placed → Kept placed →
-      StopsRun Encodes Fault Allocates e new → (e.message ≡ message.OutOfMemory → ⊥) → Longest (IsPrefixAfter before (source_of old.reader)) Kept placed
+module _ (Sort : Operator → Type 0) (decoder : Decoder) (keeps : Keeps Sort decoder.Kept decoder.Encodes) where
+  pub run_longest : (before : List Operator) (e : Error) (old new : State) (placed : Placed) → ReadSoFar before old → TakesOperators old new placed → decoder.Kept placed →
+      StopsRun decoder e new → (e.message ≡ message.OutOfMemory → ⊥) → Longest (IsPrefixAfter before (source_of old.reader)) decoder.Kept placed
   run_longest before e old new placed h r kept stops other =
-      flat_longest Kept before old.frames (source_of old.reader) placed h.encodes h.path
-      (run_flat Sort Kept keeps.each old new placed r kept (stuck_run Encodes Fault Allocates Sort keeps.takes e new stops other))
+      flat_longest decoder.Kept before old.frames (source_of old.reader) placed h.encodes h.path
+      (run_flat Sort decoder.Kept keeps.each old new placed r kept (stuck_run decoder Sort keeps.takes e new stops other))
 
   beginning_at : (m : Message) (before : List Operator) (old new : State) (placed : Placed) → ReadSoFar before old → TakesOperators old new placed →
-      ((m ≡ message.OutOfMemory → ⊥) → Longest (IsPrefixAfter before (source_of old.reader)) Kept placed) → BeginningAt Kept m before old.reader placed
+      ((m ≡ message.OutOfMemory → ⊥) → Longest (IsPrefixAfter before (source_of old.reader)) decoder.Kept placed) → BeginningAt decoder.Kept m before old.reader placed
   beginning_at message.OutOfMemory before old new placed h r longest = beginning_of_run before old new placed h r
   beginning_at _ before old new placed h r longest = longest (λ is. absurd (cc is))
 
   pub run_beginning : (before : List Operator) (e : Error) (old new : State) (placed : Placed) → ReadSoFar before old → TakesOperators old new placed →
-      Kept placed → StopsRun Encodes Fault Allocates e new → ReadsBeginning Kept Encodes Fault Allocates before e old new placed
+      decoder.Kept placed → StopsRun decoder e new → ReadsBeginning decoder before e old new placed
   run_beginning before e old new placed h r kept stops =
       record {
         at = beginning_at e.message before old new placed h r (run_longest before e old new placed h r kept stops);
@@ -294,16 +294,16 @@ module _ (Sort : Operator → Type 0) (Kept : OfPlaced) (Encodes : Taking) (Faul
       }
 
   pub run_only : (before : List Operator) (e : Error) (old new : State) (placed whole : Placed) → ReadSoFar before old → TakesOperators old new placed →
-      Kept placed → StopsRun Encodes Fault Allocates e new → EncodesRest before (source_of old.reader) whole → Kept whole → e.message ≡ message.OutOfMemory
+      decoder.Kept placed → StopsRun decoder e new → EncodesRest before (source_of old.reader) whole → decoder.Kept whole → e.message ≡ message.OutOfMemory
   run_only before e old new placed whole h r kept stops encodes too =
       elim (is_memory e.message) [
         | inl is ↦ is
         | inr other ↦ (
             let longest = run_longest before e old new placed h r kept stops other in
-            let same = one_longest Kept before (source_of old.reader) placed whole longest
-            (encoded_longest Kept before (source_of old.reader) whole h.encodes encodes too) in
+            let same = one_longest decoder.Kept before (source_of old.reader) placed whole longest
+            (encoded_longest decoder.Kept before (source_of old.reader) whole h.encodes encodes too) in
             let end = whole_run before old new placed whole h r encodes same in
-            absurd (no_refusal Encodes Fault Allocates e new stops end.0 end.1)
+            absurd (no_refusal decoder e new stops end.0 end.1)
             )
       ]
 

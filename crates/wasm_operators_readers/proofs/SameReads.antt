@@ -9,9 +9,10 @@ use Rattle.wasm_decode.specs.instr.Encoding.{EncodesOperator}
 use Rattle.wasm_decode.specs.instr.Roles.{role_of}
 use Rattle.wasm_decode.proofs.of_instr.OperatorPrefixCode.{operator_prefix_code}
 use Rattle.wasm_operators_readers.specs.Reading.{Taking, Refusing, State, SameReaderAndFrames, TakesOperator}
-use Rattle.wasm_operators_readers.specs.Next.{NextMayAllocate, StopsNext}
+use Rattle.wasm_operators_readers.specs.Next.{StopsNext}
 use Rattle.wasm_operators_readers.proofs.OneRead.{is_memory, refused_not_taken, one_refusal}
 use Rattle.wasm_operators_readers.proofs.Premises.{IsSound, IsDetermined}
+use Rattle.wasm_operators_readers.proofs.Taken.{one_read}
 use Rattle.wasm_decode.proofs.of_grammar.Paths.{some_is}
 
 pub taken_same : (Encodes : Taking) → IsSound Encodes → (op other : Operator) (old new start end : State) → SameReaderAndFrames old start →
@@ -34,19 +35,19 @@ taken_same Encodes sound op other old new start end agree a b =
     (same.0, (reader, frames))
 
 pub stopped_same : (Encodes : Taking) (Fault : Refusing) → IsDetermined Fault → (d e : Error) (old new start end : State) → SameReaderAndFrames old start →
-    StopsNext Encodes Fault d old new → (d.message ≡ message.OutOfMemory → ⊥) → StopsNext Encodes Fault e start end → (e.message ≡ message.OutOfMemory → ⊥) →
+    StopsNext (one_read Encodes Fault) d old new → (d.message ≡ message.OutOfMemory → ⊥) → StopsNext (one_read Encodes Fault) e start end → (e.message ≡ message.OutOfMemory → ⊥) →
     (d.message ≡ e.message) × (d.offset ≡ e.offset) × SameReaderAndFrames new end
 stopped_same Encodes Fault determined d e old new start end agree a other b others =
     let reader : end.reader ≡ new.reader = b.0.0 ∙ agree.0 ∙ sym a.0.0 in
     let frames : end.frames ≡ new.frames = b.0.1 ∙ agree.1 ∙ sym a.0.1 in
-    let same = one_refusal Encodes Fault (NextMayAllocate Encodes) determined d e new end reader frames a.1 b.1 other others in
+    let same = one_refusal (one_read Encodes Fault) determined d e new end reader frames a.1 b.1 other others in
     (same.0, same.1, (reader, frames))
 
 pub taken_or_memory : (Encodes : Taking) (Fault : Refusing) (e : Error) (op : Operator) (old new start end : State) → SameReaderAndFrames old start →
-    TakesOperator Encodes op old new → StopsNext Encodes Fault e start end → e.message ≡ message.OutOfMemory
+    TakesOperator Encodes op old new → StopsNext (one_read Encodes Fault) e start end → e.message ≡ message.OutOfMemory
 taken_or_memory Encodes Fault e op old new start end agree takes stops =
     elim (is_memory e.message) [
       | inl is ↦ is
-      | inr other ↦ absurd (refused_not_taken Encodes Fault (NextMayAllocate Encodes) e end old new op (sym agree.0 ∙ sym stops.0.0) (sym agree.1 ∙ sym stops.0.1)
+      | inr other ↦ absurd (refused_not_taken (one_read Encodes Fault) e end old new op (sym agree.0 ∙ sym stops.0.0) (sym agree.1 ∙ sym stops.0.1)
           stops.1 other takes)
     ]

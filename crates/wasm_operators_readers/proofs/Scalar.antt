@@ -19,8 +19,8 @@ use Rattle.wasm_decode.specs.instr.Roles.{role_of, roles_of}
 use Rattle.wasm_decode.specs.instr.Row.{prefix_of, opcode_of}
 use Rattle.wasm_operators_readers.specs.Expression.{Placed, OfPlaced, operators, LaidOut, AreEncoded, IsPrefixAfter, Longest, IsLongestAfter, IsBeginningOf}
 use Rattle.wasm_operators_readers.specs.Flat.{IsAllowedFrom, IsFlatFrom}
-use Rattle.wasm_operators_readers.specs.Reading.{Taking, Refusing, Allocating, State, TakesOperators, StopsRun, RunsToEnd}
-use Rattle.wasm_operators_readers.specs.MainTheorem.{ReadSoFar, ClosesFrom}
+use Rattle.wasm_operators_readers.specs.Reading.{State, TakesOperators, StopsRun, RunsToEnd, Decoder}
+use Rattle.wasm_operators_readers.specs.MainTheorem.{ReadSoFar, StopsAtSimd, ClosesFrom}
 use Rattle.wasm_operators_readers.specs.Visiting.{is_vector, scalar_beginning, IsScalar}
 use Rattle.wasm_operators_readers.proofs.LayoutLemmas.{roles_of-append, operators-append, begins_walk, not_empty, laid_beginning, laid_goes_on, laid_no_longer, laid_same, one_longest, GoesOn, goes_allowed}
 use Rattle.wasm_operators_readers.proofs.OneRead.{is_memory}
@@ -63,10 +63,10 @@ vector_byte : (op : Operator) → IsVector op → first_byte (prefix_of op) (opc
 vector_byte (operator.Simd op) is = refl
 vector_byte _ is = absurd is
 
-pub scalar_vector : (Encodes : Taking) (Fault : Refusing) (Allocates : Allocating) → Keeps IsNoVector IsScalar Encodes → RefusesVectors Fault →
-    (before : List Operator) (e : Error) (old new : State) (placed longest : Placed) → ReadSoFar before old → TakesOperators old new placed → IsScalar placed → StopsRun Encodes Fault Allocates e new →
+pub scalar_vector : (decoder : Decoder) → Keeps IsNoVector IsScalar decoder.Encodes → RefusesVectors decoder.Fault →
+    (before : List Operator) (e : Error) (old new : State) (placed longest : Placed) → ReadSoFar before old → TakesOperators old new placed → IsScalar placed → StopsRun decoder e new →
     IsLongestAfter before (source_of old.reader) longest → (IsScalar longest → ⊥) → (e.message ≡ message.UnexpectedSimd) ⊎ (e.message ≡ message.OutOfMemory)
-scalar_vector Encodes Fault Allocates keeps refuses before e old new placed longest h r scalar stops l vectors =
+scalar_vector decoder keeps refuses before e old new placed longest h r scalar stops l vectors =
     elim (is_memory e.message) [
       | inl is ↦ inr is
       | inr other ↦ inl (elim (run_and_longest before old new placed longest h r l) [
@@ -77,7 +77,7 @@ scalar_vector Encodes Fault Allocates keeps refuses before e old new placed long
   where
     led : GoesOn old.reader.features placed longest (rest new.reader) → (e.message ≡ message.OutOfMemory → ⊥) → BeginsWith 0xfd (rest new.reader)
     led g other =
-        let none = stuck_run Encodes Fault Allocates IsNoVector keeps.takes e new stops other in
+        let none = stuck_run decoder IsNoVector keeps.takes e new stops other in
         let vector = vector_of g.next.0 (next_vector before old new placed longest h r l none g) in
         let first = begins_encoding old.reader.features g.next.0 g.text g.encodes in
         let byte = vector_byte g.next.0 vector in
@@ -86,7 +86,7 @@ scalar_vector Encodes Fault Allocates keeps refuses before e old new placed long
     at_next : GoesOn old.reader.features placed longest (rest new.reader) → (e.message ≡ message.OutOfMemory → ⊥) → e.message ≡ message.UnexpectedSimd
     at_next g other = stopped stops
       where
-        stopped : StopsRun Encodes Fault Allocates e new → e.message ≡ message.UnexpectedSimd
+        stopped : StopsRun decoder e new → e.message ≡ message.UnexpectedSimd
         stopped (inl left) = absurd (not_empty old.reader.features g.next.0 g.text g.more g.encodes (sym left.0 ∙ g.bytes))
         stopped (inr (some, inl none)) =
             absurd (goes_allowed before old.reader.features placed longest (rest new.reader) new.frames (read_further before old new placed h r).path
@@ -95,14 +95,12 @@ scalar_vector Encodes Fault Allocates keeps refuses before e old new placed long
         stopped (inr (some, inr (inl there))) = refuses new.reader.features there.kind e.message new.reader e.offset there.fault (led g other)
         stopped (inr (some, inr (inr memory))) = absurd (other memory.0)
 
-pub scalar_refused : {X : Type 0} (Effect : OfPlaced) (Encodes : Taking) (Fault : Refusing) (Allocates : Allocating) →
-    ((placed : Placed) → Effect placed → IsScalar placed) → Keeps IsNoVector IsScalar Encodes → RefusesVectors Fault → (r : Result X Error)
-    (before : List Operator) (old new : State) → RunsToEnd Effect Encodes Fault Allocates r old new → ReadSoFar before old → (longest : Placed) →
-    IsLongestAfter before (source_of old.reader) longest → (IsScalar longest → ⊥) →
-    IfErr r (λ e. (e.message ≡ message.UnexpectedSimd) ⊎ (e.message ≡ message.OutOfMemory))
-scalar_refused Effect Encodes Fault Allocates kept keeps refuses (Ok x) before old new run h longest l vectors = tt
-scalar_refused Effect Encodes Fault Allocates kept keeps refuses (Err e) before old new (placed, effect, ran, stops) h longest l vectors =
-    scalar_vector Encodes Fault Allocates keeps refuses before e old new placed longest h ran (kept placed effect) stops l vectors
+pub scalar_refused : {X : Type 0} (decoder : Decoder) (Effect : OfPlaced) → ((placed : Placed) → Effect placed → IsScalar placed) →
+    Keeps IsNoVector IsScalar decoder.Encodes → RefusesVectors decoder.Fault → (r : Result X Error) (old new : State) → RunsToEnd decoder Effect r old new →
+    StopsAtSimd r old
+scalar_refused decoder Effect kept keeps refuses (Ok x) old new run before h longest l vectors = tt
+scalar_refused decoder Effect kept keeps refuses (Err e) old new (placed, effect, ran, stops) before h longest l vectors =
+    scalar_vector decoder keeps refuses before e old new placed longest h ran (kept placed effect) stops l vectors
 
 laid_first : (f : WasmFeatures) (offset : ℕ) (ps qs : Placed) (bytes : List ℕ) → LaidOut f offset (ps ++ qs) bytes →
     (a b : List ℕ) × (bytes ≡ a ++ b) × LaidOut f offset ps a

@@ -14,13 +14,18 @@ use Rattle.wasm_decode.specs.instr.Roles.{role_of, change_at}
 use Rattle.wasm_decode.proofs.of_instr.FirstBytes.{changes_there}
 use Rattle.wasm_decode.specs.opcodes.Decoding.{RefusesOperator, IsAfterCode}
 use Rattle.wasm_decode.specs.opcodes.Refused.{MayAllocate}
+use Rattle.wasm_operators_readers.specs.Expression.{IsAny}
 use Rattle.wasm_operators_readers.specs.Openings.{opened_by}
-use Rattle.wasm_operators_readers.specs.Reading.{Taking, Refusing, State, GrowsLittle, IsUnchanged, TakesOperator, StopsRead}
+use Rattle.wasm_operators_readers.specs.Reading.{Taking, Refusing, Decoder, State, GrowsLittle, IsUnchanged, TakesOperator, StopsRead}
 use Rattle.wasm_operators_readers.specs.Stack.{frame_memory}
 use Rattle.wasm_operators_readers.proofs.FrameMemory.{as_little}
 use Rattle.wasm_operators_readers.proofs.OneRead.{stops_read}
 use Rattle.wasm_operators_readers.proofs.Premises.{IsSound}
 use Rattle.wasm_operators_readers.specs.Next.{NextMayAllocate, BeginsOperator}
+
+-- The decoder of one read.
+abbrev pub one_read : Taking → Refusing → Decoder
+one_read Encodes Fault = record { Encodes = Encodes; Fault = Fault; Allocates = NextMayAllocate Encodes; Kept = IsAny }
 
 abbrev pub TakesAllowed : Taking → Type 0
 TakesAllowed Encodes = (f : WasmFeatures) (kind : FrameKind) (text : List ℕ) (op : Operator) → Encodes f kind text op → Allows kind (role_of op)
@@ -62,18 +67,18 @@ begun_took Encodes sound allowed old mid new kind code start op text b encodes t
 
 pub refused_unchanged : (Encodes : Taking) (Fault : Refusing) (old new : State) (kind : FrameKind) (e : Error) → innermost old.frames ≡ Some kind →
     RefusesOperator (Encodes old.reader.features kind) (Fault old.reader.features kind) e old.reader new.reader → new.frames ≡ old.frames → old.room ≤ new.room →
-    GrowsLittle 0 old new → IsUnchanged old new × StopsRead Encodes Fault (NextMayAllocate Encodes) e new
+    GrowsLittle 0 old new → IsUnchanged old new × StopsRead (one_read Encodes Fault) e new
 refused_unchanged Encodes Fault old new kind e open_frame (same, refused, fault) frames room memory =
     let list : MayAllocate (Encodes old.reader.features kind) old.reader → MayAllocate (Encodes new.reader.features kind) new.reader =
     λ h. subst (λ (r : Reader). MayAllocate (Encodes r.features kind) r) (sym same) h in (
       (same, frames, room, memory),
-      stops_read Encodes Fault (NextMayAllocate Encodes) e old new kind same frames open_frame refused.refuses refused.ahead fault
+      stops_read (one_read Encodes Fault) e old new kind same frames open_frame refused.refuses refused.ahead fault
           (λ m. let h = refused.memory m in (h.0, inr (kind, ap innermost frames ∙ open_frame, list h.1))),
     )
 
 pub begun_stopped : (Encodes : Taking) (Fault : Refusing) (old mid new : State) (kind : FrameKind) (code start : ℕ) (e : Error) →
     BeginsOperator old mid kind start code → RefusesOperator (Encodes mid.reader.features kind) (Fault mid.reader.features kind) e (at_position mid.reader start) new.reader →
-    new.frames ≡ mid.frames → new.room ≡ mid.room → IsUnchanged old new × StopsRead Encodes Fault (NextMayAllocate Encodes) e new
+    new.frames ≡ mid.frames → new.room ≡ mid.room → IsUnchanged old new × StopsRead (one_read Encodes Fault) e new
 begun_stopped Encodes Fault old mid new kind code start e b refused frames room =
     let features : mid.reader.features ≡ old.reader.features = ap (λ (r : Reader). r.features) b.back in
     refused_unchanged Encodes Fault old new kind e b.open_frame
@@ -85,7 +90,7 @@ begun_stopped Encodes Fault old mid new kind code start e b refused frames room 
 
 pub room_refused : (Encodes : Taking) (Fault : Refusing) (old new : State) (kind : FrameKind) (code : ℕ) (e : Error) → innermost old.frames ≡ Some kind →
     new.reader ≡ old.reader → new.frames ≡ old.frames → old.room ≤ new.room → GrowsLittle 0 old new → BeginsWith code (rest old.reader) → OpensFrame (change_at code) → new.room ≡ 0 → e.message ≡ message.OutOfMemory → e.offset ≡ offset_of old.reader →
-    IsUnchanged old new × StopsRead Encodes Fault (NextMayAllocate Encodes) e new
+    IsUnchanged old new × StopsRead (one_read Encodes Fault) e new
 room_refused Encodes Fault old new kind code e open_frame same frames room memory begins opens none is at = (
   (same, frames, room, memory),
   inr (inr (

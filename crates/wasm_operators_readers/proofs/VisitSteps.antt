@@ -11,8 +11,8 @@ use Rattle.wasm_decode.specs.opcodes.Decoding.{Decodes}
 use Rattle.wasm_operators_readers.specs.Reading.{Taking, Refusing, State, VisitsOperator}
 use Rattle.wasm_operators_readers.specs.Stack.{frame_memory}
 use Rattle.wasm_operators_readers.proofs.Premises.{IsSound}
-use Rattle.wasm_operators_readers.specs.Next.{NextMayAllocate, BeginsOperator}
-use Rattle.wasm_operators_readers.proofs.Taken.{TakesAllowed, begun_took, begun_stopped}
+use Rattle.wasm_operators_readers.specs.Next.{BeginsOperator}
+use Rattle.wasm_operators_readers.proofs.Taken.{one_read, TakesAllowed, begun_took, begun_stopped}
 
 module _ {V A : Type 0} (visits : V → Operator → A → V → Type 0) (Encodes : Taking) (Fault : Refusing) where
   abbrev pub After : State → State → FrameKind → ℕ → Result A Error → V → V → Type 0
@@ -22,19 +22,19 @@ module _ {V A : Type 0} (visits : V → Operator → A → V → Type 0) (Encode
   pub visited_changing : IsSound Encodes → TakesAllowed Encodes → (old mid new : State) (kind : FrameKind) (code start : ℕ) (a : A) (v w : V) →
       BeginsOperator old mid kind start code → After mid new kind start (Ok a) v w →
       new.frames ≡ frames_changed mid.frames (change_at code) → mid.room ≤ new.room + opened (change_at code) →
-      frame_memory new.frames new.room ≡ frame_memory mid.frames mid.room → VisitsOperator visits Encodes Fault (NextMayAllocate Encodes) (Ok a) old new v w
+      frame_memory new.frames new.room ≡ frame_memory mid.frames mid.room → VisitsOperator visits (one_read Encodes Fault) (Ok a) old new v w
   visited_changing sound allowed old mid new kind code start a v w b (text, op, encodes, takes, visit) frames used same =
       (op, begun_took Encodes sound allowed old mid new kind code start op text b encodes takes frames used same, visit)
 
   pub refused_after : (old mid new : State) (kind : FrameKind) (code start : ℕ) (e : Error) (v w : V) → BeginsOperator old mid kind start code →
       After mid new kind start (Err e) v w → new.frames ≡ mid.frames → new.room ≡ mid.room →
-      VisitsOperator visits Encodes Fault (NextMayAllocate Encodes) (Err e) old new v w
+      VisitsOperator visits (one_read Encodes Fault) (Err e) old new v w
   refused_after old mid new kind code start e v w b (same, refused) frames room =
       let stops = begun_stopped Encodes Fault old mid new kind code start e b refused frames room in (stops.0, same, stops.1)
 
   pub visited_from_20 : IsSound Encodes → TakesAllowed Encodes → (old mid new : State) (kind : FrameKind) (code start : ℕ) (result : Result A Error) (v w : V) →
       0x20 ≤ code → BeginsOperator old mid kind start code → After mid new kind start result v w → new.frames ≡ mid.frames → new.room ≡ mid.room →
-      VisitsOperator visits Encodes Fault (NextMayAllocate Encodes) result old new v w
+      VisitsOperator visits (one_read Encodes Fault) result old new v w
   visited_from_20 sound allowed old mid new kind code start (Ok a) v w high b after frames room =
       visited_changing sound allowed old mid new kind code start a v w b after (frames ∙ ap (frames_changed mid.frames) (sym (stays_from_20 code high)))
       (omega (arith, room))

@@ -13,7 +13,8 @@ use Rattle.wasm_decode.specs.instr.declared.operator.Operator.{Operator}
 use Rattle.wasm_decode.specs.instr.Roles.{roles_of}
 use Rattle.wasm_operators_readers.specs.Expression.{Placed, OfPlaced, operators, LaidOut, AreEncoded, EncodesRest, IsPrefixAfter, Longest, IsLongestAfter}
 use Rattle.wasm_operators_readers.specs.Flat.{IsAllowedFrom}
-use Rattle.wasm_operators_readers.specs.Reading.{State, Taking, Refusing, Allocating, StopsRun}
+use Rattle.wasm_operators_readers.specs.Visiting.{IsScalar}
+use Rattle.wasm_operators_readers.specs.Reading.{State, Decoder, StopsRun}
 
 -- These operators were read before: they have encodings, and lead to the open frames.
 pub record ReadSoFar (before : List Operator) (s : State) : Type 0 where
@@ -36,14 +37,13 @@ BeginningAt Kept _ before r placed = Longest (IsPrefixAfter before (source_of r)
 
 -- The operators are the longest `Kept` list that begins an expression; after `OutOfMemory`, some
 -- list that begins one. The error describes the bytes after them.
-pub record ReadsBeginning (Kept : OfPlaced) (Encodes : Taking) (Fault : Refusing) (Allocates : Allocating) (before : List Operator) (e : Error) (old new : State)
-    (placed : Placed) : Type 0 where
-  pub at : BeginningAt Kept e.message before old.reader placed
+pub record ReadsBeginning (decoder : Decoder) (before : List Operator) (e : Error) (old new : State) (placed : Placed) : Type 0 where
+  pub at : BeginningAt decoder.Kept e.message before old.reader placed
   pub text : List ℕ
   pub takes : Takes old.reader new.reader text
   pub laid : LaidOut old.reader.features (offset_of old.reader) placed text
   pub read_so_far : ReadSoFar (before ++ operators placed) new
-  pub stops : StopsRun Encodes Fault Allocates e new
+  pub stops : StopsRun decoder e new
 
 -- `Effect` holds for some list of operators with the property `Of`.
 abbrev pub SomeCame : OfPlaced → OfPlaced → Type 0
@@ -58,9 +58,9 @@ ClosesFrom frames s placed = LaidOut s.features s.offset placed s.bytes × (fram
 
 -- Unless allocation fails, `Effect` holds for the longest `Kept` list that the frames allow. `Ok`
 -- if and only if all of the bytes encode it and it closes every frame.
-abbrev pub ReadsFlat : {X : Type 0} → OfPlaced → OfPlaced → Result X Error → State → Type 0
-ReadsFlat Effect Kept result old =
-    (flat : Placed) → Longest (IsAllowedFrom old.frames (source_of old.reader)) Kept flat → IsNotOutOfMemory result → Effect flat ×
+abbrev pub ReadsFlat : {X : Type 0} → Decoder → OfPlaced → Result X Error → State → Type 0
+ReadsFlat decoder Effect result old =
+    (flat : Placed) → Longest (IsAllowedFrom old.frames (source_of old.reader)) decoder.Kept flat → IsNotOutOfMemory result → Effect flat ×
     (IsOk result ↔ ClosesFrom old.frames (source_of old.reader) flat)
 
 -- Each added frame took at least two bytes.
@@ -95,19 +95,24 @@ IsCompletedIfCut before result old new =
     IfErr result (λ e. e.message ≡ message.FramesRemain → IsCompletedByEnds before (source_of old.reader) (length new.frames))
 
 -- Reading or visiting to the end, after the operators `before`. `Effect`: the list was appended, or
--- visited. `Kept`: any list, or one without SIMD operators.
-pub record ReadsRest {X : Type 0} (Effect Kept : OfPlaced) (Encodes : Taking) (Fault : Refusing) (Allocates : Allocating) (before : List Operator)
-    (result : Result X Error) (old new : State) : Type 0 where
+-- visited.
+pub record ReadsRestAfter {X : Type 0} (before : List Operator) (decoder : Decoder) (Effect : OfPlaced) (result : Result X Error) (old new : State) : Type 0 where
   -- `Ok`: the operators complete the walk of the one tree.
   pub tree : OnOk result (SomeCame Effect (ReadsTree before old new))
   -- For a `Kept` rest of an expression, only allocation can fail.
-  pub only : (whole : Placed) → EncodesRest before (source_of old.reader) whole → Kept whole → IfErr result (λ e. e.message ≡ message.OutOfMemory)
+  pub only : (whole : Placed) → EncodesRest before (source_of old.reader) whole → decoder.Kept whole → IfErr result (λ e. e.message ≡ message.OutOfMemory)
   -- `Err`: the longest `Kept` list that begins an expression, unless allocation fails.
-  pub beginning : IfErr result (λ e. SomeCame Effect (ReadsBeginning Kept Encodes Fault Allocates before e old new))
+  pub beginning : IfErr result (λ e. SomeCame Effect (ReadsBeginning decoder before e old new))
   -- If more bytes would complete a `Kept` rest, the error is a `CutFault`.
-  pub cut : IsCut Kept before (source_of old.reader) → IfErr result (λ e. CutFault e.message (rest new.reader))
+  pub cut : IsCut decoder.Kept before (source_of old.reader) → IfErr result (λ e. CutFault e.message (rest new.reader))
   -- If only frames are left open, bytes 0x0b complete the expression.
   pub completed : IsCompletedIfCut before result old new
-  -- If the longest list is not `Kept`, the error is `UnexpectedSimd` or `OutOfMemory`.
-  pub vector : (longest : Placed) → IsLongestAfter before (source_of old.reader) longest → (Kept longest → ⊥) →
-      IfErr result (λ e. (e.message ≡ message.UnexpectedSimd) ⊎ (e.message ≡ message.OutOfMemory))
+
+-- As `ReadsRestAfter`, after any operators that lead to the open frames.
+abbrev pub ReadsRest : {X : Type 0} → Decoder → OfPlaced → Result X Error → State → State → Type 0
+ReadsRest decoder Effect result old new = (before : List Operator) → ReadSoFar before old → ReadsRestAfter before decoder Effect result old new
+
+-- If the longest list has a SIMD operator, the error is `UnexpectedSimd` or `OutOfMemory`.
+abbrev pub StopsAtSimd : {X : Type 0} → Result X Error → State → Type 0
+StopsAtSimd result old = (before : List Operator) → ReadSoFar before old → (longest : Placed) → IsLongestAfter before (source_of old.reader) longest →
+    ¬ IsScalar longest → IfErr result (λ e. (e.message ≡ message.UnexpectedSimd) ⊎ (e.message ≡ message.OutOfMemory))

@@ -10,7 +10,9 @@ use Rattle.wasm_decode.specs.opcodes.Decoding.{IsAfterCode}
 use Rattle.wasm_decode.specs.opcodes.OperatorFaults.{OperatorFault, ScalarOperatorFault}
 use Rattle.wasm_decode.specs.opcodes.Refused.{MayAllocate}
 use Rattle.wasm_operators_readers.specs.Stack.{OpenFrames}
-use Rattle.wasm_operators_readers.specs.Reading.{Taking, Refusing, Allocating, State, GrowsLittle, FrameMayAllocate, IsUnchanged, StopsRead, ReadsOperator, VisitsOperator}
+use Rattle.wasm_operators_readers.specs.Expression.{IsAny}
+use Rattle.wasm_operators_readers.specs.Visiting.{IsScalar}
+use Rattle.wasm_operators_readers.specs.Reading.{Taking, Allocating, Decoder, Anywhere, State, GrowsLittle, FrameMayAllocate, IsUnchanged, StopsRead, ReadsOperator, VisitsOperator}
 
 -- The next operator may own a list.
 abbrev pub ListMayAllocate : Taking → Allocating
@@ -20,26 +22,42 @@ ListMayAllocate Encodes s = (kind : FrameKind) × (innermost s.frames ≡ Some k
 abbrev pub NextMayAllocate : Taking → Allocating
 NextMayAllocate Encodes s = FrameMayAllocate s ⊎ ListMayAllocate Encodes s
 
+-- All operators are decoded; allocation may fail in these states.
+abbrev pub simd_if : Allocating → Decoder
+simd_if Allocates = record { Encodes = EncodesAllowed; Fault = OperatorFault; Allocates = Allocates; Kept = IsAny }
+
+-- The same, where allocation may fail as `NextMayAllocate` says.
+abbrev pub simd : Decoder
+simd = simd_if (NextMayAllocate EncodesAllowed)
+
+-- As `simd`, with a list of operators: adding one may fail anywhere.
+abbrev pub adding : Decoder
+adding = simd_if Anywhere
+
+-- As `simd`, without SIMD operators.
+abbrev pub scalar : Decoder
+scalar = record { Encodes = EncodesScalar; Fault = ScalarOperatorFault; Allocates = NextMayAllocate EncodesScalar; Kept = IsScalar }
+
 -- `Ok`, and `TakesOperator`, if and only if an operator that the innermost frame allows is next,
 -- unless allocation fails; otherwise `StopsNext`.
 abbrev pub ReadsNext : Result Operator Error → State → State → Type 0
-ReadsNext = ReadsOperator EncodesAllowed OperatorFault (NextMayAllocate EncodesAllowed)
+ReadsNext = ReadsOperator simd
 
 -- As `ReadsNext`, and the visitor's relation holds at the operator. On `Err`, the visitor is
 -- unchanged.
 abbrev pub VisitsNext : {V A : Type 0} → (V → Operator → A → V → Type 0) → Result A Error → State → State → V → V → Type 0
-VisitsNext visits = VisitsOperator visits EncodesAllowed OperatorFault (NextMayAllocate EncodesAllowed)
+VisitsNext visits = VisitsOperator visits simd
 
 -- As `VisitsNext`, by a visitor without SIMD operators.
 abbrev pub VisitsNextScalar : {V A : Type 0} → (V → Operator → A → V → Type 0) → Result A Error → State → State → V → V → Type 0
-VisitsNextScalar visits = VisitsOperator visits EncodesScalar ScalarOperatorFault (NextMayAllocate EncodesScalar)
+VisitsNextScalar visits = VisitsOperator visits scalar
 
 abbrev pub state_of : Reader → OpenFrames → State
 state_of r s = record { reader = r; frames = s.frames; room = s.room }
 
 -- Only the capacity may have grown. `StopsRead` holds for the error.
-abbrev pub StopsNext : Taking → Refusing → Error → State → State → Type 0
-StopsNext Encodes Fault e old new = IsUnchanged old new × StopsRead Encodes Fault (NextMayAllocate Encodes) e new
+abbrev pub StopsNext : Decoder → Error → State → State → Type 0
+StopsNext decoder e old new = IsUnchanged old new × StopsRead decoder e new
 
 -- The opcode was read from `start`, and there is capacity for the frame that it opens.
 pub record BeginsOperator (old new : State) (kind : FrameKind) (start code : ℕ) : Type 0 where

@@ -1,5 +1,5 @@
--- Parameters are the encoding, the error, and when allocation may fail. So the definitions serve
--- reads, visits, and visits without SIMD operators.
+-- The definitions take the decoder as a record. So they serve reads, visits, and visits without
+-- SIMD operators.
 use Rattle.std.specs.Prelude.{◌≡◌, ℕ, ◌+◌, ◌≤◌, List, [], ◌∷◌, ◌++◌, length, Some, Result, Ok, Err, ◌⊎◌}
 use Rattle.wasm_decode.specs.below.bytes.error.Error.{Error}
 use Rattle.wasm_decode.specs.below.bytes.features.WasmFeatures.{WasmFeatures}
@@ -32,6 +32,14 @@ pub record State : Type 0 where
 -- The states in which allocation may fail.
 abbrev pub Allocating : Type 1
 Allocating = State → Type 0
+
+-- Which operators are decoded, with which errors, where allocation may fail, and the lists that
+-- drivers decode.
+pub record Decoder : Type 1 where
+  pub Encodes : Taking
+  pub Fault : Refusing
+  pub Allocates : Allocating
+  pub Kept : OfPlaced
 
 -- Only the frame of the expression is open.
 abbrev pub IsFresh : State → Type 0
@@ -97,18 +105,18 @@ abbrev pub FrameMayAllocate : Allocating
 FrameMayAllocate s = (kind : FrameKind) × (innermost s.frames ≡ Some kind) × (byte : ℕ) × BeginsWith byte (rest s.reader) × OpensFrame (change_at byte) × (s.room ≡ 0)
 
 -- No frame is open, no operator can be read, or allocation fails.
-abbrev pub StopsRead : Taking → Refusing → Allocating → Error → State → Type 0
-StopsRead Encodes Fault Allocates e s = NoFrameOpen e s ⊎ (IsRefusedThere Encodes Fault e s ⊎ NoMemory Allocates e s)
+abbrev pub StopsRead : Decoder → Error → State → Type 0
+StopsRead decoder e s = NoFrameOpen e s ⊎ (IsRefusedThere decoder.Encodes decoder.Fault e s ⊎ NoMemory decoder.Allocates e s)
 
 -- The call reads the next operator; or it fails, and only the capacity may have grown.
-abbrev pub ReadsOperator : Taking → Refusing → Allocating → Result Operator Error → State → State → Type 0
-ReadsOperator Encodes Fault Allocates (Ok op) old new = TakesOperator Encodes op old new
-ReadsOperator Encodes Fault Allocates (Err e) old new = IsUnchanged old new × StopsRead Encodes Fault Allocates e new
+abbrev pub ReadsOperator : Decoder → Result Operator Error → State → State → Type 0
+ReadsOperator decoder (Ok op) old new = TakesOperator decoder.Encodes op old new
+ReadsOperator decoder (Err e) old new = IsUnchanged old new × StopsRead decoder e new
 
 -- As `ReadsOperator`, with a visit of the operator. On `Err` the visitor is unchanged.
-abbrev pub VisitsOperator : {V A : Type 0} → (V → Operator → A → V → Type 0) → Taking → Refusing → Allocating → Result A Error → State → State → V → V → Type 0
-VisitsOperator visits Encodes Fault Allocates (Ok a) old new before after = (op : Operator) × TakesOperator Encodes op old new × visits before op a after
-VisitsOperator visits Encodes Fault Allocates (Err e) old new before after = IsUnchanged old new × (after ≡ before) × StopsRead Encodes Fault Allocates e new
+abbrev pub VisitsOperator : {V A : Type 0} → (V → Operator → A → V → Type 0) → Decoder → Result A Error → State → State → V → V → Type 0
+VisitsOperator visits decoder (Ok a) old new before after = (op : Operator) × TakesOperator decoder.Encodes op old new × visits before op a after
+VisitsOperator visits decoder (Err e) old new before after = IsUnchanged old new × (after ≡ before) × StopsRead decoder e new
 
 -- These operators were read, one after another.
 pub record TakesOperators (old new : State) (placed : Placed) : Type 0 where
@@ -141,18 +149,17 @@ abbrev pub FramesLeft : Error → State → Type 0
 FramesLeft e s = (rest s.reader ≡ []) × (s.frames ≡ [] → ⊥) × (e.message ≡ message.FramesRemain) × (e.offset ≡ offset_of s.reader)
 
 -- Frames are open at the end of the data; or data is left, and a read fails.
-abbrev pub StopsRun : Taking → Refusing → Allocating → Error → State → Type 0
-StopsRun Encodes Fault Allocates e s = FramesLeft e s ⊎ ((rest s.reader ≡ [] → ⊥) × StopsRead Encodes Fault Allocates e s)
+abbrev pub StopsRun : Decoder → Error → State → Type 0
+StopsRun decoder e s = FramesLeft e s ⊎ ((rest s.reader ≡ [] → ⊥) × StopsRead decoder e s)
 
-abbrev pub EndsRun : {X : Type 0} → Taking → Refusing → Allocating → Result X Error → State → Type 0
-EndsRun Encodes Fault Allocates (Ok x) s = (s.frames ≡ []) × (rest s.reader ≡ [])
-EndsRun Encodes Fault Allocates (Err e) s = StopsRun Encodes Fault Allocates e s
+abbrev pub EndsRun : {X : Type 0} → Decoder → Result X Error → State → Type 0
+EndsRun decoder (Ok x) s = (s.frames ≡ []) × (rest s.reader ≡ [])
+EndsRun decoder (Err e) s = StopsRun decoder e s
 
 -- `placed` was appended to `out_old`.
 abbrev pub Adds : Placed → Placed → Placed → Type 0
 Adds out_old out_new placed = out_new ≡ out_old ++ placed
 
 -- Reading or visiting to the end: for the operators that were read, the effect holds.
-abbrev pub RunsToEnd : {X : Type 0} → OfPlaced → Taking → Refusing → Allocating → Result X Error → State → State → Type 0
-RunsToEnd Effect Encodes Fault Allocates result old new =
-    (placed : Placed) × Effect placed × TakesOperators old new placed × EndsRun Encodes Fault Allocates result new
+abbrev pub RunsToEnd : {X : Type 0} → Decoder → OfPlaced → Result X Error → State → State → Type 0
+RunsToEnd decoder Effect result old new = (placed : Placed) × Effect placed × TakesOperators old new placed × EndsRun decoder result new

@@ -2,10 +2,8 @@
 ghost use Rattle.std.specs.Prelude.{◌≡◌, ◌↔◌, ◌+◌, ◌≤◌, IsSome, IsTrue, IfOk, IfErr};
 ghost use Rattle.wasm_decode.specs.grammar.Frames.{frames_changed, innermost, opened, OpensFrame};
 ghost use Rattle.wasm_decode.specs.instr.Roles.{change_at};
-ghost use Rattle.wasm_decode.specs.opcodes.Allowed.{EncodesAllowed, EncodesScalar};
-ghost use Rattle.wasm_decode.specs.opcodes.OperatorFaults.{OperatorFault, ScalarOperatorFault};
 ghost use Rattle.wasm_operators_readers.specs.Stack.{HasRoom, IsSameMemory};
-ghost use Rattle.wasm_operators_readers.specs.Next.{BeginsOperator, StopsNext, state_of};
+ghost use Rattle.wasm_operators_readers.specs.Next.{BeginsOperator, StopsNext, state_of, simd, scalar};
 
 use crate::ControlStack;
 use wasm_decode::below::{BinaryReader, Message, Result};
@@ -27,11 +25,9 @@ pub fn begin(reader: &mut BinaryReader<'_>, control: &mut ControlStack) -> Resul
         (λ at. BeginsOperator (state_of reader.old control.old) (state_of reader.new control.new)
         at.frame at.start at.code) }
     ensures refused { IfErr result
-        (λ e. StopsNext EncodesAllowed OperatorFault e (state_of reader.old control.old)
-        (state_of reader.new control.new)) }
+        (λ e. StopsNext simd e (state_of reader.old control.old) (state_of reader.new control.new)) }
     ensures scalar { IfErr result
-        (λ e. StopsNext EncodesScalar ScalarOperatorFault e (state_of reader.old control.old)
-        (state_of reader.new control.new)) }
+        (λ e. StopsNext scalar e (state_of reader.old control.old) (state_of reader.new control.new)) }
 {
     let Some(frame) = control.last() else {
         return Err(no_frame(reader));

@@ -8,8 +8,8 @@ ghost use Rattle.wasm_decode.specs.opcodes.declared.guard.Guard.{Guard};
 ghost use Rattle.wasm_decode.specs.opcodes.Entry.{guarded_role, guarded_instruction, needed_frame};
 ghost use Rattle.wasm_decode.specs.opcodes.OperatorFaults.{LacksFeature, OperatorFault, ScalarOperatorFault};
 ghost use Rattle.wasm_operators_readers.specs.Guarded.{BeginsGuarded};
-ghost use Rattle.wasm_operators_readers.specs.Next.{NextMayAllocate};
-ghost use Rattle.wasm_operators_readers.specs.Reading.{State, StopsRead, StopsRun, Anywhere};
+ghost use Rattle.wasm_operators_readers.specs.Next.{NextMayAllocate, simd, adding, scalar};
+ghost use Rattle.wasm_operators_readers.specs.Reading.{State, StopsRead, StopsRun};
 
 use wasm_decode::below::{FrameName, InstructionName, Message, WasmFeatures};
 use wasm_decode::grammar::FrameKind;
@@ -54,33 +54,29 @@ pub fn wrong_frames(features: WasmFeatures, frame: FrameKind)
 /// States that an error of reading to the end, except `OutOfMemory`, is `OperatorsRemaining` if no
 /// frame is open. It is `FramesRemain` if one is and all data was read, otherwise neither.
 pub fn run_messages()
-    ensures closed { (e : Error) (s : State) → StopsRun EncodesAllowed OperatorFault Anywhere e s
+    ensures closed { (e : Error) (s : State) → StopsRun adding e s
         → (e.message ≡ Message.OutOfMemory → ⊥) → (e.message ≡ Message.OperatorsRemaining) ↔ (s.frames ≡ []) }
-    ensures left { (e : Error) (s : State) → StopsRun EncodesAllowed OperatorFault Anywhere e s
+    ensures left { (e : Error) (s : State) → StopsRun adding e s
         → (e.message ≡ Message.FramesRemain) ↔ ((rest s.reader ≡ []) × (s.frames ≡ [] → ⊥)) }
-    ensures visits_closed { (e : Error) (s : State)
-        → StopsRun EncodesAllowed OperatorFault (NextMayAllocate EncodesAllowed) e s
+    ensures visits_closed { (e : Error) (s : State) → StopsRun simd e s
         → (e.message ≡ Message.OutOfMemory → ⊥) → (e.message ≡ Message.OperatorsRemaining) ↔ (s.frames ≡ []) }
-    ensures visits_left { (e : Error) (s : State)
-        → StopsRun EncodesAllowed OperatorFault (NextMayAllocate EncodesAllowed) e s
+    ensures visits_left { (e : Error) (s : State) → StopsRun simd e s
         → (e.message ≡ Message.FramesRemain) ↔ ((rest s.reader ≡ []) × (s.frames ≡ [] → ⊥)) }
-    ensures scalar_closed { (e : Error) (s : State)
-        → StopsRun EncodesScalar ScalarOperatorFault (NextMayAllocate EncodesScalar) e s
+    ensures scalar_closed { (e : Error) (s : State) → StopsRun scalar e s
         → (e.message ≡ Message.OutOfMemory → ⊥) → (e.message ≡ Message.OperatorsRemaining) ↔ (s.frames ≡ []) }
-    ensures scalar_left { (e : Error) (s : State)
-        → StopsRun EncodesScalar ScalarOperatorFault (NextMayAllocate EncodesScalar) e s
+    ensures scalar_left { (e : Error) (s : State) → StopsRun scalar e s
         → (e.message ≡ Message.FramesRemain) ↔ ((rest s.reader ≡ []) × (s.frames ≡ [] → ⊥)) }
 {}
 
 /// States that allocation fails only if the next operator may own a list, or opens a frame without
 /// capacity.
 pub fn memory_asked()
-    ensures read { (e : Error) (s : State) → StopsRead EncodesAllowed OperatorFault (NextMayAllocate EncodesAllowed) e s
+    ensures read { (e : Error) (s : State) → StopsRead simd e s
         → e.message ≡ Message.OutOfMemory → NextMayAllocate EncodesAllowed s }
-    ensures scalar_read { (e : Error) (s : State) → StopsRead EncodesScalar ScalarOperatorFault (NextMayAllocate EncodesScalar) e s
+    ensures scalar_read { (e : Error) (s : State) → StopsRead scalar e s
         → e.message ≡ Message.OutOfMemory → NextMayAllocate EncodesScalar s }
-    ensures visits { (e : Error) (s : State) → StopsRun EncodesAllowed OperatorFault (NextMayAllocate EncodesAllowed) e s
+    ensures visits { (e : Error) (s : State) → StopsRun simd e s
         → e.message ≡ Message.OutOfMemory → NextMayAllocate EncodesAllowed s }
-    ensures scalar_visits { (e : Error) (s : State) → StopsRun EncodesScalar ScalarOperatorFault (NextMayAllocate EncodesScalar) e s
+    ensures scalar_visits { (e : Error) (s : State) → StopsRun scalar e s
         → e.message ≡ Message.OutOfMemory → NextMayAllocate EncodesScalar s }
 {}

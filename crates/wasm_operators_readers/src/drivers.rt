@@ -1,13 +1,10 @@
 //! Reading and visiting to the end of the data.
-ghost use Rattle.std.specs.Prelude.{◌≡◌, ◌+◌, ◌<◌, ◌≤◌, List, ◌⊎◌, IfErr, vec_capacity, vec_len};
-ghost use Rattle.wasm_decode.specs.instr.declared.operator.Operator.{Operator};
-ghost use Rattle.wasm_decode.specs.opcodes.Allowed.{EncodesAllowed, EncodesScalar};
-ghost use Rattle.wasm_decode.specs.opcodes.OperatorFaults.{OperatorFault, ScalarOperatorFault};
-ghost use Rattle.wasm_operators_readers.specs.Next.{NextMayAllocate};
-ghost use Rattle.wasm_operators_readers.specs.Expression.{IsAny};
-ghost use Rattle.wasm_operators_readers.specs.Visiting.{Visited, VisitedScalar, IsScalar};
-ghost use Rattle.wasm_operators_readers.specs.Reading.{RunsToEnd, Adds, Anywhere};
-ghost use Rattle.wasm_operators_readers.specs.MainTheorem.{ReadSoFar, ReadsRest, ReadsFlat, IsWithinDepth};
+ghost use Rattle.std.specs.Prelude.{◌≡◌, ◌+◌, ◌<◌, ◌≤◌, ◌⊎◌, IfErr, vec_capacity, vec_len};
+ghost use Rattle.wasm_decode.specs.opcodes.Allowed.{EncodesAllowed};
+ghost use Rattle.wasm_operators_readers.specs.Next.{NextMayAllocate, simd, adding, scalar};
+ghost use Rattle.wasm_operators_readers.specs.Visiting.{Visited, VisitedScalar};
+ghost use Rattle.wasm_operators_readers.specs.Reading.{RunsToEnd, Adds};
+ghost use Rattle.wasm_operators_readers.specs.MainTheorem.{ReadsRest, ReadsFlat, StopsAtSimd, IsWithinDepth};
 ghost use Rattle.wasm_operators_readers.specs.Collecting.{Collects};
 
 use crate::collector::Collector;
@@ -21,8 +18,7 @@ impl<'a> OperatorsReader<'a> {
     fn read_to_end<T>(&mut self, out: &mut Vec<(T, u64)>) -> Result<()>
     where
         T: HoldTable<'a> + Drop,
-        ensures runs { RunsToEnd (Collects T.holds out.old.items out.new.items) EncodesAllowed OperatorFault Anywhere
-            result self.old self.new }
+        ensures runs { RunsToEnd adding (Collects T.holds out.old.items out.new.items) result self.old self.new }
         ensures kept { vec_capacity out.old ≤ vec_capacity out.new }
         ensures memory { IfErr result
             (λ e. e.message ≡ Message.OutOfMemory
@@ -53,14 +49,11 @@ impl<'a> OperatorsReader<'a> {
     /// ```
     pub fn read_all(&mut self, out: &mut Vec<(Operator<'a>, u64)>) -> Result<()>
         // The added operators are the walk of the encoded tree, or the longest prefix of one.
-        ensures rest { (before : List Operator) → ReadSoFar before self.old
-            → ReadsRest (Adds out.old.items out.new.items) IsAny EncodesAllowed OperatorFault Anywhere
-            before result self.old self.new }
+        ensures rest { ReadsRest adding (Adds out.old.items out.new.items) result self.old self.new }
         // Where the reader is, and why reading ended.
-        ensures runs { RunsToEnd (Adds out.old.items out.new.items) EncodesAllowed OperatorFault Anywhere
-            result self.old self.new }
+        ensures runs { RunsToEnd adding (Adds out.old.items out.new.items) result self.old self.new }
         // By the frames alone: the added operators are the longest list that they allow.
-        ensures flat { ReadsFlat (Adds out.old.items out.new.items) IsAny result self.old }
+        ensures flat { ReadsFlat adding (Adds out.old.items out.new.items) result self.old }
         ensures depth { IsWithinDepth self.old self.new }
         ensures kept { vec_capacity out.old ≤ vec_capacity out.new }
         // Allocation fails only if one read may allocate, or if `out` is full.
@@ -89,14 +82,9 @@ impl<'a> OperatorsReader<'a> {
     where
         V: VisitOperator<'a>,
         V::Output: Copy,
-        ensures rest { (before : List Operator) → ReadSoFar before self.old
-            → ReadsRest (Visited V.visits v.old v.new) IsAny EncodesAllowed OperatorFault
-            (NextMayAllocate EncodesAllowed)
-            before result self.old self.new }
-        ensures runs { RunsToEnd (Visited V.visits v.old v.new) EncodesAllowed OperatorFault
-            (NextMayAllocate EncodesAllowed)
-            result self.old self.new }
-        ensures flat { ReadsFlat (Visited V.visits v.old v.new) IsAny result self.old }
+        ensures rest { ReadsRest simd (Visited V.visits v.old v.new) result self.old self.new }
+        ensures runs { RunsToEnd simd (Visited V.visits v.old v.new) result self.old self.new }
+        ensures flat { ReadsFlat simd (Visited V.visits v.old v.new) result self.old }
         ensures depth { IsWithinDepth self.old self.new }
     {
         self.visit_to_end_simd(v)
@@ -109,12 +97,10 @@ impl<'a> OperatorsReader<'a> {
         V::Output: Copy,
         // The visited operators are the walk of the encoded tree, or the longest list without SIMD
         // operators that begins one.
-        ensures rest { (before : List Operator) → ReadSoFar before self.old
-            → ReadsRest (VisitedScalar V.visits v.old v.new) IsScalar EncodesScalar ScalarOperatorFault
-            (NextMayAllocate EncodesScalar) before result self.old self.new }
-        ensures runs { RunsToEnd (VisitedScalar V.visits v.old v.new) EncodesScalar ScalarOperatorFault
-            (NextMayAllocate EncodesScalar) result self.old self.new }
-        ensures flat { ReadsFlat (VisitedScalar V.visits v.old v.new) IsScalar result self.old }
+        ensures rest { ReadsRest scalar (VisitedScalar V.visits v.old v.new) result self.old self.new }
+        ensures runs { RunsToEnd scalar (VisitedScalar V.visits v.old v.new) result self.old self.new }
+        ensures flat { ReadsFlat scalar (VisitedScalar V.visits v.old v.new) result self.old }
+        ensures vector { StopsAtSimd result self.old }
         ensures depth { IsWithinDepth self.old self.new }
     {
         self.visit_to_end(v)

@@ -2,34 +2,32 @@ ghost use Rattle.std.specs.Prelude.{◌≡◌, ◌≢◌, List};
 ghost use Rattle.wasm_decode.specs.below.bytes.error.Error.{Error};
 ghost use Rattle.wasm_decode.specs.instr.declared.operator.Operator.{Operator};
 ghost use Rattle.wasm_decode.specs.opcodes.Allowed.{EncodesAllowed, EncodesScalar};
-ghost use Rattle.wasm_decode.specs.opcodes.OperatorFaults.{OperatorFault, ScalarOperatorFault};
-ghost use Rattle.wasm_operators_readers.specs.Next.{NextMayAllocate, StopsNext};
-ghost use Rattle.wasm_operators_readers.specs.Expression.{Placed, IsAny};
-ghost use Rattle.wasm_operators_readers.specs.Reading.{State, SameReaderAndFrames, TakesOperator, Anywhere};
+ghost use Rattle.wasm_operators_readers.specs.Next.{StopsNext, simd, adding, scalar};
+ghost use Rattle.wasm_operators_readers.specs.Expression.{Placed};
+ghost use Rattle.wasm_operators_readers.specs.Reading.{State, SameReaderAndFrames, TakesOperator};
 ghost use Rattle.wasm_operators_readers.specs.MainTheorem.{ReadsBeginning};
-ghost use Rattle.wasm_operators_readers.specs.Visiting.{IsScalar};
 
 use wasm_decode::below::Message;
 
 /// States that a failed read or visit fails again with the same error, unless allocation fails.
 pub fn refused_again()
     ensures any { (d e : Error) (old mid new : State)
-        → StopsNext EncodesAllowed OperatorFault d old mid → d.message ≢ Message.OutOfMemory
-        → StopsNext EncodesAllowed OperatorFault e mid new → e.message ≢ Message.OutOfMemory
+        → StopsNext simd d old mid → d.message ≢ Message.OutOfMemory
+        → StopsNext simd e mid new → e.message ≢ Message.OutOfMemory
         → (d.message ≡ e.message) × (d.offset ≡ e.offset) }
     ensures scalar { (d e : Error) (old mid new : State)
-        → StopsNext EncodesScalar ScalarOperatorFault d old mid → d.message ≢ Message.OutOfMemory
-        → StopsNext EncodesScalar ScalarOperatorFault e mid new → e.message ≢ Message.OutOfMemory
+        → StopsNext scalar d old mid → d.message ≢ Message.OutOfMemory
+        → StopsNext scalar e mid new → e.message ≢ Message.OutOfMemory
         → (d.message ≡ e.message) × (d.offset ≡ e.offset) }
 {}
 
 /// States that repeating a failed read reads no operator, unless allocation had failed.
 pub fn not_taken()
     ensures any { (e : Error) (old mid new : State) (op : Operator)
-        → StopsNext EncodesAllowed OperatorFault e old mid → e.message ≢ Message.OutOfMemory
+        → StopsNext simd e old mid → e.message ≢ Message.OutOfMemory
         → ¬ TakesOperator EncodesAllowed op mid new }
     ensures scalar { (e : Error) (old mid new : State) (op : Operator)
-        → StopsNext EncodesScalar ScalarOperatorFault e old mid → e.message ≢ Message.OutOfMemory
+        → StopsNext scalar e old mid → e.message ≢ Message.OutOfMemory
         → ¬ TakesOperator EncodesScalar op mid new }
 {}
 
@@ -40,21 +38,21 @@ pub fn same_result()
         → TakesOperator EncodesAllowed op old new → TakesOperator EncodesAllowed other start end
         → (op ≡ other) × SameReaderAndFrames new end }
     ensures refused { (d e : Error) (old new start end : State) → SameReaderAndFrames old start
-        → StopsNext EncodesAllowed OperatorFault d old new → d.message ≢ Message.OutOfMemory
-        → StopsNext EncodesAllowed OperatorFault e start end → e.message ≢ Message.OutOfMemory
+        → StopsNext simd d old new → d.message ≢ Message.OutOfMemory
+        → StopsNext simd e start end → e.message ≢ Message.OutOfMemory
         → (d.message ≡ e.message) × (d.offset ≡ e.offset) × SameReaderAndFrames new end }
     ensures never_both { (e : Error) (op : Operator) (old new start end : State) → SameReaderAndFrames old start
-        → TakesOperator EncodesAllowed op old new → StopsNext EncodesAllowed OperatorFault e start end
+        → TakesOperator EncodesAllowed op old new → StopsNext simd e start end
         → e.message ≡ Message.OutOfMemory }
     ensures scalar_taken { (op other : Operator) (old new start end : State) → SameReaderAndFrames old start
         → TakesOperator EncodesScalar op old new → TakesOperator EncodesScalar other start end
         → (op ≡ other) × SameReaderAndFrames new end }
     ensures scalar_refused { (d e : Error) (old new start end : State) → SameReaderAndFrames old start
-        → StopsNext EncodesScalar ScalarOperatorFault d old new → d.message ≢ Message.OutOfMemory
-        → StopsNext EncodesScalar ScalarOperatorFault e start end → e.message ≢ Message.OutOfMemory
+        → StopsNext scalar d old new → d.message ≢ Message.OutOfMemory
+        → StopsNext scalar e start end → e.message ≢ Message.OutOfMemory
         → (d.message ≡ e.message) × (d.offset ≡ e.offset) × SameReaderAndFrames new end }
     ensures scalar_never_both { (e : Error) (op : Operator) (old new start end : State) → SameReaderAndFrames old start
-        → TakesOperator EncodesScalar op old new → StopsNext EncodesScalar ScalarOperatorFault e start end
+        → TakesOperator EncodesScalar op old new → StopsNext scalar e start end
         → e.message ≡ Message.OutOfMemory }
 {}
 
@@ -62,25 +60,23 @@ pub fn same_result()
 /// the place, the open frames and the error, unless allocation fails.
 pub fn one_result()
     ensures reads { (before : List Operator) (d e : Error) (old new end : State) (placed others : Placed)
-        → ReadsBeginning IsAny EncodesAllowed OperatorFault Anywhere before d old new placed
+        → ReadsBeginning adding before d old new placed
         → d.message ≢ Message.OutOfMemory
-        → ReadsBeginning IsAny EncodesAllowed OperatorFault Anywhere before e old end others
+        → ReadsBeginning adding before e old end others
         → e.message ≢ Message.OutOfMemory
         → (placed ≡ others) × (end.reader ≡ new.reader) × (end.frames ≡ new.frames) × (d.message ≡ e.message)
         × (d.offset ≡ e.offset) }
     ensures visits { (before : List Operator) (d e : Error) (old new end : State) (placed others : Placed)
-        → ReadsBeginning IsAny EncodesAllowed OperatorFault (NextMayAllocate EncodesAllowed) before d old new placed
+        → ReadsBeginning simd before d old new placed
         → d.message ≢ Message.OutOfMemory
-        → ReadsBeginning IsAny EncodesAllowed OperatorFault (NextMayAllocate EncodesAllowed) before e old end others
+        → ReadsBeginning simd before e old end others
         → e.message ≢ Message.OutOfMemory
         → (placed ≡ others) × (end.reader ≡ new.reader) × (end.frames ≡ new.frames) × (d.message ≡ e.message)
         × (d.offset ≡ e.offset) }
     ensures scalar { (before : List Operator) (d e : Error) (old new end : State) (placed others : Placed)
-        → ReadsBeginning IsScalar EncodesScalar ScalarOperatorFault (NextMayAllocate EncodesScalar)
-        before d old new placed
+        → ReadsBeginning scalar before d old new placed
         → d.message ≢ Message.OutOfMemory
-        → ReadsBeginning IsScalar EncodesScalar ScalarOperatorFault (NextMayAllocate EncodesScalar)
-        before e old end others
+        → ReadsBeginning scalar before e old end others
         → e.message ≢ Message.OutOfMemory
         → (placed ≡ others) × (end.reader ≡ new.reader) × (end.frames ≡ new.frames) × (d.message ≡ e.message)
         × (d.offset ≡ e.offset) }

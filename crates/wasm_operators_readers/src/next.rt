@@ -3,11 +3,10 @@
 //! The reader and the stack are borrowed separately, so that a loop can hold the reader in a local
 //! variable, which stays in registers as long as no call out of line borrows it.
 ghost use Rattle.std.specs.Prelude.{◌≡◌, ◌+◌, ◌<◌, ◌≤◌, ◌⊎◌, IfErr, vec_capacity, vec_len};
-ghost use Rattle.wasm_decode.specs.opcodes.Allowed.{EncodesAllowed, EncodesScalar};
-ghost use Rattle.wasm_decode.specs.opcodes.OperatorFaults.{OperatorFault, ScalarOperatorFault};
+ghost use Rattle.wasm_decode.specs.opcodes.Allowed.{EncodesAllowed};
 ghost use Rattle.wasm_operators_readers.specs.Collecting.{Collects};
-ghost use Rattle.wasm_operators_readers.specs.Next.{NextMayAllocate, VisitsNext, VisitsNextScalar, state_of};
-ghost use Rattle.wasm_operators_readers.specs.Reading.{Anywhere, Finishes, RunsToEnd};
+ghost use Rattle.wasm_operators_readers.specs.Next.{NextMayAllocate, simd, adding, scalar, VisitsNext, VisitsNextScalar, state_of};
+ghost use Rattle.wasm_operators_readers.specs.Reading.{Finishes, RunsToEnd};
 ghost use Rattle.wasm_operators_readers.specs.Visiting.{Visited, VisitedScalar};
 
 use crate::ControlStack;
@@ -97,7 +96,7 @@ pub fn visit_rest_simd<'a, V>(
 where
     V: VisitOperator<'a>,
     V::Output: Copy,
-    ensures { RunsToEnd (Visited V.visits v.old v.new) EncodesAllowed OperatorFault (NextMayAllocate EncodesAllowed)
+    ensures { RunsToEnd simd (Visited V.visits v.old v.new)
         result (state_of reader.old control.old) (state_of reader.new control.new) }
 {
     'visits: while !reader.eof() {
@@ -118,8 +117,8 @@ pub fn visit_rest<'a, V: VisitOperator<'a>>(
 ) -> Result<()>
 where
     V::Output: Copy,
-    ensures { RunsToEnd (VisitedScalar V.visits v.old v.new) EncodesScalar ScalarOperatorFault
-        (NextMayAllocate EncodesScalar) result (state_of reader.old control.old) (state_of reader.new control.new) }
+    ensures { RunsToEnd scalar (VisitedScalar V.visits v.old v.new)
+        result (state_of reader.old control.old) (state_of reader.new control.new) }
 {
     'scalar_visits: while !reader.eof() {
         match visit_next(alloc, v, reader, control) {
@@ -141,8 +140,8 @@ pub fn collect_rest<'a, T>(
 ) -> Result<()>
 where
     T: HoldTable<'a> + Drop,
-    ensures runs { RunsToEnd (Collects T.holds list.old.items.items list.new.items.items) EncodesAllowed OperatorFault
-        Anywhere result (state_of reader.old control.old) (state_of reader.new control.new) }
+    ensures runs { RunsToEnd adding (Collects T.holds list.old.items.items list.new.items.items)
+        result (state_of reader.old control.old) (state_of reader.new control.new) }
     ensures kept { vec_capacity list.old.items ≤ vec_capacity list.new.items }
     ensures memory { IfErr result
         (λ e. e.message ≡ Message.OutOfMemory

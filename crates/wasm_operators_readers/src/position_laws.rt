@@ -1,10 +1,8 @@
 ghost use Rattle.std.specs.Prelude.{◌≡◌, ◌≤◌, List, ℕ, Err};
 ghost use Rattle.wasm_decode.specs.below.bytes.error.Error.{Error};
 ghost use Rattle.wasm_decode.specs.below.Source.{Reader, offset_of, end_of, Takes, IsAhead};
-ghost use Rattle.wasm_decode.specs.opcodes.Allowed.{EncodesAllowed, EncodesScalar};
-ghost use Rattle.wasm_decode.specs.opcodes.OperatorFaults.{OperatorFault, ScalarOperatorFault};
-ghost use Rattle.wasm_operators_readers.specs.Next.{NextMayAllocate};
-ghost use Rattle.wasm_operators_readers.specs.Reading.{State, Finishes, StopsRead, StopsRun, Anywhere};
+ghost use Rattle.wasm_operators_readers.specs.Next.{simd, adding, scalar};
+ghost use Rattle.wasm_operators_readers.specs.Reading.{State, Finishes, StopsRead, StopsRun};
 
 use wasm_decode::below::BinaryReader;
 
@@ -23,16 +21,16 @@ pub fn taken_within()
 
 /// States that an error is within the rest, or at its end.
 pub fn refusals_ahead()
-    ensures read { (e : Error) (s : State) → StopsRead EncodesAllowed OperatorFault (NextMayAllocate EncodesAllowed) e s
+    ensures read { (e : Error) (s : State) → StopsRead simd e s
         → offset_of s.reader ≤ end_of s.reader → IsAhead s.reader e.offset }
-    ensures scalar_read { (e : Error) (s : State) → StopsRead EncodesScalar ScalarOperatorFault (NextMayAllocate EncodesScalar) e s
+    ensures scalar_read { (e : Error) (s : State) → StopsRead scalar e s
         → offset_of s.reader ≤ end_of s.reader → IsAhead s.reader e.offset }
     ensures finish { (e : Error) (s : State) → Finishes {X = Unit {0}} (Err e) s
         → offset_of s.reader ≤ end_of s.reader → IsAhead s.reader e.offset }
-    ensures reads { (e : Error) (s : State) → StopsRun EncodesAllowed OperatorFault Anywhere e s
+    ensures reads { (e : Error) (s : State) → StopsRun adding e s
         → offset_of s.reader ≤ end_of s.reader → IsAhead s.reader e.offset }
-    ensures visits { (e : Error) (s : State) → StopsRun EncodesAllowed OperatorFault (NextMayAllocate EncodesAllowed) e s
+    ensures visits { (e : Error) (s : State) → StopsRun simd e s
         → offset_of s.reader ≤ end_of s.reader → IsAhead s.reader e.offset }
-    ensures scalar_visits { (e : Error) (s : State) → StopsRun EncodesScalar ScalarOperatorFault (NextMayAllocate EncodesScalar) e s
+    ensures scalar_visits { (e : Error) (s : State) → StopsRun scalar e s
         → offset_of s.reader ≤ end_of s.reader → IsAhead s.reader e.offset }
 {}

@@ -3,10 +3,9 @@ ghost use Rattle.wasm_decode.specs.below.bytes.error.Error.{Error};
 ghost use Rattle.wasm_decode.specs.below.Source.{rest, source_of};
 ghost use Rattle.wasm_decode.specs.instr.declared.operator.Operator.{Operator};
 ghost use Rattle.wasm_decode.specs.opcodes.Allowed.{EncodesAllowed, EncodesScalar};
-ghost use Rattle.wasm_decode.specs.opcodes.OperatorFaults.{OperatorFault};
-ghost use Rattle.wasm_operators_readers.specs.Expression.{Placed, IsAny, EncodesRest};
-ghost use Rattle.wasm_operators_readers.specs.Next.{NextMayAllocate};
-ghost use Rattle.wasm_operators_readers.specs.Reading.{State, IsFresh, IsUnchanged, TakesOperator, TakesOperators, Finishes, FramesLeft, StopsRead, StopsRun, Anywhere};
+ghost use Rattle.wasm_operators_readers.specs.Expression.{Placed, EncodesRest};
+ghost use Rattle.wasm_operators_readers.specs.Next.{simd, adding};
+ghost use Rattle.wasm_operators_readers.specs.Reading.{State, IsFresh, IsUnchanged, TakesOperator, TakesOperators, Finishes, FramesLeft, StopsRead, StopsRun};
 ghost use Rattle.wasm_operators_readers.specs.Laws.{TakesNone, TakesOneMore, TakesNoMore, TakesBoth, TakesBytes, AddsFewFrames, MemoryAddsUp};
 ghost use Rattle.wasm_operators_readers.specs.MainTheorem.{ReadSoFar, ReadsTree, ReadsBeginning, IsWithinDepth};
 
@@ -56,14 +55,11 @@ pub fn read_to_the_end()
     ensures tree { (before : List Operator) (old new : State) (placed : Placed) → ReadSoFar before old
         → TakesOperators old new placed → new.frames ≡ [] → rest new.reader ≡ [] → ReadsTree before old new placed }
     ensures beginning { (before : List Operator) (e : Error) (old new : State) (placed : Placed) → ReadSoFar before old
-        → TakesOperators old new placed → StopsRun EncodesAllowed OperatorFault Anywhere e new
-        → ReadsBeginning IsAny EncodesAllowed OperatorFault Anywhere before e old new placed }
+        → TakesOperators old new placed → StopsRun adding e new → ReadsBeginning adding before e old new placed }
     ensures only { (before : List Operator) (e : Error) (old new : State) (placed whole : Placed)
-        → ReadSoFar before old → TakesOperators old new placed → StopsRun EncodesAllowed OperatorFault Anywhere e new
+        → ReadSoFar before old → TakesOperators old new placed → StopsRun adding e new
         → EncodesRest before (source_of old.reader) whole → e.message ≡ Message.OutOfMemory }
     // A failed read stops as the clauses above assume.
-    ensures refused { (e : Error) (s : State)
-        → StopsRead EncodesAllowed OperatorFault (NextMayAllocate EncodesAllowed) e s
-        → StopsRead EncodesAllowed OperatorFault Anywhere e s }
+    ensures refused { (e : Error) (s : State) → StopsRead simd e s → StopsRead adding e s }
     ensures finished { (e : Error) (s : State) → rest s.reader ≡ [] → Finishes {X = Unit {0}} (Err e) s → FramesLeft e s }
 {}

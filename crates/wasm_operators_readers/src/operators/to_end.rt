@@ -1,10 +1,9 @@
 //! Visiting to the end, with the reader of the bytes in a local variable, and for visits the stack.
 ghost use Rattle.std.specs.Prelude.{◌≡◌, ◌+◌, ◌<◌, ◌≤◌, ◌⊎◌, IfErr, vec_capacity, vec_len};
-ghost use Rattle.wasm_decode.specs.opcodes.Allowed.{EncodesAllowed, EncodesScalar};
-ghost use Rattle.wasm_decode.specs.opcodes.OperatorFaults.{OperatorFault, ScalarOperatorFault};
+ghost use Rattle.wasm_decode.specs.opcodes.Allowed.{EncodesAllowed};
 ghost use Rattle.wasm_operators_readers.specs.Collecting.{Collects};
-ghost use Rattle.wasm_operators_readers.specs.Next.{NextMayAllocate};
-ghost use Rattle.wasm_operators_readers.specs.Reading.{Anywhere, RunsToEnd};
+ghost use Rattle.wasm_operators_readers.specs.Next.{NextMayAllocate, simd, adding, scalar};
+ghost use Rattle.wasm_operators_readers.specs.Reading.{RunsToEnd};
 ghost use Rattle.wasm_operators_readers.specs.Visiting.{Visited, VisitedScalar};
 
 use super::OperatorsReader;
@@ -19,8 +18,7 @@ impl<'a> OperatorsReader<'a> {
     pub(crate) fn collect_to_end<T>(&mut self, list: &mut Collector<T>) -> Result<()>
     where
         T: HoldTable<'a> + Drop,
-        ensures runs { RunsToEnd (Collects T.holds list.old.items.items list.new.items.items) EncodesAllowed OperatorFault
-            Anywhere result self.old self.new }
+        ensures runs { RunsToEnd adding (Collects T.holds list.old.items.items list.new.items.items) result self.old self.new }
         ensures kept { vec_capacity list.old.items ≤ vec_capacity list.new.items }
         ensures memory { IfErr result
             (λ e. e.message ≡ Message.OutOfMemory
@@ -36,8 +34,7 @@ impl<'a> OperatorsReader<'a> {
     where
         V: VisitOperator<'a>,
         V::Output: Copy,
-        ensures { RunsToEnd (Visited V.visits v.old v.new) EncodesAllowed OperatorFault (NextMayAllocate EncodesAllowed)
-            result self.old self.new }
+        ensures { RunsToEnd simd (Visited V.visits v.old v.new) result self.old self.new }
     {
         let mut reader = self.reader.clone();
         let mut control = replace(&mut self.control, ControlStack::new(self.alloc));
@@ -50,9 +47,7 @@ impl<'a> OperatorsReader<'a> {
     pub(crate) fn visit_to_end<V: VisitOperator<'a>>(&mut self, v: &mut V) -> Result<()>
     where
         V::Output: Copy,
-        ensures { RunsToEnd (VisitedScalar V.visits v.old v.new) EncodesScalar ScalarOperatorFault
-            (NextMayAllocate EncodesScalar)
-            result self.old self.new }
+        ensures { RunsToEnd scalar (VisitedScalar V.visits v.old v.new) result self.old self.new }
     {
         let mut reader = self.reader.clone();
         let mut control = replace(&mut self.control, ControlStack::new(self.alloc));

@@ -26,7 +26,7 @@ pub returns-clause-found : goal.returns-clause-found
 returns-clause-found c = λ longest is vectors.
     let same = c.new-reader.ensures.reader ∙ c.new_features.ensures in
     let there = subst (λ r. IsLongestAfter [] (source_of r) longest) (sym same) is in
-    let refused = (c.in-Err.ensures.rest [] c.new-reader.ensures.read_so_far).vector longest there vectors in
+    let refused = c.in-Err.ensures.vector [] c.new-reader.ensures.read_so_far longest there vectors in
     absurd (neither (λ m. c.in_default.not-UnexpectedSimd (c.message.ensures ∙ m)) (λ m. c.in_default.not-OutOfMemory (c.message.ensures ∙ m)) refused)
 
 pub returns-clause-none : goal.returns-clause-none
@@ -36,5 +36,5 @@ returns-clause-none c = λ no before after op at there.
     let exists = rw same at (c.longest_exists.ensures.any [] c.new-reader.result c.new-reader.ensures.read_so_far) in
     none_at s before after op at c.one_layout.ensures.beginning c.scalar_beginnings.ensures.none exists
     (λ longest is vectors.
-    let refused = (c.in-Err.ensures.rest [] c.new-reader.ensures.read_so_far).vector longest (subst (λ r. IsLongestAfter [] (source_of r) longest) (sym same) is) vectors in
+    let refused = c.in-Err.ensures.vector [] c.new-reader.ensures.read_so_far longest (subst (λ r. IsLongestAfter [] (source_of r) longest) (sym same) is) vectors in
     neither (λ m. c.in_default.not-UnexpectedSimd (c.message.ensures ∙ m)) (λ m. c.in_default.not-OutOfMemory (c.message.ensures ∙ m)) refused) there

@@ -1,14 +1,12 @@
 use Rattle.std.proofs.Common.{refl}
-use Rattle.wasm_decode.specs.opcodes.Allowed.{EncodesAllowed, EncodesScalar}
-use Rattle.wasm_decode.specs.opcodes.OperatorFaults.{OperatorFault, ScalarOperatorFault}
-use Rattle.wasm_operators_readers.specs.Next.{NextMayAllocate}
+use Rattle.wasm_operators_readers.specs.Next.{simd, scalar}
 use Rattle.wasm_operators_readers.proofs.OneRead.{refused_not_taken}
 use Rattle.wasm_operators_readers.proofs.laws.not_taken.Goals as goal
 
 pub returns-clause-any : goal.returns-clause-any
 returns-clause-any c = λ e old mid new op stops other.
-    refused_not_taken EncodesAllowed OperatorFault (NextMayAllocate EncodesAllowed) e mid mid new op refl refl stops.1 other
+    refused_not_taken simd e mid mid new op refl refl stops.1 other
 
 pub returns-clause-scalar : goal.returns-clause-scalar
 returns-clause-scalar c = λ e old mid new op stops other.
-    refused_not_taken EncodesScalar ScalarOperatorFault (NextMayAllocate EncodesScalar) e mid mid new op refl refl stops.1 other
+    refused_not_taken scalar e mid mid new op refl refl stops.1 other

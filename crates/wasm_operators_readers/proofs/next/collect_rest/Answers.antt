@@ -2,14 +2,12 @@ use Rattle.std.proofs.Common.{◌≡◌, ◌<◌, ◌≤◌, ◌++◌, ◌∷◌
 use Rattle.std.specs.Vec.{vec_len, vec_capacity}
 use Rattle.wasm_decode.specs.below.Source.{rest, offset_of}
 use Rattle.wasm_decode.specs.opcodes.Allowed.{EncodesAllowed}
-use Rattle.wasm_decode.specs.opcodes.OperatorFaults.{OperatorFault}
 use Rattle.wasm_operators_readers.specs.Collecting.{CollectsOne, Collects}
-use Rattle.wasm_operators_readers.specs.Next.{NextMayAllocate, state_of}
-use Rattle.wasm_operators_readers.specs.Reading.{Anywhere}
+use Rattle.wasm_operators_readers.specs.Next.{state_of, simd, adding}
 use Rattle.wasm_operators_readers.proofs.CollectedLemmas.{collected_push}
 use Rattle.wasm_operators_readers.proofs.DecoderPremises.{sound, is_reading}
 use Rattle.wasm_operators_readers.proofs.MemoryLemmas.{memory_needs}
-use Rattle.wasm_operators_readers.proofs.OneRead.{needs_more}
+use Rattle.wasm_operators_readers.proofs.OneRead.{stops_adding}
 use Rattle.wasm_operators_readers.proofs.Runs.{ran_push, ran_unchanged, run_stops}
 use Rattle.wasm_operators_readers.proofs.next.collect_rest.Goals as goal
 
@@ -36,17 +34,17 @@ returns-in-Err-clause-runs g c =
     let i = c.operators.invariant in
     let h = c.in-Err.ensures in
     let left : rest c.operators.reader ≡ [] → ⊥ = search rules in
-    let stops = needs_more EncodesAllowed OperatorFault (NextMayAllocate EncodesAllowed) Anywhere (λ s h. tt) c.in-Err.e (state_of c.visit_next_simd.new.reader c.visit_next_simd.new.control) h.2 in
+    let stops = stops_adding c.in-Err.e (state_of c.visit_next_simd.new.reader c.visit_next_simd.new.control) h.2 in
     let old = c.args.list.now.items.items in (
       i.0,
       subst (λ w. Collects g.T.HoldOperator.holds old w.items.items i.0) (sym h.1)
           (subst (λ x. Collects g.T.HoldOperator.holds old x i.0) (sym c.try_reserve.ensures.items) i.1),
       ran_unchanged (state_of c.args.reader.now c.args.control.now) (state_of c.operators.reader c.operators.control) (state_of c.visit_next_simd.new.reader c.visit_next_simd.new.control) i.0 i.2 h.0,
-      run_stops EncodesAllowed OperatorFault Anywhere c.in-Err.e (state_of c.operators.reader c.operators.control) (state_of c.visit_next_simd.new.reader c.visit_next_simd.new.control) left h.0 stops,
+      run_stops adding c.in-Err.e (state_of c.operators.reader c.operators.control) (state_of c.visit_next_simd.new.reader c.visit_next_simd.new.control) left h.0 stops,
     )
 
 pub returns-in-Err-clause-memory : goal.returns-in-Err-clause-memory
-returns-in-Err-clause-memory g c = λ is. inl (memory_needs EncodesAllowed OperatorFault (NextMayAllocate EncodesAllowed) is_reading c.in-Err.e
+returns-in-Err-clause-memory g c = λ is. inl (memory_needs simd is_reading c.in-Err.e
     (state_of c.visit_next_simd.new.reader c.visit_next_simd.new.control) c.in-Err.ensures.2 is)
 
 pub returns-in-Err-clause-kept : goal.returns-in-Err-clause-kept

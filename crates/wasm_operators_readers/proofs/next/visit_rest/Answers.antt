@@ -1,11 +1,10 @@
 use Rattle.std.proofs.Common.{◌≡◌, ◌++◌, ◌∷◌, [], refl, sym, subst, rules}
 use Rattle.wasm_decode.specs.below.Source.{rest, offset_of}
 use Rattle.wasm_decode.specs.opcodes.Allowed.{EncodesScalar}
-use Rattle.wasm_decode.specs.opcodes.OperatorFaults.{ScalarOperatorFault}
 use Rattle.wasm_operators_readers.specs.Visiting.{VisitedScalar}
 use Rattle.wasm_operators_readers.proofs.VisitLemmas.{visited_push, scalar_push}
 use Rattle.wasm_operators_readers.proofs.Runs.{ran_start, ran_push, ran_unchanged, run_stops}
-use Rattle.wasm_operators_readers.specs.Next.{NextMayAllocate, state_of}
+use Rattle.wasm_operators_readers.specs.Next.{state_of, scalar}
 use Rattle.wasm_operators_readers.proofs.DecoderPremises.{scalar_sound, no_vector}
 use Rattle.wasm_operators_readers.proofs.next.visit_rest.Goals as goal
 
@@ -35,5 +34,5 @@ returns-in-Err g c =
       i.0,
       subst (λ w. VisitedScalar g.V.Visitor.visits c.args.v.now w i.0) (sym h.1) i.1,
       ran_unchanged (state_of c.args.reader.now c.args.control.now) (state_of c.scalar_visits.reader c.scalar_visits.control) (state_of c.visit_next.new.reader c.visit_next.new.control) i.0 i.2 h.0,
-      run_stops EncodesScalar ScalarOperatorFault (NextMayAllocate EncodesScalar) c.in-Err.e (state_of c.scalar_visits.reader c.scalar_visits.control) (state_of c.visit_next.new.reader c.visit_next.new.control) left h.0 h.2,
+      run_stops scalar c.in-Err.e (state_of c.scalar_visits.reader c.scalar_visits.control) (state_of c.visit_next.new.reader c.visit_next.new.control) left h.0 h.2,
     )

@@ -1,11 +1,10 @@
 use Rattle.std.proofs.Common.{◌≡◌, ◌++◌, ◌∷◌, [], refl, sym, subst, rules}
 use Rattle.wasm_decode.specs.below.Source.{rest, offset_of}
 use Rattle.wasm_decode.specs.opcodes.Allowed.{EncodesAllowed}
-use Rattle.wasm_decode.specs.opcodes.OperatorFaults.{OperatorFault}
 use Rattle.wasm_operators_readers.specs.Visiting.{Visited}
 use Rattle.wasm_operators_readers.proofs.VisitLemmas.{visited_push}
 use Rattle.wasm_operators_readers.proofs.Runs.{ran_start, ran_push, ran_unchanged, run_stops}
-use Rattle.wasm_operators_readers.specs.Next.{NextMayAllocate, state_of}
+use Rattle.wasm_operators_readers.specs.Next.{state_of, simd}
 use Rattle.wasm_operators_readers.proofs.DecoderPremises.{sound}
 use Rattle.wasm_operators_readers.proofs.next.visit_rest_simd.Goals as goal
 
@@ -32,5 +31,5 @@ returns-in-Err g c =
       i.0,
       subst (λ w. Visited g.V.Visitor.visits c.args.v.now w i.0) (sym h.1) i.1,
       ran_unchanged (state_of c.args.reader.now c.args.control.now) (state_of c.visits.reader c.visits.control) (state_of c.visit_next_simd.new.reader c.visit_next_simd.new.control) i.0 i.2 h.0,
-      run_stops EncodesAllowed OperatorFault (NextMayAllocate EncodesAllowed) c.in-Err.e (state_of c.visits.reader c.visits.control) (state_of c.visit_next_simd.new.reader c.visit_next_simd.new.control) left h.0 h.2,
+      run_stops simd c.in-Err.e (state_of c.visits.reader c.visits.control) (state_of c.visit_next_simd.new.reader c.visit_next_simd.new.control) left h.0 h.2,
     )

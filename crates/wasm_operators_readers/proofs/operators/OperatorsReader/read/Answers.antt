@@ -2,7 +2,7 @@ use Rattle.std.proofs.Common.{refl, subst}
 use Rattle.wasm_decode.specs.opcodes.Allowed.{EncodesAllowed}
 use Rattle.wasm_decode.specs.opcodes.OperatorFaults.{OperatorFault}
 use Rattle.wasm_operators_readers.specs.Reading.{State, TakesOperator}
-use Rattle.wasm_operators_readers.specs.Next.{StopsNext, state_of}
+use Rattle.wasm_operators_readers.specs.Next.{StopsNext, state_of, simd}
 use Rattle.wasm_operators_readers.proofs.DecoderPremises.{sound}
 use Rattle.wasm_operators_readers.proofs.Taken.{begun_open, begun_took, begun_stopped}
 use Rattle.wasm_operators_readers.proofs.operators.OperatorsReader.read.Goals as goal
@@ -35,4 +35,4 @@ returns-in-Err-read_after_opcode c =
     let e = c.in-Err-read_after_opcode.e in
     let stopped = begun_stopped EncodesAllowed OperatorFault old mid new at.frame at.code at.start e c.in-Ok.ensures.begun c.in-Err-read_after_opcode.ensures
     refl refl in
-    subst (λ (s : State). StopsNext EncodesAllowed OperatorFault e s new) c.self.view_is stopped
+    subst (λ (s : State). StopsNext simd e s new) c.self.view_is stopped

@@ -1,7 +1,5 @@
-use Rattle.wasm_decode.specs.opcodes.Allowed.{EncodesScalar}
-use Rattle.wasm_decode.specs.opcodes.OperatorFaults.{ScalarOperatorFault}
-use Rattle.wasm_operators_readers.specs.Next.{NextMayAllocate}
-use Rattle.wasm_operators_readers.specs.Visiting.{VisitedScalar, IsScalar}
+use Rattle.wasm_operators_readers.specs.Next.{scalar}
+use Rattle.wasm_operators_readers.specs.Visiting.{VisitedScalar}
 use Rattle.wasm_operators_readers.proofs.Clauses.{runs_rest, runs_flat, runs_within_depth}
 use Rattle.wasm_operators_readers.proofs.DecoderPremises.{keeps_scalar, scalar_is_reading, refuses_vectors}
 use Rattle.wasm_operators_readers.proofs.Scalar.{scalar_refused}
@@ -9,19 +7,20 @@ use Rattle.wasm_operators_readers.proofs.Premises.{IsNoVector}
 use Rattle.wasm_operators_readers.proofs.operators.OperatorsReader.visit_all.Goals as goal
 
 pub returns-clause-rest : goal.returns-clause-rest
-returns-clause-rest g c = λ before read_so_far.
-    runs_rest (VisitedScalar g.V.Visitor.visits c.args.v.now c.visit_to_end.new.v) IsScalar IsNoVector EncodesScalar ScalarOperatorFault (NextMayAllocate EncodesScalar)
-    (λ placed h. h.1) keeps_scalar scalar_is_reading c.visit_to_end.result before c.args.self.now c.visit_to_end.new.self
-    (scalar_refused (VisitedScalar g.V.Visitor.visits c.args.v.now c.visit_to_end.new.v) EncodesScalar ScalarOperatorFault (NextMayAllocate EncodesScalar)
-    (λ placed h. h.1) keeps_scalar refuses_vectors c.visit_to_end.result before c.args.self.now c.visit_to_end.new.self c.visit_to_end.ensures read_so_far)
-    c.visit_to_end.ensures read_so_far
+returns-clause-rest g c =
+    runs_rest scalar (VisitedScalar g.V.Visitor.visits c.args.v.now c.visit_to_end.new.v) IsNoVector (λ placed h. h.1) keeps_scalar
+    scalar_is_reading c.visit_to_end.result c.args.self.now c.visit_to_end.new.self c.visit_to_end.ensures
 
 pub returns-clause-flat : goal.returns-clause-flat
 returns-clause-flat g c =
-    runs_flat (VisitedScalar g.V.Visitor.visits c.args.v.now c.visit_to_end.new.v) IsScalar IsNoVector EncodesScalar ScalarOperatorFault (NextMayAllocate EncodesScalar)
-    (λ placed h. h.1) keeps_scalar c.visit_to_end.result c.args.self.now c.visit_to_end.new.self c.visit_to_end.ensures
+    runs_flat scalar (VisitedScalar g.V.Visitor.visits c.args.v.now c.visit_to_end.new.v) IsNoVector (λ placed h. h.1) keeps_scalar
+    c.visit_to_end.result c.args.self.now c.visit_to_end.new.self c.visit_to_end.ensures
+
+pub returns-clause-vector : goal.returns-clause-vector
+returns-clause-vector g c =
+    scalar_refused scalar (VisitedScalar g.V.Visitor.visits c.args.v.now c.visit_to_end.new.v) (λ placed h. h.1) keeps_scalar refuses_vectors
+    c.visit_to_end.result c.args.self.now c.visit_to_end.new.self c.visit_to_end.ensures
 
 pub returns-clause-depth : goal.returns-clause-depth
 returns-clause-depth g c =
-    runs_within_depth (VisitedScalar g.V.Visitor.visits c.args.v.now c.visit_to_end.new.v) EncodesScalar ScalarOperatorFault (NextMayAllocate EncodesScalar)
-    c.visit_to_end.result c.args.self.now c.visit_to_end.new.self c.visit_to_end.ensures
+    runs_within_depth scalar (VisitedScalar g.V.Visitor.visits c.args.v.now c.visit_to_end.new.v) c.visit_to_end.result c.args.self.now c.visit_to_end.new.self c.visit_to_end.ensures
