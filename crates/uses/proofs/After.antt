@@ -12,15 +12,15 @@ use Rattle.wasm_operators.specs.Laws.{LaysOutBoth}
 pub record HasFound (opened : Reader) (now : State) (found : Placed) : Type 0 where
   pub text : List ℕ
   pub takes : Takes opened now.reader text
-  pub laid : LaidOut opened.features (offset_of opened) found text
+  pub laid : LaidOut opened.features (offset_of opened) text found
   pub read_so_far : ReadSoFar (operators found) now
 
-laid_after : (r old : Reader) (text : List ℕ) (placed : Placed) (more : List ℕ) → Takes r old text → LaidOut old.features (offset_of old) placed more →
-    LaidOut r.features (offset_of r + length text) placed more
+laid_after : (r old : Reader) (text : List ℕ) (placed : Placed) (more : List ℕ) → Takes r old text → LaidOut old.features (offset_of old) more placed →
+    LaidOut r.features (offset_of r + length text) more placed
 laid_after r old text placed more takes laid =
     let features : old.features ≡ r.features = ap (λ (s : Reader). s.features) takes.moved in
     let offset : offset_of old ≡ offset_of r + length text = ap offset_of takes.moved ∙ omega arith in
-    subst (λ o. LaidOut r.features o placed more) offset (subst (λ f. LaidOut f (offset_of old) placed more) features laid)
+    subst (λ o. LaidOut r.features o more placed) offset (subst (λ f. LaidOut f (offset_of old) more placed) features laid)
 
 takes_both : (r old new : Reader) (a b : List ℕ) → Takes r old a → Takes old new b → Takes r new (a ++ b)
 takes_both r old new a b first second =
@@ -42,7 +42,7 @@ found_none r now same read_so_far =
     }
 
 pub found_more : (r : Reader) (old new : State) (found placed : Placed) (text : List ℕ) → LaysOutBoth r.features → HasFound r old found →
-    Takes old.reader new.reader text → LaidOut old.reader.features (offset_of old.reader) placed text →
+    Takes old.reader new.reader text → LaidOut old.reader.features (offset_of old.reader) text placed →
     ReadSoFar (operators found ++ operators placed) new → HasFound r new (found ++ placed)
 found_more r old new found placed text joined h takes laid read_so_far = record {
   text = h.text ++ text;
@@ -55,6 +55,6 @@ pub whole_after : (r : Reader) (old : State) (found placed : Placed) → LaysOut
     EncodesRest (operators found) (source_of old.reader) placed → EncodesExpression (source_of r) (found ++ placed)
 whole_after r old found placed joined h (laid, walk) =
     let all = joined (offset_of r) found placed h.text (rest old.reader) h.laid (laid_after r old.reader h.text placed (rest old.reader) h.takes laid) in (
-      subst (λ bytes. LaidOut r.features (offset_of r) (found ++ placed) bytes) (sym h.takes.parts) all,
+      subst (λ bytes. LaidOut r.features (offset_of r) bytes (found ++ placed)) (sym h.takes.parts) all,
       subst AreWalk (sym (map-append (λ (p : Operator × ℕ). p.0) found placed)) walk,
     )

@@ -29,7 +29,7 @@ begins_same decoder e old other new placed same h = record {
   at = subst (λ r. BeginningAt decoder.Kept e.message [] r placed) same h.at;
   text = h.text;
   takes = subst (λ r. Takes r new.reader h.text) same h.takes;
-  laid = subst (λ (r : Reader). LaidOut r.features (offset_of r) placed h.text) same h.laid;
+  laid = subst (λ (r : Reader). LaidOut r.features (offset_of r) h.text placed) same h.laid;
   read_so_far = h.read_so_far;
   stops = h.stops;
 }
@@ -46,7 +46,7 @@ begins_whole features bytes placed encodes = record {
 }
 
 pub begins_closed : (features : WasmFeatures) (bytes text : List ℕ) (new : State) (placed : Placed) (n : ℕ) →
-    Takes (reader_of features 0 bytes) new.reader text → LaidOut features 0 placed text → OpenPath (roles_of (operators placed)) new.frames →
+    Takes (reader_of features 0 bytes) new.reader text → LaidOut features 0 text placed → OpenPath (roles_of (operators placed)) new.frames →
     new.frames ≡ [] → n ≡ new.reader.position → BeginsExpression (input features bytes) n
 begins_closed features bytes text new placed n takes laid path closed is =
     let place : new.reader.position ≡ 0 + length text = ap (λ (r : Reader). r.position) takes.moved in

@@ -38,7 +38,7 @@ none_follows (p ∷ ps) frames h = absurd (cc h)
 
 pub begins_none : (features : WasmFeatures) (bytes text : List ℕ) (new : State) (longest : Placed) → BeginsLonger features → HasEncodings features →
     ((placed : Placed) → IsWalk (roles_of (operators placed)) → along (frame.Block ∷ []) placed ≡ Some []) →
-    Longest (IsPrefixAfter [] (input features bytes)) IsAny longest → Takes (reader_of features 0 bytes) new.reader text → LaidOut features 0 longest text →
+    Longest (IsPrefixAfter [] (input features bytes)) IsAny longest → Takes (reader_of features 0 bytes) new.reader text → LaidOut features 0 text longest →
     along (frame.Block ∷ []) longest ≡ Some new.frames → (new.frames ≡ [] → ⊥) → (n : ℕ) → BeginsExpression (input features bytes) n → ⊥
 begins_none features bytes text new longest beginnings encodings closes is takes laid runs is_open n h =
     let nothing = append-nil (operators h.placed) in

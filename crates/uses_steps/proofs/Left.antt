@@ -15,7 +15,7 @@ adds_rest (Ok x) old new before after encoded (placed, added, taken, (closed, no
       placed = placed;
       added = added;
       closes = (
-        subst (λ bytes. LaidOut old.reader.features (offset_of old.reader) placed bytes) (sym all) taken.laid,
+        subst (λ bytes. LaidOut old.reader.features (offset_of old.reader) bytes placed) (sym all) taken.laid,
         taken.frames ∙ ap (λ frames. Some frames) closed,
       );
       encoded = encoded (offset_of old.reader) placed taken.text taken.laid;

@@ -53,7 +53,7 @@ first_then features bytes old mid op placed fresh taken (laid, walk) =
     let encodes : EncodesOperator features taken.text op = subst (λ (r : Reader). EncodesOperator r.features taken.text op) fresh taken.encodes.0 in
     let same : mid.reader.features ≡ features = ap (λ (r : Reader). r.features) takes.moved in
     let place : offset_of mid.reader ≡ 0 + length taken.text = ap offset_of takes.moved ∙ omega arith in
-    let there = subst (λ o. LaidOut features o placed (rest mid.reader)) place (subst (λ f. LaidOut f (offset_of mid.reader) placed (rest mid.reader)) same laid) in
+    let there = subst (λ o. LaidOut features o (rest mid.reader) placed) place (subst (λ f. LaidOut f (offset_of mid.reader) (rest mid.reader) placed) same laid) in
     ((refl, taken.text, rest mid.reader, takes.parts, encodes, there), walk)
 
 pub fault_of : (decoder : Decoder) (e : Error) (old new : State) (frame : FrameKind) → innermost old.frames ≡ Some frame → e.message ≢ message.OutOfMemory →

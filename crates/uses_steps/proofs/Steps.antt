@@ -25,7 +25,7 @@ ReadsOneMore = (before : List Operator) (op : Operator) (old new : State) → Ta
 pub record HasGiven (r : Reader) (items : Iterating) (found : Placed) : Type 0 where
   pub text : List ℕ
   pub takes : Takes r items.reader.reader text
-  pub laid : LaidOut r.features (offset_of r) found text
+  pub laid : LaidOut r.features (offset_of r) text found
   pub read_so_far : ReadSoFar (operators found) items.reader
   pub goes_on : items.refused ≡ false
 
@@ -50,7 +50,7 @@ gives_one r old new found op at joined occurs h taken is goes_on =
     let features : mid.features ≡ r.features = ap (λ (s : Reader). s.features) h.takes.moved in
     let offset : offset_of mid ≡ offset_of r + length h.text = ap offset_of h.takes.moved ∙ omega arith in
     let encodes = subst (λ f. EncodesAllowed f taken.kind taken.text op) features taken.encodes in
-    let one : LaidOut r.features (offset_of r + length h.text) ((op, at) ∷ []) taken.text =
+    let one : LaidOut r.features (offset_of r + length h.text) taken.text ((op, at) ∷ []) =
     (is ∙ offset, taken.text, [], sym (append-nil taken.text), encodes.0, refl) in
     let place : mid.position + length taken.text ≡ r.position + length text =
     ap (λ (s : Reader). s.position + length taken.text) h.takes.moved ∙ omega (arith, sum) in
@@ -76,7 +76,7 @@ gives_all r items found begins h (inr nothing) along =
     let some : IsSome (frames_along (frame.Block ∷ []) (roles_of (operators found))) = subst IsSome (sym along) refl in
     let all : rest r ≡ h.text = h.takes.parts ∙ ap (λ t. h.text ++ t) nothing ∙ append-nil h.text in
     record {
-      laid = subst (λ bytes. LaidOut r.features (offset_of r) found bytes) (sym all) h.laid;
+      laid = subst (λ bytes. LaidOut r.features (offset_of r) bytes found) (sym all) h.laid;
       allowed = some;
       begins = (begins (roles_of (operators found))).0 some;
     }

@@ -10,6 +10,6 @@ use Rattle.wasm_operators.specs.Expression.{Placed, operators, LaidOut}
 -- All of the bytes encode these operators, which the frames of an expression allow, and which begin
 -- one.
 pub record AreAllAllowed (s : Source) (placed : Placed) : Type 0 where
-  pub laid : LaidOut s.features s.offset placed s.bytes
+  pub laid : LaidOut s.features s.offset s.bytes placed
   pub allowed : IsSome (frames_along (frame.Block ∷ []) (roles_of (operators placed)))
   pub begins : BeginsWalk (roles_of (operators placed))

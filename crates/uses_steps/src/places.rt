@@ -65,7 +65,7 @@ pub fn range_of(
     end: u64,
 ) -> Range<u64>
     requires { index < length list.now }
-    ensures { (offset : ℕ) (bytes : List ℕ) → LaidOut features offset list.now bytes → end ≡ offset + length bytes
+    ensures { (offset : ℕ) (bytes : List ℕ) → LaidOut features offset bytes list.now → end ≡ offset + length bytes
         → IsRangeOf features list.now index result.start result.end }
 {
     expression_laws::ranges(features);

@@ -31,7 +31,7 @@ takes_none r =
 -- ---- one more declaration
 
 laid_more : (offset : ℕ) (placed : PlacedLocals) (a : List ℕ) (d : Declaration) (b : List ℕ) (at : ℕ) → at ≡ offset + length a →
-    LaidOutLocals offset placed a → EncodesDeclaration b d → LaidOutLocals offset (placed ++ (d, at) ∷ []) (a ++ b)
+    LaidOutLocals offset a placed → EncodesDeclaration b d → LaidOutLocals offset (a ++ b) (placed ++ (d, at) ∷ [])
 laid_more offset [] a d b at is none encodes =
     let same : at ≡ offset = is ∙ ap (λ z. offset + length z) none ∙ omega arith in
     (same, b, [], ap (λ z. z ++ b) none ∙ sym (append-nil b), encodes, refl)
@@ -159,7 +159,7 @@ record NextOccurs (many total : ℕ) (left : List ℕ) : Type 0 where
   few : many + declaration.0 ≤ total
 
 next_occurs : (offset : ℕ) (placed : PlacedLocals) (ds : List Declaration) (a b x y : List ℕ) → PrefixCode EncodesDeclaration →
-    LaidOutLocals offset placed a → EncodesEach EncodesDeclaration b ds → a ++ x ≡ b ++ y → length placed < length ds →
+    LaidOutLocals offset a placed → EncodesEach EncodesDeclaration b ds → a ++ x ≡ b ++ y → length placed < length ds →
     NextOccurs (locals_in (declarations_of placed)) (locals_in ds) x
 next_occurs offset placed [] a b x y code laid each same short = absurd (omega (arith, short))
 next_occurs offset [] (d ∷ ds) a b x y code none (t, m, parts, encodes, each) same short =

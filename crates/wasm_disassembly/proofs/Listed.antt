@@ -18,7 +18,7 @@ use Rattle.wasm_disassembly.specs.Disassembly.{Heading, header, local_lines, ope
 use Rattle.wasm_disassembly.proofs.Declared.{takes_both, ends_here}
 use Rattle.wasm_disassembly.proofs.Written.{appends_both, appends_three}
 
-laid_each : (offset : ℕ) (placed : PlacedLocals) (text : List ℕ) → LaidOutLocals offset placed text →
+laid_each : (offset : ℕ) (placed : PlacedLocals) (text : List ℕ) → LaidOutLocals offset text placed →
     EncodesEach EncodesDeclaration text (declarations_of placed)
 laid_each offset [] text none = none
 laid_each offset (p ∷ ps) text (is, t, m, parts, encodes, laid) = (t, m, parts, encodes, laid_each (offset + length t) ps m laid)

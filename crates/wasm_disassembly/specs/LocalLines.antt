@@ -24,16 +24,16 @@ locals_in [] = 0
 locals_in (d ∷ ds) = d.0 + locals_in ds
 
 -- The bytes encode these declarations, one after another, each at its offset.
-abbrev pub LaidOutLocals : ℕ → PlacedLocals → List ℕ → Type 0
-LaidOutLocals offset [] bytes = bytes ≡ []
-LaidOutLocals offset (p ∷ ps) bytes = (p.1 ≡ offset) × (text more : List ℕ) × (bytes ≡ text ++ more) × EncodesDeclaration text p.0 ×
-    LaidOutLocals (offset + length text) ps more
+abbrev pub LaidOutLocals : ℕ → List ℕ → PlacedLocals → Type 0
+LaidOutLocals offset bytes [] = bytes ≡ []
+LaidOutLocals offset bytes (p ∷ ps) = (p.1 ≡ offset) × (text more : List ℕ) × (bytes ≡ text ++ more) × EncodesDeclaration text p.0 ×
+    LaidOutLocals (offset + length text) more ps
 
 -- These declarations are read, one after another.
 pub record TakesDeclarations (old new : Locals) (placed : PlacedLocals) : Type 0 where
   pub text : List ℕ
   pub takes : Takes old.reader new.reader text
-  pub laid : LaidOutLocals (offset_of old.reader) placed text
+  pub laid : LaidOutLocals (offset_of old.reader) text placed
   pub count : new.count ≡ old.count
   pub total : new.total ≡ old.total + locals_in (declarations_of placed)
 

@@ -55,19 +55,19 @@ not_longer placed whole others next (first, d, m) (before, e, n) eq =
     sym (operators-append placed (next ∷ others)) ∙ ap operators (sym eq) ∙ e in
     end_inside first before (operators others) next.0 ops n
 
-relocate : (f : WasmFeatures) (from to : ℕ) (ps : Placed) (bytes : List ℕ) → LaidOut f from ps bytes →
-    (qs : Placed) × LaidOut f to qs bytes × (operators qs ≡ operators ps)
+relocate : (f : WasmFeatures) (from to : ℕ) (ps : Placed) (bytes : List ℕ) → LaidOut f from bytes ps →
+    (qs : Placed) × LaidOut f to bytes qs × (operators qs ≡ operators ps)
 relocate f from to [] bytes l = ([], l, refl)
 relocate f from to (p ∷ ps) bytes (at, text, more, parts, encodes, l) =
     let r = relocate f (from + length text) (to + length text) ps more l in
     ((p.0, to) ∷ r.0, (refl, text, more, parts, encodes, r.1), ap (λ (ops : List Operator). p.0 ∷ ops) r.2)
 
 pub constant_at : (f : WasmFeatures) (text : List ℕ) (x : Reader) (offset : ℕ) → EncodesConstantReader f text x →
-    (whole : Placed) × LaidOut f offset whole text × AreWalk (operators whole) × EndsOnce (operators whole)
+    (whole : Placed) × LaidOut f offset text whole × AreWalk (operators whole) × EndsOnce (operators whole)
 constant_at f text x offset ((features, buffer, start, _), (placed, (laid, walked), once)) =
     let bytes : rest x ≡ text = ap (λ p. drop p x.buffer) start ∙ buffer in
-    let here : LaidOut f (offset_of x) placed text =
-    subst (LaidOut f (offset_of x) placed) bytes (subst (λ g. LaidOut g (offset_of x) placed (rest x)) features laid) in
+    let here : LaidOut f (offset_of x) text placed =
+    subst (λ bytes. LaidOut f (offset_of x) bytes placed) bytes (subst (λ g. LaidOut g (offset_of x) (rest x) placed) features laid) in
     let r = relocate f (offset_of x) offset placed text here in
     (r.0, r.1, subst AreWalk (sym r.2) walked, subst EndsOnce (sym r.2) once)
 

@@ -44,7 +44,7 @@ constant_there s t c bytes fresh (placed, r, once) closed cut is =
     take_first r.text (rest t.reader) (t.reader.position - s.reader.position) (omega (arith, position)) in
     let same : reader_of f o r.text ≡ c = ap (reader_of f o) (sym whole) ∙ sym is in
     let offset : o ≡ o + 0 = omega arith in
-    let laid : LaidOut f (o + 0) placed r.text = subst (λ n. LaidOut f n placed r.text) offset r.laid in
+    let laid : LaidOut f (o + 0) r.text placed = subst (λ n. LaidOut f n r.text placed) offset r.laid in
     (r.text, subst (EncodesConstantReader f r.text) same ((refl, refl, refl, refl), (placed, (laid, walk_passed s t placed fresh r closed), once)), r.takes)
 
 pub constant_read : (old : Reader) (s t : State) (after c : Reader) (bytes : List ℕ) → s.reader ≡ old → IsFresh s → PassesEnd s t → t.frames ≡ [] →

@@ -21,7 +21,7 @@ pub record PassesOperators (old new : Reader) (frames : List FrameKind) : Type 0
   pub no_end : HasNoEnd (operators placed)
   pub text : List ℕ
   pub takes : Takes old new text
-  pub laid : LaidOut old.features (offset_of old) placed text
+  pub laid : LaidOut old.features (offset_of old) text placed
   pub along : frames_along (frame.Block ∷ []) (roles_of (operators placed)) ≡ Some frames
 
 -- No operator that the innermost frame allows is encoded next.

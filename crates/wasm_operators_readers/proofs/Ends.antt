@@ -40,7 +40,7 @@ one_flat Kept frames s first second p q =
 pub run_closes : (old new : State) (placed : Placed) → TakesOperators old new placed → new.frames ≡ [] → rest new.reader ≡ [] →
     ClosesFrom old.frames (source_of old.reader) placed
 run_closes old new placed r closed all = (
-  subst (LaidOut old.reader.features (offset_of old.reader) placed) (sym (r.takes.parts ∙ ap (λ x. r.text ++ x) all ∙ append-nil r.text)) r.laid,
+  subst (λ bytes. LaidOut old.reader.features (offset_of old.reader) bytes placed) (sym (r.takes.parts ∙ ap (λ x. r.text ++ x) all ∙ append-nil r.text)) r.laid,
   r.frames ∙ ap (λ (x : List FrameKind). Some x) closed,
 )
 
@@ -146,7 +146,7 @@ ends_placed : ℕ → ℕ → Placed
 ends_placed offset zero = []
 ends_placed offset (suc n) = (operator.End, offset) ∷ ends_placed (offset + 1) n
 
-ends_laid : (f : WasmFeatures) (offset n : ℕ) → LaidOut f offset (ends_placed offset n) (replicate n 0x0b)
+ends_laid : (f : WasmFeatures) (offset n : ℕ) → LaidOut f offset (replicate n 0x0b) (ends_placed offset n)
 unfolding ends_placed
 ends_laid f offset zero = refl
 ends_laid f offset (suc n) = (
@@ -181,7 +181,7 @@ run_completed before old new placed h r all =
     roles_of-append (before ++ operators placed) (replicate n operator.End) ∙ ap (λ z. roles_of (before ++ operators placed) ++ z) (roles_of-ends n) in (
       placed ++ ends_placed o n,
       (
-        subst (λ z. LaidOut old.reader.features (offset_of old.reader) (placed ++ ends_placed o n) (z ++ replicate n 0x0b)) text laid,
+        subst (λ z. LaidOut old.reader.features (offset_of old.reader) (z ++ replicate n 0x0b) (placed ++ ends_placed o n)) text laid,
         subst IsWalk (sym roles) walk,
       ),
     )
@@ -214,7 +214,7 @@ same_ends decoder determined (Err d) (Err e) s t reader frames a b other others 
 record RanOver (reader : Reader) (frames : List FrameKind) (new : State) (placed : Placed) : Type 0 where
   text : List ℕ
   takes : Takes reader new.reader text
-  laid : LaidOut reader.features (offset_of reader) placed text
+  laid : LaidOut reader.features (offset_of reader) text placed
   along : frames_along frames (roles_of (operators placed)) ≡ Some new.frames
 
 ran_over : (old new : State) (placed : Placed) → TakesOperators old new placed → RanOver old.reader old.frames new placed

@@ -24,7 +24,7 @@ no_longest P first p none (suc k) bound =
       | inr less ↦ omega (arith, less)
     ])
 
-short : (f : WasmFeatures) (offset : ℕ) (placed : Placed) (bytes beginning more : List ℕ) → bytes ≡ beginning ++ more → LaidOut f offset placed beginning →
+short : (f : WasmFeatures) (offset : ℕ) (placed : Placed) (bytes beginning more : List ℕ) → bytes ≡ beginning ++ more → LaidOut f offset beginning placed →
     length placed ≤ length bytes
 short f offset placed bytes beginning more parts laid =
     let few = laid_length f offset placed beginning laid in

@@ -27,7 +27,7 @@ pub little_more : (m frames bytes mid inside more now : ℕ) → IsLittleMemory 
     2 * inside ≤ 2 * frames + bytes → IsLittleMemory m frames ((bytes + more) + 10) now
 little_more m frames bytes mid inside more now first next few = omega (arith, first, next, few)
 
-pub few_frames : (f : WasmFeatures) (offset : ℕ) (placed : Placed) (text : List ℕ) (frames next : List FrameKind) → LaidOut f offset placed text →
+pub few_frames : (f : WasmFeatures) (offset : ℕ) (placed : Placed) (text : List ℕ) (frames next : List FrameKind) → LaidOut f offset text placed →
     frames_along frames (roles_of (operators placed)) ≡ Some next → 2 * length next ≤ 2 * length frames + length text
 few_frames f offset placed text frames next laid along =
     let opened = along_length placed frames next along in
@@ -59,7 +59,7 @@ most_after frames (p ∷ ps) (Some next) more few =
     let others = most_after next ps (frames_after next (role_of p.0)) _ (λ after e. after_length next (role_of p.0) after e) in
     omega (arith, n, others)
 
-pub most_few : (f : WasmFeatures) (offset : ℕ) (placed : Placed) (text : List ℕ) (frames : List FrameKind) → LaidOut f offset placed text →
+pub most_few : (f : WasmFeatures) (offset : ℕ) (placed : Placed) (text : List ℕ) (frames : List FrameKind) → LaidOut f offset text placed →
     2 * most_open (Some frames) placed ≤ 2 * length frames + length text
 most_few f offset placed text frames laid =
     let most = most_after frames placed (Some frames) 0 (λ next e. let same : next ≡ frames = cc e in let n = ap length same in omega (arith, n)) in

@@ -28,7 +28,7 @@ roles_of-append (x ∷ xs) ys = ap (λ r. role_of x ∷ r) (roles_of-append xs y
 pub operators-append : (ps qs : Placed) → operators (ps ++ qs) ≡ operators ps ++ operators qs
 operators-append ps qs = map-append (λ (p : Operator × ℕ). p.0) ps qs
 
-pub laid_encoded : (f : WasmFeatures) (offset : ℕ) (ps : Placed) (bytes : List ℕ) → LaidOut f offset ps bytes → AreEncoded f (operators ps)
+pub laid_encoded : (f : WasmFeatures) (offset : ℕ) (ps : Placed) (bytes : List ℕ) → LaidOut f offset bytes ps → AreEncoded f (operators ps)
 laid_encoded f offset [] bytes l = tt
 laid_encoded f offset (p ∷ ps) bytes (eo, beginning, more, eb, s, l) = ((beginning, s), laid_encoded f (offset + length beginning) ps more l)
 
@@ -68,7 +68,7 @@ pub record GoesOn (f : WasmFeatures) (ps qs : Placed) (after : List ℕ) : Type 
 pub same_place : (p q : Operator × ℕ) → p.0 ≡ q.0 → p.1 ≡ q.1 → p ≡ q
 same_place p q e d = ap (λ (o : Operator). let r : Operator × ℕ = (o, p.1) in r) e ∙ ap (λ (n : ℕ). let r : Operator × ℕ = (q.0, n) in r) d
 
-pub laid_goes_on : (f : WasmFeatures) (offset : ℕ) (ps qs : Placed) (a b x y : List ℕ) → LaidOut f offset ps a → LaidOut f offset qs b → a ++ x ≡ b ++ y →
+pub laid_goes_on : (f : WasmFeatures) (offset : ℕ) (ps qs : Placed) (a b x y : List ℕ) → LaidOut f offset a ps → LaidOut f offset b qs → a ++ x ≡ b ++ y →
     length ps < length qs → GoesOn f ps qs x
 laid_goes_on f offset [] [] a b x y l m e lt = absurd (omega arith)
 laid_goes_on f offset [] (q ∷ qs) a b x y l (eo, text, more, eb, s, m) e lt =
@@ -88,7 +88,7 @@ laid_goes_on f offset (p ∷ ps) (q ∷ qs) a b x y (eo, t, r, ea, s, l) (eo2, t
     let h = operator_prefix_code f p.0 q.0 t t2 (r ++ x) (r2 ++ y) s s2 whole in
     let tail : r ++ x ≡ r2 ++ y = same_rest t t2 (r ++ x) (r2 ++ y) h.1 whole in
     let same : p ≡ q = same_place p q h.0 (eo ∙ sym eo2) in
-    let m2 : LaidOut f (offset + length t) qs r2 = subst (λ z. LaidOut f (offset + length z) qs r2) (sym h.1) m in
+    let m2 : LaidOut f (offset + length t) r2 qs = subst (λ z. LaidOut f (offset + length z) r2 qs) (sym h.1) m in
     let g = laid_goes_on f (offset + length t) ps qs r r2 x y l m2 tail (omega arith) in
     record { next = g.next; others = g.others; text = g.text; more = g.more; parts = cc (same, g.parts); bytes = g.bytes; encodes = g.encodes }
 
@@ -109,7 +109,7 @@ none_some (b ∷ text) more e some = absurd (cc e)
 pub not_empty : (f : WasmFeatures) (op : Operator) (text more : List ℕ) → EncodesOperator f text op → [] ≡ text ++ more → ⊥
 not_empty f op text more s e = none_some text more e (encoded_some f op text s)
 
-pub laid_no_longer : (f : WasmFeatures) (offset : ℕ) (ps qs : Placed) (a b y : List ℕ) → LaidOut f offset ps a → LaidOut f offset qs b → a ++ [] ≡ b ++ y →
+pub laid_no_longer : (f : WasmFeatures) (offset : ℕ) (ps qs : Placed) (a b y : List ℕ) → LaidOut f offset a ps → LaidOut f offset b qs → a ++ [] ≡ b ++ y →
     length qs ≤ length ps
 laid_no_longer f offset ps qs a b y l m e =
     elim (cases_lt (length ps) (length qs)) [
@@ -117,7 +117,7 @@ laid_no_longer f offset ps qs a b y l m e =
       | inr le ↦ le
     ]
 
-pub laid_same : (f : WasmFeatures) (offset : ℕ) (ps qs : Placed) (a b x y : List ℕ) → LaidOut f offset ps a → LaidOut f offset qs b → a ++ x ≡ b ++ y →
+pub laid_same : (f : WasmFeatures) (offset : ℕ) (ps qs : Placed) (a b x y : List ℕ) → LaidOut f offset a ps → LaidOut f offset b qs → a ++ x ≡ b ++ y →
     length ps ≡ length qs → (ps ≡ qs) × (a ≡ b) × (x ≡ y)
 laid_same f offset [] [] a b x y l m e n = (refl, l ∙ sym m, ap (λ z. z ++ x) (sym l) ∙ e ∙ ap (λ z. z ++ y) m)
 laid_same f offset [] (q ∷ qs) a b x y l m e n = absurd (cc n)
@@ -127,15 +127,15 @@ laid_same f offset (p ∷ ps) (q ∷ qs) a b x y (eo, t, r, ea, s, l) (eo2, t2, 
     let h = operator_prefix_code f p.0 q.0 t t2 (r ++ x) (r2 ++ y) s s2 whole in
     let tail : r ++ x ≡ r2 ++ y = same_rest t t2 (r ++ x) (r2 ++ y) h.1 whole in
     let same : p ≡ q = same_place p q h.0 (eo ∙ sym eo2) in
-    let m2 : LaidOut f (offset + length t) qs r2 = subst (λ z. LaidOut f (offset + length z) qs r2) (sym h.1) m in
+    let m2 : LaidOut f (offset + length t) r2 qs = subst (λ z. LaidOut f (offset + length z) r2 qs) (sym h.1) m in
     let g = laid_same f (offset + length t) ps qs r r2 x y l m2 tail (cc n) in
     (cc (same, g.0), ea ∙ cc (h.1, g.1) ∙ sym eb, g.2)
 
-pub laid_append : (f : WasmFeatures) (offset : ℕ) (ps qs : Placed) (a b : List ℕ) → LaidOut f offset ps a → LaidOut f (offset + length a) qs b →
-    LaidOut f offset (ps ++ qs) (a ++ b)
+pub laid_append : (f : WasmFeatures) (offset : ℕ) (ps qs : Placed) (a b : List ℕ) → LaidOut f offset a ps → LaidOut f (offset + length a) b qs →
+    LaidOut f offset (a ++ b) (ps ++ qs)
 laid_append f offset [] qs a b l m =
     let n : offset + length a ≡ offset = let z : length a ≡ 0 = ap length l in omega (arith, z) in
-    subst (λ z. LaidOut f offset qs (z ++ b)) (sym l) (subst (λ n. LaidOut f n qs b) n m)
+    subst (λ z. LaidOut f offset (z ++ b) qs) (sym l) (subst (λ n. LaidOut f n b qs) n m)
 laid_append f offset (p ∷ ps) qs a b (eo, text, more, ea, s, l) m =
     let n : offset + length a ≡ offset + length text + length more = let z : length a ≡ length text + length more = ap length ea ∙ length-append text more in
     omega (arith, z) in (
@@ -144,10 +144,10 @@ laid_append f offset (p ∷ ps) qs a b (eo, text, more, ea, s, l) m =
       more ++ b,
       ap (λ z. z ++ b) ea ∙ append_assoc text more b,
       s,
-      laid_append f (offset + length text) ps qs more b l (subst (λ n. LaidOut f n qs b) n m),
+      laid_append f (offset + length text) ps qs more b l (subst (λ n. LaidOut f n b qs) n m),
     )
 
-pub laid_beginning : (f : WasmFeatures) (offset : ℕ) (ps qs : Placed) (a b x y : List ℕ) → LaidOut f offset ps a → LaidOut f offset qs b → a ++ x ≡ b ++ y →
+pub laid_beginning : (f : WasmFeatures) (offset : ℕ) (ps qs : Placed) (a b x y : List ℕ) → LaidOut f offset a ps → LaidOut f offset b qs → a ++ x ≡ b ++ y →
     length ps ≤ length qs → IsBeginningOf ps qs
 laid_beginning f offset ps qs a b x y l m e le =
     elim (cases_lt (length ps) (length qs)) [
@@ -188,8 +188,8 @@ goes_allowed before f ps qs after frames path begins g none =
     let b = bound (λ frames. frames_along frames (roles_of (operators g.others))) (frames_after frames (role_of g.next.0)) on.0 on.1 in
     cc (none, b.1)
 
-not_longer_whole : (before : List Operator) (f : WasmFeatures) (offset : ℕ) (ps qs : Placed) (a b x y : List ℕ) → LaidOut f offset ps a →
-    LaidOut f offset qs b →
+not_longer_whole : (before : List Operator) (f : WasmFeatures) (offset : ℕ) (ps qs : Placed) (a b x y : List ℕ) → LaidOut f offset a ps →
+    LaidOut f offset b qs →
     IsWalk (roles_of (before ++ operators ps)) → IsWalk (roles_of (before ++ operators qs)) → a ++ x ≡ b ++ y → length qs ≤ length ps
 not_longer_whole before f offset ps qs a b x y l m walk (tree, walked) e =
     elim (cases_lt (length ps) (length qs)) [
@@ -198,7 +198,7 @@ not_longer_whole before f offset ps qs a b x y l m walk (tree, walked) e =
       | inr le ↦ le
     ]
 
-pub one_whole : (before : List Operator) (f : WasmFeatures) (offset : ℕ) (ps qs : Placed) (a b x y : List ℕ) → LaidOut f offset ps a → LaidOut f offset qs b →
+pub one_whole : (before : List Operator) (f : WasmFeatures) (offset : ℕ) (ps qs : Placed) (a b x y : List ℕ) → LaidOut f offset a ps → LaidOut f offset b qs →
     IsWalk (roles_of (before ++ operators ps)) → IsWalk (roles_of (before ++ operators qs)) → a ++ x ≡ b ++ y → (ps ≡ qs) × (a ≡ b)
 one_whole before f offset ps qs a b x y l m walk others e =
     let le = not_longer_whole before f offset ps qs a b x y l m walk others e in

@@ -54,7 +54,7 @@ twice_opened f (operator.TryTable t) text s =
     two_bytes 0x1f text s.head s.after s.immediates.0 s.immediates.1 s.parts s.code s.immediates.2 (omega (arith, n, some))
 twice_opened f _ text s = none_opened (length text)
 
-pub twice_opened_along : (f : WasmFeatures) (offset : ℕ) (ps : Placed) (text : List ℕ) → LaidOut f offset ps text → 2 * opened_along ps ≤ length text
+pub twice_opened_along : (f : WasmFeatures) (offset : ℕ) (ps : Placed) (text : List ℕ) → LaidOut f offset text ps → 2 * opened_along ps ≤ length text
 twice_opened_along f offset [] text l = omega arith
 twice_opened_along f offset (p ∷ ps) text (eo, first, more, e, s, l) =
     let n : length text ≡ length first + length more = ap length e ∙ length-append first more in

@@ -56,9 +56,9 @@ pub ran_join : (old mid new : State) (first second : Placed) → TakesOperators 
     TakesOperators old new (first ++ second)
 ran_join old mid new first second r t =
     let offset : offset_of mid.reader ≡ offset_of old.reader + length r.text = ap offset_of r.takes.moved ∙ omega arith in
-    let laid : LaidOut old.reader.features (offset_of old.reader + length r.text) second t.text =
-    subst (λ n. LaidOut old.reader.features n second t.text) offset
-    (subst (λ f. LaidOut f (offset_of mid.reader) second t.text) (features_stay old.reader mid.reader r.text r.takes) t.laid) in
+    let laid : LaidOut old.reader.features (offset_of old.reader + length r.text) t.text second =
+    subst (λ n. LaidOut old.reader.features n t.text second) offset
+    (subst (λ f. LaidOut f (offset_of mid.reader) t.text second) (features_stay old.reader mid.reader r.text r.takes) t.laid) in
     let roles : roles_of (operators (first ++ second)) ≡ roles_of (operators first) ++ roles_of (operators second) = ap roles_of (operators-append first second) ∙
     roles_of-append (operators first) (operators second) in
     let opened = opened_along-append first second in
@@ -170,7 +170,7 @@ run_tree before old new placed h r closed all =
     let walked : IsWalk (roles_of (before ++ operators placed)) =
     subst (OpenPath (roles_of (before ++ operators placed))) closed (read_further before old new placed h r).path in
     record {
-      encodes = (subst (LaidOut old.reader.features (offset_of old.reader) placed) whole r.laid, walked);
+      encodes = (subst (λ bytes. LaidOut old.reader.features (offset_of old.reader) bytes placed) whole r.laid, walked);
       tree = walked.0;
       only = (walked.1, λ other e. one_tree other walked.0 (sym e ∙ walked.1));
       closed = closed;

@@ -102,8 +102,8 @@ scalar_refused decoder Effect kept keeps refuses (Ok x) old new run before h lon
 scalar_refused decoder Effect kept keeps refuses (Err e) old new (placed, effect, ran, stops) before h longest l vectors =
     scalar_vector decoder keeps refuses before e old new placed longest h ran (kept placed effect) stops l vectors
 
-laid_first : (f : WasmFeatures) (offset : ℕ) (ps qs : Placed) (bytes : List ℕ) → LaidOut f offset (ps ++ qs) bytes →
-    (a b : List ℕ) × (bytes ≡ a ++ b) × LaidOut f offset ps a
+laid_first : (f : WasmFeatures) (offset : ℕ) (ps qs : Placed) (bytes : List ℕ) → LaidOut f offset bytes (ps ++ qs) →
+    (a b : List ℕ) × (bytes ≡ a ++ b) × LaidOut f offset a ps
 laid_first f offset [] qs bytes l = ([], bytes, refl, refl)
 laid_first f offset (p ∷ ps) qs bytes (at, text, more, parts, encodes, l) =
     let others = laid_first f (offset + length text) ps qs more l in (

@@ -23,10 +23,10 @@ abbrev pub IsAny : OfPlaced
 IsAny placed = Unit {0}
 
 -- The bytes encode the operators one after another, each at its offset.
-abbrev pub LaidOut : WasmFeatures → ℕ → Placed → List ℕ → Type 0
-LaidOut f offset [] bytes = bytes ≡ []
-LaidOut f offset (p ∷ ps) bytes = (p.1 ≡ offset) × (text more : List ℕ) × (bytes ≡ text ++ more) × EncodesOperator f text p.0 ×
-    LaidOut f (offset + length text) ps more
+abbrev pub LaidOut : WasmFeatures → ℕ → List ℕ → Placed → Type 0
+LaidOut f offset bytes [] = bytes ≡ []
+LaidOut f offset bytes (p ∷ ps) = (p.1 ≡ offset) × (text more : List ℕ) × (bytes ≡ text ++ more) × EncodesOperator f text p.0 ×
+    LaidOut f (offset + length text) more ps
 
 -- The operator's encoding ends before this offset.
 abbrev pub EndsAt : WasmFeatures → Operator × ℕ → ℕ → Type 0
@@ -47,7 +47,7 @@ Begins f ops = (more : List Operator) × AreWalk (ops ++ more) × AreEncoded f (
 
 -- All of the bytes encode these operators, which complete an expression after those before.
 abbrev pub EncodesRest : List Operator → Source → Placed → Type 0
-EncodesRest before s placed = LaidOut s.features s.offset placed s.bytes × AreWalk (before ++ operators placed)
+EncodesRest before s placed = LaidOut s.features s.offset s.bytes placed × AreWalk (before ++ operators placed)
 
 -- All of the bytes encode an expression with these operators.
 abbrev pub EncodesExpression : Source → Placed → Type 0
@@ -59,7 +59,7 @@ pub record IsPrefixAfter (before : List Operator) (s : Source) (placed : Placed)
   pub beginning : List ℕ
   pub more : List ℕ
   pub parts : s.bytes ≡ beginning ++ more
-  pub laid : LaidOut s.features s.offset placed beginning
+  pub laid : LaidOut s.features s.offset beginning placed
   pub begins : Begins s.features (before ++ operators placed)
 
 -- The longest `Kept` list with the property `Is`.

@@ -13,7 +13,7 @@ pub record IsAllowedFrom (frames : List FrameKind) (s : Source) (placed : Placed
   pub beginning : List ℕ
   pub more : List ℕ
   pub parts : s.bytes ≡ beginning ++ more
-  pub laid : LaidOut s.features s.offset placed beginning
+  pub laid : LaidOut s.features s.offset beginning placed
   pub allowed : IsSome (frames_along frames (roles_of (operators placed)))
 
 -- The longest list that the bytes start with and the frames allow.

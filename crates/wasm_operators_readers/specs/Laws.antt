@@ -10,20 +10,20 @@ use Rattle.wasm_operators_readers.specs.Reading.{State, GrowsLittle, IsUnchanged
 
 -- A list is at most as long as its encoding.
 abbrev pub IsNoLonger : WasmFeatures → Type 0
-IsNoLonger f = (offset : ℕ) (placed : Placed) (bytes : List ℕ) → LaidOut f offset placed bytes → length placed ≤ length bytes
+IsNoLonger f = (offset : ℕ) (placed : Placed) (bytes : List ℕ) → LaidOut f offset bytes placed → length placed ≤ length bytes
 
 -- Each operator of an encoded list has an encoding.
 abbrev pub HasEncodings : WasmFeatures → Type 0
-HasEncodings f = (offset : ℕ) (placed : Placed) (bytes : List ℕ) → LaidOut f offset placed bytes → AreEncoded f (operators placed)
+HasEncodings f = (offset : ℕ) (placed : Placed) (bytes : List ℕ) → LaidOut f offset bytes placed → AreEncoded f (operators placed)
 
 -- Joined encodings encode the joined list.
 abbrev pub LaysOutBoth : WasmFeatures → Type 0
-LaysOutBoth f = (offset : ℕ) (first second : Placed) (a b : List ℕ) → LaidOut f offset first a → LaidOut f (offset + length a) second b →
-    LaidOut f offset (first ++ second) (a ++ b)
+LaysOutBoth f = (offset : ℕ) (first second : Placed) (a b : List ℕ) → LaidOut f offset a first → LaidOut f (offset + length a) b second →
+    LaidOut f offset (a ++ b) (first ++ second)
 
 -- Of two lists that the same bytes start with, the shorter is a prefix of the longer.
 abbrev pub BeginsLonger : WasmFeatures → Type 0
-BeginsLonger f = (offset : ℕ) (first second : Placed) (a b x y : List ℕ) → LaidOut f offset first a → LaidOut f offset second b → a ++ x ≡ b ++ y →
+BeginsLonger f = (offset : ℕ) (first second : Placed) (a b x y : List ℕ) → LaidOut f offset a first → LaidOut f offset b second → a ++ x ≡ b ++ y →
     length first ≤ length second → IsBeginningOf first second
 
 -- Before the first read, the list is empty.

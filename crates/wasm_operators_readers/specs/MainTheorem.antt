@@ -41,7 +41,7 @@ pub record ReadsBeginning (decoder : Decoder) (before : List Operator) (e : Erro
   pub at : BeginningAt decoder.Kept e.message before old.reader placed
   pub text : List ℕ
   pub takes : Takes old.reader new.reader text
-  pub laid : LaidOut old.reader.features (offset_of old.reader) placed text
+  pub laid : LaidOut old.reader.features (offset_of old.reader) text placed
   pub read_so_far : ReadSoFar (before ++ operators placed) new
   pub stops : StopsRun decoder e new
 
@@ -54,7 +54,7 @@ IsNotOutOfMemory result = IfErr result (λ e. e.message ≢ message.OutOfMemory)
 
 -- All of the bytes encode the list, which closes all of these frames.
 abbrev pub ClosesFrom : List FrameKind → Source → Placed → Type 0
-ClosesFrom frames s placed = LaidOut s.features s.offset placed s.bytes × (frames_along frames (roles_of (operators placed)) ≡ Some [])
+ClosesFrom frames s placed = LaidOut s.features s.offset s.bytes placed × (frames_along frames (roles_of (operators placed)) ≡ Some [])
 
 -- Unless allocation fails, `Effect` holds for the longest `Kept` list that the frames allow. `Ok`
 -- if and only if all of the bytes encode it and it closes every frame.

@@ -122,7 +122,7 @@ VisitsOperator visits decoder (Err e) old new before after = IsUnchanged old new
 pub record TakesOperators (old new : State) (placed : Placed) : Type 0 where
   pub text : List ℕ
   pub takes : Takes old.reader new.reader text
-  pub laid : LaidOut old.reader.features (offset_of old.reader) placed text
+  pub laid : LaidOut old.reader.features (offset_of old.reader) text placed
   pub frames : frames_along old.frames (roles_of (operators placed)) ≡ Some new.frames
   pub room : old.room ≤ new.room + opened_along placed
   pub memory : GrowsLittle (length text) old new

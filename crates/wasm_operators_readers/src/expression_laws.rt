@@ -20,7 +20,7 @@ use wasm_decode::below::WasmFeatures;
 pub fn one_layout(features: WasmFeatures)
     ensures beginning { BeginsLonger features }
     ensures same { (offset : ℕ) (first second : Placed) (a b x y : List ℕ)
-        → LaidOut features offset first a → LaidOut features offset second b
+        → LaidOut features offset a first → LaidOut features offset b second
         → a ++ x ≡ b ++ y → length first ≡ length second
         → (first ≡ second) × (a ≡ b) × (x ≡ y) }
 {}
@@ -30,8 +30,8 @@ pub fn one_layout(features: WasmFeatures)
 pub fn layouts(features: WasmFeatures)
     ensures length { IsNoLonger features }
     ensures encoded { HasEncodings features }
-    ensures parts { (offset : ℕ) (first second : Placed) (bytes : List ℕ) → LaidOut features offset (first ++ second) bytes
-        → (a b : List ℕ) × (bytes ≡ a ++ b) × LaidOut features offset first a × LaidOut features (offset + length a) second b }
+    ensures parts { (offset : ℕ) (first second : Placed) (bytes : List ℕ) → LaidOut features offset bytes (first ++ second)
+        → (a b : List ℕ) × (bytes ≡ a ++ b) × LaidOut features offset a first × LaidOut features (offset + length a) b second }
     ensures joined { LaysOutBoth features }
 {}
 
@@ -39,11 +39,11 @@ pub fn layouts(features: WasmFeatures)
 /// and the reader is.
 pub fn ranges(features: WasmFeatures)
     ensures next { (offset : ℕ) (before after : Placed) (p q : Operator × ℕ) (bytes : List ℕ)
-        → LaidOut features offset (before ++ p ∷ q ∷ after) bytes → EndsAt features p q.1 }
+        → LaidOut features offset bytes (before ++ p ∷ q ∷ after) → EndsAt features p q.1 }
     ensures last { (offset : ℕ) (before : Placed) (p : Operator × ℕ) (bytes : List ℕ)
-        → LaidOut features offset (before ++ p ∷ []) bytes → EndsAt features p (offset + length bytes) }
+        → LaidOut features offset bytes (before ++ p ∷ []) → EndsAt features p (offset + length bytes) }
     ensures read { (old new : Reader) (before : Placed) (p : Operator × ℕ) (text : List ℕ) → Takes old new text
-        → LaidOut old.features (offset_of old) (before ++ p ∷ []) text → EndsAt old.features p (offset_of new) }
+        → LaidOut old.features (offset_of old) text (before ++ p ∷ []) → EndsAt old.features p (offset_of new) }
 {}
 
 /// States that no encoding of an expression is a proper prefix of another, and each encodes one
