@@ -25,5 +25,5 @@ pub none_peeked : (kind : FrameKind) (r : Reader) (result : Result Operator Erro
     IfErr result (λ e. e.message ≢ message.OutOfMemory → (op : Operator) (text more : List ℕ) → rest r ≡ text ++ more →
     EncodesOperator r.features text op → Allows kind (role_of op) → ⊥)
 none_peeked kind r (Ok op) h = tt
-none_peeked kind r (Err e) (after, (same, refused, fault)) = λ other op text more parts encodes allowed.
+none_peeked kind r (Err e) (after, (same, refused)) = λ other op text more parts encodes allowed.
     refused.refuses [] (may_follow e.message other) text more op (encodes, allowed) (append-nil (rest r) ∙ parts)

@@ -11,7 +11,7 @@ use Rattle.wasm_view.specs.Lists.{ReturnsMembers}
 use Rattle.wasm_c.specs.declared.refusal.WasmRefusal.{WasmRefusal}
 use Rattle.wasm_c.specs.Refused.{no_refusal, refusal_of, misuse}
 use Rattle.wasm_operators.specs.opcodes.Allowed.{EncodesAllowed}
-use Rattle.wasm_operators.specs.opcodes.Decoding.{RefusesOperator}
+use Rattle.wasm_operators.specs.opcodes.Decoding.{DecodesOperator}
 use Rattle.wasm_operators.specs.opcodes.OperatorFaults.{OperatorFault}
 use Rattle.wasm_c.specs.OperatorTexts.{frame_for, PlacesText, RefusesTextName, FindsText, ReturnsTextAt}
 use Rattle.wasm_c.specs.Members.{bytes_at, OccursThere, RefusesThere, ReturnsThere, Unchanged, AtOffset, ReadsAt, ReportsMembers, FindsMembers, ReturnsList}
@@ -49,7 +49,7 @@ occurs_there op ahead (after, (text, encodes, takes)) = (text, rest after, takes
 
 -- A read that failed is an error here.
 pub refuses_there : (e : Error) (r : WasmRefusal) (ahead : Reader) → PeeksOperator (Some frame.Block) (Err e) ahead → r ≡ refusal_of e → RefusesThere r ahead
-refuses_there e r ahead (after, (same, refused, fault)) is = (e, is, (refl, refused, fault))
+refuses_there e r ahead (after, (same, refused)) is = (e, is, (refl, refused))
 
 -- A statement about a call at an offset follows from a stronger one.
 at_offset : (Misuse Refuses : ℕ → ℕ → Type 0) (There Occurs : Reader → Type 0) (bytes : List ℕ) (offset features at : ℕ) →
@@ -105,10 +105,10 @@ text_there kind op ahead (after, (text, encodes, takes)) = (text, rest after, ta
 -- A read that failed in the frame for the operator.
 pub no_text_there : (kind : FrameKind) (e : Error) (r : WasmRefusal) (ahead : Reader) → kind ≡ frame_for (rest ahead) →
     PeeksOperator (Some kind) (Err e) ahead → r ≡ refusal_of e → RefusesTextName r ahead
-no_text_there kind e r ahead same (after, (unmoved, refused, fault)) is = (
+no_text_there kind e r ahead same (after, (unmoved, refused)) is = (
   e,
   is,
-  subst (λ k. RefusesOperator (EncodesAllowed ahead.features k) (OperatorFault ahead.features k) e ahead ahead) same (refl, refused, fault),
+  subst (λ k. DecodesOperator (EncodesAllowed ahead.features k) (OperatorFault ahead.features k) (Err e) ahead ahead) same (refl, refused),
 )
 
 -- The text of the operator that was read.

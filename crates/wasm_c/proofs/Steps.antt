@@ -11,7 +11,7 @@ use Rattle.wasm_operators.specs.grammar.Frames.{Allows, change_of, frames_after,
 use Rattle.wasm_operators.specs.instr.declared.operator.Operator.{Operator}
 use Rattle.wasm_operators.specs.instr.Roles.{role_of}
 use Rattle.wasm_operators.specs.opcodes.Allowed.{EncodesAllowed}
-use Rattle.wasm_operators.specs.opcodes.Decoding.{RefusesOperator}
+use Rattle.wasm_operators.specs.opcodes.Decoding.{DecodesOperator}
 use Rattle.wasm_operators.specs.opcodes.OperatorFaults.{OperatorFault}
 use Rattle.wasm_operators.specs.Openings.{opened_by}
 use Rattle.wasm_operators.specs.Next.{ListMayAllocate, simd_if}
@@ -30,14 +30,14 @@ is_memory _ = inr (λ e. cc e)
 
 -- An error inside the innermost frame stops a read.
 pub stops_inside : (e : Error) (s : State) (new : Reader) (kind : FrameKind) → innermost s.frames ≡ Some kind →
-    RefusesOperator (EncodesAllowed s.reader.features kind) (OperatorFault s.reader.features kind) e s.reader new →
+    DecodesOperator (EncodesAllowed s.reader.features kind) (OperatorFault s.reader.features kind) (Err e) s.reader new →
     StopsRead (simd_if (ListMayAllocate EncodesAllowed)) e s
-stops_inside e s new kind inside (same, refused, fault) = elim (is_memory e.message) [
+stops_inside e s new kind inside (same, refused) = elim (is_memory e.message) [
   | inl is ↦
       let memory = refused.memory is in
-      inr (inr (is, memory.0, (kind, inside, memory.1)))
+      inr (inr (is, memory.1, (kind, inside, memory.0)))
   | inr other ↦
-      inr (inl (record { kind = kind; open_frame = inside; refuses = refused.refuses; ahead = refused.ahead; fault = fault other }))
+      inr (inl (record { kind = kind; open_frame = inside; refuses = refused.refuses; ahead = refused.ahead; fault = refused.fault other }))
 ]
 
 -- If no frame is open, no operator is read.
@@ -183,11 +183,11 @@ no_room_plain bytes frames r start ahead kind view change offset refusal was sam
 -- An operator that is an error.
 pub refused_plain : (bytes frames : List ℕ) (r : WasmReader) (start ahead : Reader) (kind : FrameKind) (e : Error) (refusal : WasmRefusal) →
     IsReader bytes (length frames) r → start ≡ reader_at bytes r → innermost (kinds (take r.depth frames)) ≡ Some kind →
-    RefusesOperator (EncodesAllowed start.features kind) (OperatorFault start.features kind) e start ahead → refusal ≡ refusal_of e →
+    DecodesOperator (EncodesAllowed start.features kind) (OperatorFault start.features kind) (Err e) start ahead → refusal ≡ refusal_of e →
     StopsPlain refusal bytes r frames
 refused_plain bytes frames r start ahead kind e refusal was same inside refuses is =
     let there =
-    subst (λ (s : Reader). RefusesOperator (EncodesAllowed s.features kind) (OperatorFault s.features kind) e s ahead) same refuses in
+    subst (λ (s : Reader). DecodesOperator (EncodesAllowed s.features kind) (OperatorFault s.features kind) (Err e) s ahead) same refuses in
     inl (was, e, is, stops_inside e (state_at bytes r frames) ahead kind inside there)
 
 -- If frames are open, an expression does not end.

@@ -7,7 +7,7 @@ use Rattle.wasm_operators.specs.grammar.declared.frame_kind.FrameKind.TheVariant
 use Rattle.wasm_operators.specs.instr.declared.operator.Operator.{Operator}
 use Rattle.wasm_operators.specs.instr.Encoding.{EncodesOperator}
 use Rattle.wasm_operators.specs.opcodes.Allowed.{EncodesAllowed}
-use Rattle.wasm_operators.specs.opcodes.Decoding.{RefusesOperator}
+use Rattle.wasm_operators.specs.opcodes.Decoding.{DecodesOperator}
 use Rattle.wasm_operators.specs.opcodes.OperatorFaults.{OperatorFault}
 use Rattle.wasm_view.specs.Lists.{PlacesMembers}
 use Rattle.wasm_c.specs.declared.refusal.WasmRefusal.{WasmRefusal}
@@ -25,7 +25,7 @@ OccursThere input op = (text more : List ℕ) × (rest input ≡ text ++ more) �
 -- Reading an operator here, inside a block, fails.
 abbrev pub RefusesThere : WasmRefusal → Reader → Type 0
 RefusesThere r input =
-    (e : Error) × (r ≡ refusal_of e) × RefusesOperator (EncodesAllowed input.features frame.Block) (OperatorFault input.features frame.Block) e input input
+    (e : Error) × (r ≡ refusal_of e) × DecodesOperator (EncodesAllowed input.features frame.Block) (OperatorFault input.features frame.Block) (Err e) input input
 
 -- Neither the count nor the array changes.
 abbrev pub Unchanged : {X : Type 0} → ℕ → ℕ → List X → List X → Type 0

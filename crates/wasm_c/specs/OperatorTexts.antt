@@ -1,5 +1,5 @@
 -- Specification: Text Format, Instructions; Binary Format, Instructions.
-use Rattle.std.specs.Prelude.{◌≡◌, ◌==◌, ℕ, ◌<◌, ◌≤◌, List, [], ◌∷◌, length, ◌⊎◌, if◌then◌else◌}
+use Rattle.std.specs.Prelude.{◌≡◌, ◌==◌, ℕ, ◌<◌, ◌≤◌, List, [], ◌∷◌, length, Err, ◌⊎◌, if◌then◌else◌}
 use Rattle.wasm_operators.specs.below.bytes.error.Error.{Error}
 use Rattle.wasm_operators.specs.below.bytes.message.Message.TheVariants as message
 use Rattle.wasm_operators.specs.below.Source.{Reader, rest}
@@ -7,7 +7,7 @@ use Rattle.wasm_operators.specs.grammar.declared.frame_kind.FrameKind.{FrameKind
 use Rattle.wasm_operators.specs.grammar.declared.frame_kind.FrameKind.TheVariants as frame
 use Rattle.wasm_operators.specs.instr.declared.operator.Operator.{Operator}
 use Rattle.wasm_operators.specs.opcodes.Allowed.{EncodesAllowed}
-use Rattle.wasm_operators.specs.opcodes.Decoding.{RefusesOperator}
+use Rattle.wasm_operators.specs.opcodes.Decoding.{DecodesOperator}
 use Rattle.wasm_operators.specs.opcodes.OperatorFaults.{OperatorFault}
 use Rattle.wasm_view.specs.Lists.{written}
 use Rattle.wasm_c.specs.declared.refusal.WasmRefusal.{WasmRefusal}
@@ -36,7 +36,7 @@ PlacesText text at r count old new = (count ≡ length text) ×
 -- Reading an operator here fails with this error.
 abbrev pub RefusesTextName : WasmRefusal → Reader → Type 0
 RefusesTextName r input =
-    (e : Error) × (r ≡ refusal_of e) × RefusesOperator (EncodesAllowed input.features (frame_for (rest input))) (OperatorFault input.features (frame_for (rest input))) e input input
+    (e : Error) × (r ≡ refusal_of e) × DecodesOperator (EncodesAllowed input.features (frame_for (rest input))) (OperatorFault input.features (frame_for (rest input))) (Err e) input input
 
 -- As `RefusesTextName`; or allocation for the operator's text fails, which is reported at `at`.
 abbrev pub RefusesText : ℕ → WasmRefusal → Reader → Type 0

@@ -1,11 +1,11 @@
 //! Readers of operators as C structs, with the open frames in an array.
-ghost use Rattle.std.specs.Prelude.{◌≡◌, ◌≤◌, length, IfSome, IfNone, IfOk, IfErr, List, ℕ};
+ghost use Rattle.std.specs.Prelude.{◌≡◌, ◌≤◌, length, IfSome, IfNone, IfOk, IfErr, Err, List, ℕ};
 ghost use Rattle.wasm_operators.specs.below.Source.{reader_of, offset_of, Takes};
 ghost use Rattle.wasm_operators.specs.grammar.Frames.{change_of};
 ghost use Rattle.wasm_operators.specs.instr.declared.operator.Operator.{Operator};
 ghost use Rattle.wasm_operators.specs.instr.Roles.{role_of};
 ghost use Rattle.wasm_operators.specs.opcodes.Allowed.{EncodesAllowed};
-ghost use Rattle.wasm_operators.specs.opcodes.Decoding.{RefusesOperator};
+ghost use Rattle.wasm_operators.specs.opcodes.Decoding.{DecodesOperator};
 ghost use Rattle.wasm_operators.specs.opcodes.OperatorFaults.{OperatorFault};
 ghost use Rattle.wasm_view.specs.View.{view_of};
 ghost use Rattle.wasm_operators.specs.Locals.{ReadsPastLocals};
@@ -58,8 +58,8 @@ fn view_operator(
     ensures taken { IfOk result (λ _. (op : Operator) × (text : List ℕ)
         × EncodesAllowed reader.old.features frame text op × Takes reader.old reader.new text
         × (viewer.new.view ≡ view_of (op, offset_of reader.old)) × (viewer.new.change ≡ change_of (role_of op))) }
-    ensures refused { IfErr result (λ e. RefusesOperator (EncodesAllowed reader.old.features frame)
-        (OperatorFault reader.old.features frame) e reader.old reader.new) }
+    ensures refused { IfErr result (λ e. DecodesOperator (EncodesAllowed reader.old.features frame)
+        (OperatorFault reader.old.features frame) (Err e) reader.old reader.new) }
 {
     viewer.frame = frame;
     viewer.offset = reader.original_position();

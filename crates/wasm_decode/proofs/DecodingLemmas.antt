@@ -4,6 +4,7 @@ use Rattle.wasm_visit.specs.below.bytes.error.Error.{Error}
 use Rattle.wasm_visit.specs.below.bytes.features.WasmFeatures.{WasmFeatures}
 use Rattle.wasm_visit.specs.below.bytes.message.Message.{Message}
 use Rattle.wasm_visit.specs.below.bytes.message.Message.TheVariants as message
+use Rattle.wasm_visit.specs.below.FromReader.{IsRefused}
 use Rattle.wasm_visit.specs.below.Number.{EncodesUnsigned}
 use Rattle.wasm_visit.specs.below.Refusal.{IsReadFault}
 use Rattle.wasm_visit.specs.below.Source.{Reader, rest, at_position, Takes, BeginsWith, HasRead, Reads, IsByte, U32Fault}
@@ -18,30 +19,30 @@ use Rattle.wasm_visit.specs.instr.Immediate.{Kind}
 use Rattle.wasm_visit.specs.instr.Kinds.{IsVector}
 use Rattle.wasm_visit.specs.instr.Row.{prefix_of, opcode_of}
 use Rattle.wasm_visit.specs.opcodes.Allowed.{EncodesAllowed, EncodesScalar, EncodesIn}
-use Rattle.wasm_visit.specs.opcodes.Decoding.{Decodes, DecodesAt, RefusesOperator, IsAfterCode}
+use Rattle.wasm_visit.specs.opcodes.Decoding.{Decodes, DecodesAt, DecodesOperator, DecodesOperatorAt, IsAfterCode}
 use Rattle.wasm_visit.specs.decode.Arms.{ReadsOperatorAt}
 use Rattle.wasm_visit.specs.opcodes.declared.guard.Guard.{Guard}
 use Rattle.wasm_visit.specs.instr.Roles.{role_of}
 use Rattle.wasm_visit.specs.opcodes.Entry.{Entry, prefixes, guard_of, kinds_of, guarded_entry, entry_of}
 use Rattle.wasm_visit.specs.opcodes.Entries.{opcode_entries, entry_at}
 use Rattle.wasm_visit.specs.opcodes.OperatorFaults.{EntryFault, OperatorFault, ScalarOperatorFault, FaultIn}
-use Rattle.wasm_visit.specs.opcodes.Refused.{IsRefusedOperator}
+use Rattle.wasm_visit.specs.opcodes.Refused.{MayAllocate}
 use Rattle.wasm_visit.proofs.of_opcodes.OperatorLemmas.{within_after_code}
 use Rattle.wasm_visit.proofs.of_opcodes.EntriesAgree.{entry_agrees}
 use Rattle.wasm_visit.proofs.of_decode.Ranges.{InRanges, codes_in}
-use Rattle.wasm_decode.specs.Reading.{DecodesOperator, DecodesOperatorAt, DecodesGcAt}
+use Rattle.wasm_decode.specs.Reading.{DecodesGcAt}
 
 -- a call changes only the reader's position
 position_alone : {V A : Type 0} (visits : V → Operator → A → V → Type 0) (k : FrameKind) (start : ℕ) (result : Result A Error) (old mid : Reader) (v w : V) →
     DecodesAt visits k start result old mid v w → mid ≡ at_position old mid.position
-position_alone visits k start (Ok a) old mid v w (text, op, encodes, takes, visited) =
+position_alone visits k start (Ok a) old mid v w (op, (text, encodes, takes), visited) =
     takes.moved ∙ ap (at_position old) (sym (ap (λ (r : Reader). r.position) takes.moved))
 position_alone visits k start (Err e) old mid v w (same, refuses) = refuses.0 ∙ ap (at_position old) (sym (ap (λ (r : Reader). r.position) refuses.0))
 
 module _ {V A : Type 0} (visits : V → Operator → A → V → Type 0) (k : FrameKind) (start : ℕ) (old lent mid : Reader) (v w : V) (same : lent ≡ old) where
   -- the position of the copy is at most the length of the bytes
   pub copy_within : (p : Option ℕ) (code : ℕ) (a : A) → IsAfterCode start p code old → DecodesAt visits k start (Ok a) lent mid v w → mid.position ≤ length old.buffer
-  copy_within p code a b (text, op, encodes, takes, visited) =
+  copy_within p code a b (op, (text, encodes, takes), visited) =
       let within = within_after_code start p code old b in
       let t : Takes (at_position old start) mid text = subst (λ r. Takes (at_position r start) mid text) same takes in
       let whole = within_buffer (at_position old start) mid text (omega (arith, within, b.begun)) t in
@@ -119,11 +120,11 @@ begins_prefix f op p text after left is s eq = go (prefix_of op) refl s.code
 -- reading the subopcode fails
 pub refuses_subopcode : (k : FrameKind) (start p : ℕ) (e : Error) (mid now new : Reader) → p < 256 → entry_at None p ≡ prefixes → IsAfterCode start None p mid →
     Reads (EncodesUnsigned 32) U32Fault (Err e) mid now → new ≡ at_position now start →
-    RefusesOperator (EncodesAllowed mid.features k) (OperatorFault mid.features k) e (at_position mid start) new
+    DecodesOperator (EncodesAllowed mid.features k) (OperatorFault mid.features k) (Err e) (at_position mid start) new
 refuses_subopcode k start p e mid now new small is b (same, h, fault) went = go b.opcode
   where
     go : HasRead (EncodesOpcode None) p (at_position mid start) mid →
-        RefusesOperator (EncodesAllowed mid.features k) (OperatorFault mid.features k) e (at_position mid start) new
+        DecodesOperator (EncodesAllowed mid.features k) (OperatorFault mid.features k) (Err e) (at_position mid start) new
     go (head, opcode, t) =
         let parts : rest (at_position mid start) ≡ p ∷ rest mid = t.parts ∙ ap (λ z. z ++ rest mid) opcode in
         let begun = b.begun in
@@ -136,14 +137,14 @@ refuses_subopcode k start p e mid now new small is b (same, h, fault) went = go 
                 h.refuses more follow o.0 (o.1 ++ left) (opcode_of op) o.3 o.4
                 );
             ahead = (omega (arith, ahead.0, begun), ahead.1);
+            fault = λ some. inr (
+              p,
+              mid,
+              (head, (opcode, small), t),
+              subst (λ z. EntryFault mid.features k (mid.start + start) p z e.message mid e.offset) (sym is) (inl (refused_now (EncodesUnsigned 32) e mid h, fault)),
+            );
             memory = λ m. absurd (subst IsReadFault m h.fault);
           },
-          λ some. inr (
-            p,
-            mid,
-            (head, (opcode, small), t),
-            subst (λ z. EntryFault mid.features k (mid.start + start) p z e.message mid e.offset) (sym is) (inl (refused_now (EncodesUnsigned 32) e mid h, fault)),
-          ),
         )
 
 pub vector_prefix : (op : Operator) → IsVector op → prefix_of op ≡ Some 0xfd
@@ -166,14 +167,20 @@ scalar_after f op code text after left other s eq h = go (prefix_of op) refl s.c
 other_byte : (code : ℕ) (after bytes : List ℕ) → code ≢ 0xfd → bytes ≡ code ∷ after → BeginsWith 0xfd bytes → ⊥
 other_byte code after bytes other e (more, h) = other (let whole : code ∷ after ≡ 0xfd ∷ more = sym e ∙ h in cc whole)
 
-refused_scalar : (f : WasmFeatures) (k : FrameKind) (e : Error) (old : Reader) → IsRefusedOperator (EncodesAllowed f k) e old → IsRefusedOperator (EncodesScalar f k) e old
-refused_scalar f k e old h =
+-- `IsRefused` of an operator
+abbrev IsRefusedOperator : (List ℕ → Operator → Type 0) → (Message → Reader → ℕ → Type 0) → Error → Reader → Type 0
+IsRefusedOperator Encodes Fault e old = IsRefused Encodes Fault (MayAllocate Encodes) e old
+
+refused_scalar : (f : WasmFeatures) (k : FrameKind) (e : Error) (old : Reader) → (BeginsWith 0xfd (rest old) → ⊥) →
+    IsRefusedOperator (EncodesAllowed f k) (OperatorFault f k) e old → IsRefusedOperator (EncodesScalar f k) (ScalarOperatorFault f k) e old
+refused_scalar f k e old other h =
     record {
       refuses = λ more follow text left op s eq. h.refuses more follow text left op s.0 eq;
       ahead = h.ahead;
+      fault = λ some. inr (other, h.fault some);
       memory = λ m. (
           let g = h.memory m in
-          (g.0, record { leads = g.1.leads; sized = g.1.sized; owns = λ text left op s eq. g.1.owns text left op (s.0.0, s.1) eq })
+          (record { leads = g.0.leads; sized = g.0.sized; owns = λ text left op s eq. g.0.owns text left op (s.0.0, s.1) eq }, g.1)
           );
     }
 
@@ -186,14 +193,12 @@ to_scalar {V} {A} visits k start code mid new v w result other b h = go b.opcode
     go : HasRead (EncodesOpcode None) code (at_position mid start) mid → (result : Result A Error) →
         Decodes visits (EncodesAllowed mid.features k) (OperatorFault mid.features k) result (at_position mid start) new v w →
         Decodes visits (EncodesScalar mid.features k) (ScalarOperatorFault mid.features k) result (at_position mid start) new v w
-    go (head, opcode, t) (Ok a) (text, op, s, taken, vis) =
+    go (head, opcode, t) (Ok a) (op, (text, s, taken), vis) =
         let parts : rest (at_position mid start) ≡ code ∷ rest mid = t.parts ∙ ap (λ z. z ++ rest mid) opcode in
-        (text, op, (s, scalar_after mid.features op code text (rest mid) (rest new) other s.0 (sym parts ∙ taken.parts)), taken, vis)
-    go (head, opcode, t) (Err e) (same, (went, h, fault)) =
-        let parts : rest (at_position mid start) ≡ code ∷ rest mid = t.parts ∙ ap (λ z. z ++ rest mid) opcode in (
-          same,
-          (went, refused_scalar mid.features k e (at_position mid start) h, λ some. inr (other_byte code (rest mid) (rest (at_position mid start)) other parts, fault some)),
-        )
+        (op, (text, (s, scalar_after mid.features op code text (rest mid) (rest new) other s.0 (sym parts ∙ taken.parts)), taken), vis)
+    go (head, opcode, t) (Err e) (same, (went, h)) =
+        let parts : rest (at_position mid start) ≡ code ∷ rest mid = t.parts ∙ ap (λ z. z ++ rest mid) opcode in
+        (same, (went, refused_scalar mid.features k e (at_position mid start) (other_byte code (rest mid) (rest (at_position mid start)) other parts) h))
 
 -- from the position after the opcode to the operator's start
 pub from_start : {V A : Type 0} (visits : V → Operator → A → V → Type 0) (E : WasmFeatures → FrameKind → List ℕ → Operator → Type 0)
@@ -205,13 +210,13 @@ from_start visits E F k start old mid new v w result back h =
 -- decoding by a visitor that returns the operator is reading
 pub as_read : {V : Type 0} (E : List ℕ → Operator → Type 0) (F : Message → Reader → ℕ → Type 0) (old new : Reader) (v w : V) (result : Result Operator Error) →
     Decodes {V = V} (λ before op outcome after. outcome ≡ op) E F result old new v w → DecodesOperator E F result old new
-as_read E F old new v w (Ok op) (text, it, s, taken, same) = (text, subst (E text) (sym same) s, taken)
+as_read E F old new v w (Ok op) (it, read, same) = subst (λ z. HasRead E z old new) (sym same) read
 as_read E F old new v w (Err e) (same, h) = h
 
 -- reading is decoding by such a visitor
 pub as_visited : (E : List ℕ → Operator → Type 0) (F : Message → Reader → ℕ → Type 0) (old new : Reader) (result : Result Operator Error) →
     DecodesOperator E F result old new → Decodes {V = Unit {0}} (λ before op outcome after. outcome ≡ op) E F result old new tt tt
-as_visited E F old new (Ok op) (text, s, taken) = (text, op, s, taken, refl)
+as_visited E F old new (Ok op) read = (op, read, refl)
 as_visited E F old new (Err e) h = (refl, h)
 
 module _ (k : FrameKind) (start : ℕ) (old lent mid : Reader) (same : lent ≡ old) where
@@ -244,7 +249,7 @@ pub as_gc : (k : FrameKind) (start : ℕ) (old mid new : Reader) (result : Resul
 as_gc k start old mid new result stays h = go result (subst (λ r. ReadsOperatorAt operator.Gc k start result r new) stays h)
   where
     go : (result : Result GcOperator Error) → ReadsOperatorAt operator.Gc k start result old new → DecodesGcAt k start result old new
-    go (Ok outcome) (text, op, s, taken, same) = (text, subst (EncodesAllowed old.features k text) same s, taken)
+    go (Ok outcome) (op, read, same) = subst (λ z. HasRead (EncodesAllowed old.features k) z (at_position old start) new) same read
     go (Err e) (same, refused) = refused
 
 pub read_from_start : (E : WasmFeatures → FrameKind → List ℕ → Operator → Type 0) (F : WasmFeatures → FrameKind → Message → Reader → ℕ → Type 0) (k : FrameKind) (start : ℕ)
@@ -260,20 +265,22 @@ is_prefixes _ = false
 pub prefix_bytes : (code : ℕ) → entry_at None code ≡ prefixes → InRanges code ((0xfb, 0xfe) ∷ [])
 prefix_bytes code e = codes_in is_prefixes ((0xfb, 0xfe) ∷ []) opcode_entries code refl refl (ap is_prefixes e)
 
-opened : (E : FrameKind → List ℕ → Operator → Type 0) (k : FrameKind) (e : Error) (old : Reader) → IsRefusedOperator (E k) e old → IsRefusedOperator (EncodesIn E (Some k)) e old
-opened E k e old h =
+opened : (E : FrameKind → List ℕ → Operator → Type 0) (F : FrameKind → Message → Reader → ℕ → Type 0) (k : FrameKind) (e : Error) (old : Reader) →
+    IsRefusedOperator (E k) (F k) e old → IsRefusedOperator (EncodesIn E (Some k)) (FaultIn F (Some k)) e old
+opened E F k e old h =
     record {
       refuses = h.refuses;
       ahead = h.ahead;
-      memory = λ m. (let g = h.memory m in (g.0, record { leads = g.1.leads; sized = g.1.sized; owns = g.1.owns }));
+      fault = h.fault;
+      memory = λ m. (let g = h.memory m in (record { leads = g.0.leads; sized = g.0.sized; owns = g.0.owns }, g.1));
     }
 
 pub visited_in : {V A : Type 0} (visits : V → Operator → A → V → Type 0) (E : FrameKind → List ℕ → Operator → Type 0) (F : FrameKind → Message → Reader → ℕ → Type 0) (k : FrameKind)
     (old new : Reader) (v w : V) (result : Result A Error) → Decodes visits (E k) (F k) result old new v w → Decodes visits (EncodesIn E (Some k)) (FaultIn F (Some k)) result old new v w
 visited_in visits E F k old new v w (Ok a) h = h
-visited_in visits E F k old new v w (Err e) (same, (went, h, fault)) = (same, (went, opened E k e old h, fault))
+visited_in visits E F k old new v w (Err e) (same, (went, h)) = (same, (went, opened E F k e old h))
 
 pub read_in : (E : FrameKind → List ℕ → Operator → Type 0) (F : FrameKind → Message → Reader → ℕ → Type 0) (k : FrameKind) (old new : Reader) (result : Result Operator Error) →
     DecodesOperator (E k) (F k) result old new → DecodesOperator (EncodesIn E (Some k)) (FaultIn F (Some k)) result old new
 read_in E F k old new (Ok op) h = h
-read_in E F k old new (Err e) (went, h, fault) = (went, opened E k e old h, fault)
+read_in E F k old new (Err e) (went, h) = (went, opened E F k e old h)

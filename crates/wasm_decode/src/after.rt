@@ -1,9 +1,9 @@
 //! Decodes the bytes after an opcode, except a branch table. After a prefix byte, only SIMD
 //! operators without immediates are visited inline.
-ghost use Rattle.std.specs.Prelude.{◌≡◌, ◌≢◌, [], Some, None, IfOk, IfErr};
+ghost use Rattle.std.specs.Prelude.{◌≡◌, ◌≢◌, [], Some, None, Err, IfOk, IfErr};
 ghost use Rattle.wasm_visit.specs.below.Source.{at_position};
 ghost use Rattle.wasm_visit.specs.grammar.declared.frame_kind.FrameKind.{FrameKind};
-ghost use Rattle.wasm_visit.specs.opcodes.Decoding.{IsAfterCode, DecodesAt, RefusesAt, VisitsRow};
+ghost use Rattle.wasm_visit.specs.opcodes.Decoding.{IsAfterCode, DecodesAt, DecodesOperatorAt, VisitsRow};
 ghost use Rattle.wasm_visit.specs.opcodes.Entries.{entry_at};
 ghost use Rattle.wasm_visit.specs.opcodes.Entry.{free, prefixes};
 ghost use Rattle.wasm_visit.specs.decode.WithoutImmediates.{IsVectorWithoutImmediates};
@@ -27,7 +27,7 @@ pub fn subopcode(reader: &mut BinaryReader<'_>, start: usize, prefix: u8) -> Res
     requires prefix { entry_at None prefix ≡ prefixes }
     ensures read { IfOk result (λ code. IsAfterCode start (Some prefix) code reader.new) }
     ensures stays { IfOk result (λ code. reader.new ≡ at_position reader.old reader.new.position) }
-    ensures refuses { IfErr result (λ e. (frame : FrameKind) → RefusesAt frame start e reader.old reader.new) }
+    ensures refuses { IfErr result (λ e. (frame : FrameKind) → DecodesOperatorAt frame start (Err e) reader.old reader.new) }
 {
     match reader.read_var_u32() {
         Ok(code) => Ok(code),

@@ -1,8 +1,8 @@
 //! Reads an operator by the visitor `Made` or, with the prefix byte 0xfb, without a visitor.
 ghost use Rattle.std.specs.Prelude.{◌≢◌, None, Some, Ok, Err, IfSome, IfNone};
-ghost use Rattle.wasm_decode.specs.Reading.{DecodesOperatorIn, DecodesOperatorAt, DecodesGcAt};
+ghost use Rattle.wasm_decode.specs.Reading.{DecodesOperatorIn, DecodesGcAt};
 ghost use Rattle.wasm_visit.specs.grammar.declared.frame_kind.FrameKind.{FrameKind};
-ghost use Rattle.wasm_visit.specs.opcodes.Decoding.{IsAfterCode};
+ghost use Rattle.wasm_visit.specs.opcodes.Decoding.{DecodesOperatorAt, IsAfterCode};
 
 use crate::after::{simd_of, subopcode, vector_without_immediates};
 use crate::out_of_line::{place, visit_after_prefix};

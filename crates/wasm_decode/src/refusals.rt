@@ -1,7 +1,9 @@
-ghost use Rattle.std.specs.Prelude.{◌≡◌, ◌≤◌, None};
-ghost use Rattle.wasm_visit.specs.below.Source.{offset_of, end_of};
+ghost use Rattle.std.specs.Prelude.{◌≡◌, ◌≤◌, None, Err};
+ghost use Rattle.wasm_visit.specs.below.Source.{at_position, offset_of, end_of};
 ghost use Rattle.wasm_visit.specs.grammar.declared.frame_kind.FrameKind.{FrameKind};
-ghost use Rattle.wasm_visit.specs.opcodes.Decoding.{IsAfterCode, RefusesScalarAt};
+ghost use Rattle.wasm_visit.specs.opcodes.Allowed.{EncodesScalar};
+ghost use Rattle.wasm_visit.specs.opcodes.Decoding.{IsAfterCode, DecodesOperator};
+ghost use Rattle.wasm_visit.specs.opcodes.OperatorFaults.{ScalarOperatorFault};
 
 use wasm_visit::below::{BinaryReader, Error, Message};
 
@@ -20,7 +22,9 @@ pub fn no_frame(reader: &BinaryReader<'_>) -> Error
 #[inline(always)]
 pub fn unexpected_simd(reader: &mut BinaryReader<'_>, start: usize) -> Error
     requires { IsAfterCode start None 0xfd reader.old }
-    ensures { (frame : FrameKind) → RefusesScalarAt frame start result reader.old reader.new }
+    ensures { (frame : FrameKind) → DecodesOperator (EncodesScalar reader.old.features frame)
+        (ScalarOperatorFault reader.old.features frame)
+        (Err result) (at_position reader.old start) reader.new }
 {
     reader.refuse(start, Message::UnexpectedSimd)
 }

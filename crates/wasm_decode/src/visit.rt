@@ -1,7 +1,7 @@
-ghost use Rattle.std.specs.Prelude.{◌<◌, ◌≤◌, [], ◌∷◌, false, None};
+ghost use Rattle.std.specs.Prelude.{◌<◌, ◌≤◌, [], ◌∷◌, None};
 ghost use Rattle.wasm_visit.specs.grammar.declared.frame_kind.FrameKind.{FrameKind};
 ghost use Rattle.wasm_visit.specs.instr.Immediate.{branch_table, is_branch_table};
-ghost use Rattle.wasm_visit.specs.opcodes.Decoding.{DecodesIn, DecodesScalarIn, IsAfterCode, DecodesAt, DecodesScalarAt, ReadsKinds};
+ghost use Rattle.wasm_visit.specs.opcodes.Decoding.{DecodesIn, DecodesScalarIn, IsAfterCode, DecodesAt, DecodesScalarAt, ReadsKinds, GoesBack};
 
 use crate::after::{group_after_opcode, simd_after_prefix};
 use crate::refusals::{no_frame, unexpected_simd};
@@ -143,7 +143,7 @@ fn table_after_opcode<'a, V: VisitOperator<'a>>(
 #[inline(always)]
 fn branch_table<'a>(reader: &mut BinaryReader<'a>, start: usize) -> Result<BrTable<'a>>
     requires { start ≤ reader.old.position }
-    ensures { ReadsKinds (is_branch_table ∷ []) (λ t. branch_table t ∷ []) false start result reader.old reader.new }
+    ensures { ReadsKinds (is_branch_table ∷ []) (λ t. branch_table t ∷ []) (λ r. ⊥) GoesBack start result reader.old reader.new }
 {
     let mut lent = reader.clone();
     let targets = immediates::branch_table(&mut lent, start);

@@ -1,5 +1,5 @@
 -- Operators whose feature and frame are checked first.
-use Rattle.std.proofs.Common.{◌≡◌, ℕ, ◌+◌, ◌≤◌, ◌<◌, inl, inr, Bool, true, false, List, [], ◌∷◌, ◌++◌, Option, Some, None, Ok, Err, refl, sym, subst, ap, ◌∙◌, append_assoc, arith}
+use Rattle.std.proofs.Common.{◌≡◌, ℕ, ◌+◌, ◌≤◌, ◌<◌, inl, inr, List, [], ◌∷◌, ◌++◌, Option, Some, None, Ok, Err, refl, sym, subst, ap, ◌∙◌, append_assoc, arith}
 use Rattle.wasm_instr.specs.below.bytes.error.Error.{Error}
 use Rattle.wasm_instr.specs.below.bytes.features.WasmFeatures.{WasmFeatures}
 use Rattle.wasm_instr.specs.below.bytes.message.Message.{Message}
@@ -7,7 +7,7 @@ use Rattle.wasm_instr.specs.below.bytes.message.Message.TheVariants as message
 use Rattle.wasm_instr.specs.below.Fault.{HasFault}
 use Rattle.wasm_instr.specs.below.Features.{HasFeature, legacy_exceptions}
 use Rattle.wasm_instr.specs.below.Refusal.{IsReadFault}
-use Rattle.wasm_instr.specs.below.Source.{Reader, rest, offset_of, end_of, at_position, Takes, NoPrefix, IsAhead, HasRead}
+use Rattle.wasm_instr.specs.below.Source.{Reader, rest, offset_of, end_of, at_position, NoPrefix, HasRead}
 use Rattle.wasm_instr.specs.grammar.declared.frame_kind.FrameKind.{FrameKind}
 use Rattle.wasm_instr.specs.grammar.declared.frame_kind.FrameKind.TheVariants as frame
 use Rattle.wasm_instr.specs.grammar.Frames.{Allows}
@@ -21,12 +21,11 @@ use Rattle.wasm_instr.specs.Row.{prefix_of, opcode_of}
 use Rattle.wasm_decode_opcodes.specs.declared.guard.Guard.{Guard}
 use Rattle.wasm_decode_opcodes.specs.declared.guard.Guard.TheVariants as guard
 use Rattle.wasm_decode_opcodes.specs.Allowed.{EncodesAllowed}
-use Rattle.wasm_decode_opcodes.specs.Decoding.{Decodes, RefusesOperator, IsAfterCode, VisitsRow}
-use Rattle.wasm_decode_opcodes.specs.Entry.{prefixes, unknown, free, guarded, kinds_of, guard_of, guarded_entry, entry_of, guarded_role, guarded_instruction, needed_frame, NeedsLegacy, HasKinds}
+use Rattle.wasm_decode_opcodes.specs.Decoding.{Decodes, DecodesOperator, IsAfterCode, VisitsRow}
+use Rattle.wasm_decode_opcodes.specs.Entry.{prefixes, unknown, free, guarded, kinds_of, guard_of, guarded_entry, entry_of, guarded_role, guarded_instruction, needed_frame, NeedsLegacy, entry_kinds}
 use Rattle.wasm_decode_opcodes.specs.Entries.{entry_at}
 use Rattle.wasm_decode_opcodes.specs.Kinds.{EncodesKinds}
 use Rattle.wasm_decode_opcodes.specs.OperatorFaults.{KindsFault, LacksFeature, GuardFault, EntryFault, OperatorFault}
-use Rattle.wasm_decode_opcodes.specs.Refused.{IsRefusedOperator}
 use Rattle.wasm_decode_opcodes.proofs.KindLemmas.{RefusesKinds}
 use Rattle.wasm_decode_opcodes.proofs.OperatorLemmas.{IsCode, Own, own, same_entry, refused_operator, opcode_fault, reads_visited, none_unknown, subopcode_fault, within_after_code}
 
@@ -102,20 +101,20 @@ guard_of_code op code g ks prefix opcode e = guard_in (guard_of (role_of op)) g 
 pub refuses_opcode : (k : FrameKind) (p : Option ℕ) (code start : ℕ) (e : Error) (mid new : Reader) → IsCode p code → IsAfterCode start p code mid →
     ((head after : List ℕ) → EncodesOpcode p head code → NoPrefix (EncodesAllowed mid.features k) (head ++ after)) → new ≡ at_position mid start →
     IsReadFault e.message → mid.start + start ≤ e.offset → e.offset ≤ offset_of mid → (HasFault (OperatorFault mid.features k) e (at_position mid start)) →
-    RefusesOperator (EncodesAllowed mid.features k) (OperatorFault mid.features k) e (at_position mid start) new
+    DecodesOperator (EncodesAllowed mid.features k) (OperatorFault mid.features k) (Err e) (at_position mid start) new
 refuses_opcode k p code start e mid new c b none went readable from to fault = go b.opcode
   where
     go : HasRead (EncodesOpcode p) code (at_position mid start) mid →
-        RefusesOperator (EncodesAllowed mid.features k) (OperatorFault mid.features k) e (at_position mid start) new
+        DecodesOperator (EncodesAllowed mid.features k) (OperatorFault mid.features k) (Err e) (at_position mid start) new
     go (head, opcode, t) = (
       went,
       record {
         refuses = λ more follow. subst (NoPrefix (EncodesAllowed mid.features k)) (sym (ap (λ z. z ++ more) t.parts ∙ append_assoc head (rest mid) more))
             (none head (rest mid ++ more) opcode);
         ahead = (from, omega (arith, to, within_after_code start p code mid b));
+        fault = fault;
         memory = λ m. absurd (subst IsReadFault m readable);
       },
-      fault,
     )
 
 not_prefix : (code : ℕ) (g : Guard) (ks : List Kind) → entry_at None code ≡ guarded g ks → entry_at None code ≡ prefixes → ⊥
@@ -146,7 +145,7 @@ guarded_fault k code start g ks m mid offset small is b fault =
 pub lacks_feature : (k : FrameKind) (code start : ℕ) (g : Guard) (ks : List Kind) (e : Error) (mid new : Reader) → code < 256 → entry_at None code ≡ guarded g ks →
     IsAfterCode start None code mid → LacksFeature mid.features g → new ≡ at_position mid start → e.message ≡ message.FeatureRequired (guarded_instruction g) →
     e.offset ≡ mid.start + start →
-    RefusesOperator (EncodesAllowed mid.features k) (OperatorFault mid.features k) e (at_position mid start) new
+    DecodesOperator (EncodesAllowed mid.features k) (OperatorFault mid.features k) (Err e) (at_position mid start) new
 lacks_feature k code start g ks e mid new small is b lacks went m at =
     refuses_opcode k None code start e mid new (not_prefix code g ks is, small) b
     (λ head after. none_enabled mid.features k code g ks head after (not_prefix code g ks is, small) is lacks) went (subst IsReadFault (sym m) tt) (omega (arith, at))
@@ -156,7 +155,7 @@ lacks_feature k code start g ks e mid new small is b lacks went m at =
 pub wrong_frame : (k : FrameKind) (code start : ℕ) (g : Guard) (ks : List Kind) (e : Error) (mid new : Reader) → code < 256 → entry_at None code ≡ guarded g ks →
     IsAfterCode start None code mid → ¬ LacksFeature mid.features g → (Allows k (guarded_role g) → ⊥) → new ≡ at_position mid start →
     e.message ≡ message.WrongFrame (guarded_instruction g) (needed_frame g) → e.offset ≡ offset_of mid →
-    RefusesOperator (EncodesAllowed mid.features k) (OperatorFault mid.features k) e (at_position mid start) new
+    DecodesOperator (EncodesAllowed mid.features k) (OperatorFault mid.features k) (Err e) (at_position mid start) new
 wrong_frame k code start g ks e mid new small is b has without went m at =
     refuses_opcode k None code start e mid new (not_prefix code g ks is, small) b
     (λ head after. none_allowed mid.features k code g ks head after (not_prefix code g ks is, small) is without) went (subst IsReadFault (sym m) tt)
@@ -164,20 +163,17 @@ wrong_frame k code start g ks e mid new small is b has without went m at =
 
 -- ---- after the guard
 
-guarded_kinds : (code : ℕ) (g : Guard) (ks : List Kind) → entry_at None code ≡ guarded g ks → HasKinds (entry_at None code) ks
-guarded_kinds code g ks is = subst (λ z. HasKinds z ks) (sym is) refl
-
 -- reading the immediates fails
 pub refuses_guarded : {V A : Type 0} (visits : V → Operator → A → V → Type 0) (k : FrameKind) (code : ℕ) (g : Guard) (ks : List Kind) (start : ℕ) (e : Error) (mid new : Reader)
     (v : V) → code < 256 → entry_at None code ≡ guarded g ks → IsAfterCode start None code mid → ¬ LacksFeature mid.features g → Allows k (guarded_role g) →
-    RefusesKinds ks false start e mid new →
+    RefusesKinds ks (λ r. ⊥) start e mid new →
     Decodes visits (EncodesAllowed mid.features k) (OperatorFault mid.features k) (Err e) (at_position mid start) new v v
-refuses_guarded visits k code g ks start e mid new v small is b has allows (went, h, fault) = (
+refuses_guarded visits k code g ks start e mid new v small is b has allows (went, h) = (
   refl,
   (
     went,
-    refused_operator k None code ks false start e mid (not_prefix code g ks is, small) (guarded_kinds code g ks is) b h (λ takes m. absurd (cc takes)),
-    λ some. guarded_fault k code start g ks e.message mid e.offset small is b (inr (has, inr (λ without. without allows, fault some))),
+    refused_operator k None code ks (λ r. ⊥) start e mid (not_prefix code g ks is, small) (ap entry_kinds is) b h (λ none. absurd none)
+        (λ some. guarded_fault k code start g ks e.message mid e.offset small is b (inr (has, inr (λ without. without allows, h.fault some)))),
   ),
 )
 
@@ -185,7 +181,7 @@ refuses_guarded visits k code g ks start e mid new v small is b has allows (went
 pub visited_guarded : {V A : Type 0} (visits : V → Operator → A → V → Type 0) (Fault : Message → Reader → ℕ → Type 0) (k : FrameKind) (code : ℕ) (g : Guard) (ks : List Kind)
     (is : List Immediate) (start : ℕ) (mid new : Reader) (v w : V) (a : A) → entry_at None code ≡ guarded g ks → IsAfterCode start None code mid →
     (NeedsLegacy g → HasFeature legacy_exceptions mid.features) → Allows k (guarded_role g) → VisitsRow visits None code is v a w →
-    (text : List ℕ) × EncodesKinds mid.features ks text is × Takes mid new text →
+    HasRead (EncodesKinds mid.features ks) is mid new →
     Decodes visits (EncodesAllowed mid.features k) Fault (Ok a) (at_position mid start) new v w
 visited_guarded visits Fault k code g ks is start mid new v w a e b has allows vis i =
     reads_visited visits Fault k None code ks is start mid new v w a b vis i
@@ -195,7 +191,7 @@ visited_guarded visits Fault k code g ks is start mid new v w a e b has allows v
 
 pub refuses_unknown : (k : FrameKind) (p : Option ℕ) (code start : ℕ) (e : Error) (mid new : Reader) → IsCode p code → entry_at p code ≡ unknown → IsAfterCode start p code mid →
     new ≡ at_position mid start → IsReadFault e.message → e.offset ≡ mid.start + start → HasFault (OperatorFault mid.features k) e (at_position mid start) →
-    RefusesOperator (EncodesAllowed mid.features k) (OperatorFault mid.features k) e (at_position mid start) new
+    DecodesOperator (EncodesAllowed mid.features k) (OperatorFault mid.features k) (Err e) (at_position mid start) new
 refuses_unknown k p code start e mid new c is b went readable at fault =
     refuses_opcode k p code start e mid new c b (λ head after. none_unknown mid.features k p code head after c is) went readable (omega (arith, at))
     (omega (arith, at, b.begun)) fault
@@ -207,16 +203,16 @@ lacks_not f g has (needs, without) = without (has needs)
 
 pub checked_refused : {V A : Type 0} (visits : V → Operator → A → V → Type 0) (k : FrameKind) (code : ℕ) (g : Guard) (ks : List Kind) (start : ℕ) (e : Error) (mid now new : Reader)
     (v : V) → code < 256 → entry_at None code ≡ guarded g ks → IsAfterCode start None code mid → now ≡ mid →
-    (NeedsLegacy g → HasFeature legacy_exceptions mid.features) → Allows k (guarded_role g) → RefusesKinds ks false start e now new →
+    (NeedsLegacy g → HasFeature legacy_exceptions mid.features) → Allows k (guarded_role g) → RefusesKinds ks (λ r. ⊥) start e now new →
     Decodes visits (EncodesAllowed mid.features k) (OperatorFault mid.features k) (Err e) (at_position mid start) new v v
 checked_refused visits k code g ks start e mid now new v small is b stays has allows h =
-    refuses_guarded visits k code g ks start e mid new v small is b (lacks_not mid.features g has) allows (subst (λ z. RefusesKinds ks false start e z new) stays h)
+    refuses_guarded visits k code g ks start e mid new v small is b (lacks_not mid.features g has) allows (subst (λ z. RefusesKinds ks (λ r. ⊥) start e z new) stays h)
 
 pub checked_visited : {V A : Type 0} (visits : V → Operator → A → V → Type 0) (Fault : Message → Reader → ℕ → Type 0) (k : FrameKind) (code : ℕ) (g : Guard) (ks : List Kind)
     (is : List Immediate) (start : ℕ) (mid now new : Reader) (v w : V) (a : A) → entry_at None code ≡ guarded g ks → IsAfterCode start None code mid → now ≡ mid →
     (NeedsLegacy g → HasFeature legacy_exceptions mid.features) → Allows k (guarded_role g) → VisitsRow visits None code is v a w →
-    (text : List ℕ) × EncodesKinds now.features ks text is × Takes now new text →
+    HasRead (EncodesKinds now.features ks) is now new →
     Decodes visits (EncodesAllowed mid.features k) Fault (Ok a) (at_position mid start) new v w
 checked_visited visits Fault k code g ks is start mid now new v w a e b stays has allows vis i =
     visited_guarded visits Fault k code g ks is start mid new v w a e b has allows vis
-    (subst (λ (z : Reader). (text : List ℕ) × EncodesKinds z.features ks text is × Takes z new text) stays i)
+    (subst (λ (z : Reader). HasRead (EncodesKinds z.features ks) is z new) stays i)

@@ -1,11 +1,10 @@
 -- Sequences of immediates of given kinds.
-use Rattle.std.proofs.Common.{◌≡◌, ◌≢◌, ℕ, ◌+◌, ◌≤◌, ◌⊎◌, inl, inr, Bool, true, false, List, [], ◌∷◌, ◌++◌, Err, refl, sym, subst, ap, ◌∙◌, append_assoc, arith}
+use Rattle.std.proofs.Common.{◌≡◌, ◌≢◌, ℕ, ◌+◌, ◌≤◌, ◌⊎◌, inl, inr, List, [], ◌∷◌, ◌++◌, Err, refl, sym, subst, ap, ◌∙◌, append_assoc, arith}
 use Rattle.std.proofs.lemmas.List.{append-nil}
 use Rattle.std.specs.Int.{w32, w64}
 use Rattle.wasm_instr.specs.below.bytes.error.Error.{Error}
 use Rattle.wasm_instr.specs.below.bytes.features.WasmFeatures.{WasmFeatures}
 use Rattle.wasm_instr.specs.below.bytes.message.Message.TheVariants as message
-use Rattle.wasm_instr.specs.below.Fault.{HasFault}
 use Rattle.wasm_instr.specs.below.FromReader.{ReadsValue}
 use Rattle.wasm_instr.specs.below.Number.{EncodesUnsigned, EncodesSigned, EncodesFixed}
 use Rattle.wasm_instr.specs.below.Refusal.{IsReadFault}
@@ -27,7 +26,7 @@ use Rattle.wasm_instr.specs.imm.Vectors.{EncodesSixteen, EncodesVector}
 use Rattle.wasm_instr.proofs.of_imm.Faults.{none_here}
 use Rattle.wasm_instr.specs.Immediate.{Immediate, unsigned_32, signed_32, signed_64, float_32, float_64, vector, one_lane, sixteen_lanes, memory_argument, memory_index, table_index_32, order, fence_order, heap_type, cast, block_type, branch_table, select_types, try_clauses, resume_clauses, Kind, is_unsigned_32, is_signed_32, is_signed_64, is_float_32, is_float_64, is_vector, is_one_lane, is_sixteen_lanes, is_memory_argument, is_memory_index, is_table_index, is_order, is_fence_order, is_heap_type, is_cast, is_block_type, is_branch_table, is_select_types, is_try_clauses, is_resume_clauses, kind_of, EncodesImmediate}
 use Rattle.wasm_instr.proofs.ImmediatePrefixCodes.{immediate_prefix_code}
-use Rattle.wasm_decode_opcodes.specs.Decoding.{IsRefusedAfterCode}
+use Rattle.wasm_decode_opcodes.specs.Decoding.{IsRefusedKinds}
 use Rattle.wasm_decode_opcodes.specs.Kinds.{EncodesKind, EncodesKinds}
 use Rattle.wasm_decode_opcodes.specs.OperatorFaults.{KindFault, KindsFault}
 
@@ -215,25 +214,23 @@ none_kind : {X : Type 0} (P : List ℕ → X → Type 0) (f : WasmFeatures) (k :
     NoPrefix P bytes → NoPrefix (EncodesKind f k) bytes
 none_kind P f k immediate o bytes none text left i h eq = let x = o.through text i h in none text left x.0 x.1 eq
 
--- The claims of a failed call: the reader went back, no such immediates follow, and the fault.
-abbrev pub RefusesKinds : List Kind → Bool → ℕ → Error → Reader → Reader → Type 0
-RefusesKinds ks takes start e old new =
-    (new ≡ at_position old start) × IsRefusedAfterCode (EncodesKinds old.features ks) takes start e old × HasFault (KindsFault old.features (old.start + start) ks) e old
+-- `ReadsKinds` of a failed call that goes back.
+abbrev pub RefusesKinds : List Kind → (Reader → Type 0) → ℕ → Error → Reader → Reader → Type 0
+RefusesKinds ks Memory start e old new = (new ≡ at_position old start) × IsRefusedKinds ks Memory start e old
 
 -- reading the first immediate fails, and the call went back
-pub first_refused : {X : Type 0} (P : List ℕ → X → Type 0) (k : Kind) (ks : List Kind) (immediate : X → Immediate) (takes : Bool) (start : ℕ) (e reported : Error)
+pub first_refused : {X : Type 0} (P : List ℕ → X → Type 0) (k : Kind) (ks : List Kind) (immediate : X → Immediate) (Memory : Reader → Type 0) (start : ℕ) (e : Error)
     (old mid new : Reader) → OfKind P old.features k immediate → start ≤ old.position →
-    Reads P (KindFault old.features (old.start + start) k) (Err e) old mid → new ≡ at_position mid start → reported ≡ e → RefusesKinds (k ∷ ks) takes start reported old new
-first_refused P k ks immediate takes start e reported old mid new o begun (same, h, fault) went kept =
-    subst (λ z. RefusesKinds (k ∷ ks) takes start z old new) (sym kept) (
-      went ∙ ap (λ z. at_position z start) same,
-      record {
-        refuses = λ more follow. none_first P old.features k ks immediate o (rest old ++ more) (h.refuses more follow);
-        ahead = (let a = h.ahead in (omega (arith, a.0, begun), a.1));
-        memory = λ m. absurd (subst IsReadFault m h.fault);
-      },
-      λ some. inl (none_kind P old.features k immediate o (rest old) (refused_now P e old h), fault),
-    )
+    Reads P (KindFault old.features (old.start + start) k) (Err e) old mid → new ≡ at_position mid start → RefusesKinds (k ∷ ks) Memory start e old new
+first_refused P k ks immediate Memory start e old mid new o begun (same, h, fault) went = (
+  went ∙ ap (λ z. at_position z start) same,
+  record {
+    refuses = λ more follow. none_first P old.features k ks immediate o (rest old ++ more) (h.refuses more follow);
+    ahead = (let a = h.ahead in (omega (arith, a.0, begun), a.1));
+    fault = λ some. inl (none_kind P old.features k immediate o (rest old) (refused_now P e old h), fault);
+    memory = λ m. absurd (subst IsReadFault m h.fault);
+  },
+)
 
 pub moved_features : (old mid : Reader) (text : List ℕ) → Takes old mid text → mid.features ≡ old.features
 moved_features old mid text t = ap (λ (r : Reader). r.features) t.moved
@@ -242,10 +239,10 @@ pub moved_start : (old mid : Reader) (text : List ℕ) → Takes old mid text �
 moved_start old mid text t = ap (λ (r : Reader). r.start) t.moved
 
 -- reading an immediate after the first one fails
-pub later_refused : {X : Type 0} (P : List ℕ → X → Type 0) (k : Kind) (ks : List Kind) (immediate : X → Immediate) (takes : Bool) (start : ℕ) (e : Error)
-    (old mid new : Reader) (x : X) → OfKind P old.features k immediate → HasRead P x old mid → RefusesKinds ks takes start e mid new →
-    RefusesKinds (k ∷ ks) takes start e old new
-later_refused P k ks immediate takes start e old mid new x o (text, p, t) (went, h, fault) =
+pub later_refused : {X : Type 0} (P : List ℕ → X → Type 0) (k : Kind) (ks : List Kind) (immediate : X → Immediate) (Memory Later : Reader → Type 0) (start : ℕ) (e : Error)
+    (old mid new : Reader) (x : X) → OfKind P old.features k immediate → HasRead P x old mid → (Later mid → Memory old) → RefusesKinds ks Later start e mid new →
+    RefusesKinds (k ∷ ks) Memory start e old new
+later_refused P k ks immediate Memory Later start e old mid new x o (text, p, t) may (went, h) =
     let features = moved_features old mid text t in
     let starts = moved_start old mid text t in
     let back : at_position mid start ≡ at_position old start = ap (λ (r : Reader). at_position r start) t.moved in (
@@ -253,15 +250,15 @@ later_refused P k ks immediate takes start e old mid new x o (text, p, t) (went,
       record {
         refuses = λ more follow. none features more (h.refuses more follow);
         ahead = subst (λ (r : Reader). IsAhead r e.offset) back h.ahead;
-        memory = λ m. (let g = h.memory m in (g.0, g.1 ∙ ap (λ z. z + start) starts));
+        fault = λ some. inr (
+          immediate x,
+          mid,
+          (text, (o.kind x, o.encodes text x p), t),
+          subst (λ z. KindsFault z (old.start + start) ks e.message mid e.offset) features
+              (subst (λ z. KindsFault mid.features (z + start) ks e.message mid e.offset) starts (h.fault some)),
+        );
+        memory = λ m. (let g = h.memory m in (may g.0, g.1 ∙ ap (λ z. z + start) starts));
       },
-      λ some. inr (
-        immediate x,
-        mid,
-        (text, (o.kind x, o.encodes text x p), t),
-        subst (λ z. KindsFault z (old.start + start) ks e.message mid e.offset) features
-            (subst (λ z. KindsFault mid.features (z + start) ks e.message mid e.offset) starts (fault some)),
-      ),
     )
   where
     none : mid.features ≡ old.features → (more : List ℕ) → NoPrefix (EncodesKinds mid.features ks) (rest mid ++ more) →
@@ -276,7 +273,7 @@ later_refused P k ks immediate takes start e old mid new x o (text, p, t) (went,
 
 -- all were read
 pub last_read : {X : Type 0} (P : List ℕ → X → Type 0) (k : Kind) (immediate : X → Immediate) (old new : Reader) (x : X) → OfKind P old.features k immediate →
-    HasRead P x old new → (text : List ℕ) × EncodesKinds old.features (k ∷ []) text (immediate x ∷ []) × Takes old new text
+    HasRead P x old new → HasRead (EncodesKinds old.features (k ∷ [])) (immediate x ∷ []) old new
 last_read P k immediate old new x o (text, p, t) = (
   text,
   (ap (λ z. z ∷ []) (o.kind x), (text, [], sym (append-nil text), o.encodes text x p, refl)),
@@ -284,8 +281,8 @@ last_read P k immediate old new x o (text, p, t) = (
 )
 
 pub later_read : {X : Type 0} (P : List ℕ → X → Type 0) (k : Kind) (ks : List Kind) (immediate : X → Immediate) (old mid new : Reader) (x : X) (is : List Immediate) →
-    OfKind P old.features k immediate → HasRead P x old mid → (text : List ℕ) × EncodesKinds mid.features ks text is × Takes mid new text →
-    (text : List ℕ) × EncodesKinds old.features (k ∷ ks) text (immediate x ∷ is) × Takes old new text
+    OfKind P old.features k immediate → HasRead P x old mid → HasRead (EncodesKinds mid.features ks) is mid new →
+    HasRead (EncodesKinds old.features (k ∷ ks)) (immediate x ∷ is) old new
 later_read P k ks immediate old mid new x is o (first, p, t) (more, q, u) = (
   first ++ more,
   kinds_cons old.features k ks first more (immediate x) is (o.kind x, o.encodes first x p)
@@ -296,20 +293,20 @@ later_read P k ks immediate old mid new x is o (first, p, t) (more, q, u) = (
 -- ---- immediates that may allocate
 
 -- reading such an immediate fails, and allocation failure is reported at the operator's start
-pub memory_refused : {X : Type 0} (P : List ℕ → X → Type 0) (k : Kind) (immediate : X → Immediate) (Memory : Reader → Type 0) (start : ℕ) (e reported : Error) (old mid new : Reader) →
-    OfKind P old.features k immediate → start ≤ old.position → offset_of old ≤ end_of old →
-    ReadsValue P (KindFault old.features (old.start + start) k) Memory (Err e) old mid → new ≡ at_position mid start → IsRefusedFrom (mid.start + start) e reported →
-    RefusesKinds (k ∷ []) true start reported old new
-memory_refused P k immediate Memory start e reported old mid new o begun within (same, h) went (kept, place) =
+pub memory_refused : {X : Type 0} (P : List ℕ → X → Type 0) (k : Kind) (immediate : X → Immediate) (Memory Inner : Reader → Type 0) (start : ℕ) (e reported : Error)
+    (old mid new : Reader) → OfKind P old.features k immediate → start ≤ old.position → offset_of old ≤ end_of old → (Inner old → Memory old) →
+    ReadsValue P (KindFault old.features (old.start + start) k) Inner (Err e) old mid → new ≡ at_position mid start → IsRefusedFrom (mid.start + start) e reported →
+    RefusesKinds (k ∷ []) Memory start reported old new
+memory_refused P k immediate Memory Inner start e reported old mid new o begun within may (same, h) went (kept, place) =
     let starts : mid.start + start ≡ old.start + start = ap (λ (r : Reader). r.start + start) same in
     let here = subst (λ z. Place z) starts place in (
       went ∙ ap (λ z. at_position z start) same,
       record {
         refuses = λ more follow. none_first P old.features k [] immediate o (rest old ++ more) (h.refuses more (subst (λ m. MayFollow m more) kept follow));
         ahead = placed here;
-        memory = λ m. (refl, said here m);
+        fault = faulty here;
+        memory = λ m. (may (h.memory (sym kept ∙ m)).0, said here m);
       },
-      λ some. faulty here some,
     )
   where
     Place : ℕ → Type 0
@@ -334,19 +331,15 @@ memory_refused P k immediate Memory start e reported old mid new o begun within 
 
 -- ---- the byte of a fence, whose error may be at the operator's start
 
-pub fence_refused : (start begun : ℕ) (e reported : Error) (old mid new : Reader) → begun ≡ old.start + start → start ≤ old.position →
-    ReadsFrom begun (EncodesFence old.features) (FenceFault old.features begun) (Err e) old mid → new ≡ at_position mid start → reported ≡ e →
-    RefusesKinds (is_fence_order ∷ []) false start reported old new
-fence_refused start begun e reported old mid new at before (same, refuses, readable, from, to, fault) went kept =
-    subst (λ z. RefusesKinds (is_fence_order ∷ []) false start z old new) (sym kept) (
-      went ∙ ap (λ z. at_position z start) same,
-      record {
-        refuses = λ more follow. none_first (EncodesFence old.features) old.features is_fence_order [] fence_order (of_fence old.features) (rest old ++ more) (refuses more follow);
-        ahead = (omega (arith, from, at), to);
-        memory = λ m. absurd (subst IsReadFault m readable);
-      },
-      λ some. inl (
+pub fence_refused : (start begun : ℕ) (e : Error) (old mid : Reader) → begun ≡ old.start + start → start ≤ old.position →
+    ReadsFrom begun (EncodesFence old.features) (FenceFault old.features begun) (Err e) old mid → IsRefusedKinds (is_fence_order ∷ []) (λ r. ⊥) start e old
+fence_refused start begun e old mid at before (same, refuses, readable, from, to, fault) =
+    record {
+      refuses = λ more follow. none_first (EncodesFence old.features) old.features is_fence_order [] fence_order (of_fence old.features) (rest old ++ more) (refuses more follow);
+      ahead = (omega (arith, from, at), to);
+      fault = λ some. inl (
         none_kind (EncodesFence old.features) old.features is_fence_order fence_order (of_fence old.features) (rest old) (none_here (EncodesFence old.features) e.message old some refuses),
         subst (λ z. FenceFault old.features z e.message old e.offset) at fault,
-      ),
-    )
+      );
+      memory = λ m. absurd (subst IsReadFault m readable);
+    }

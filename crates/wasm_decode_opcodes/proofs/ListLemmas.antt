@@ -1,15 +1,18 @@
 -- Immediates that own a list.
 use Rattle.std.proofs.Common.{◌≡◌, ℕ, List, [], ◌∷◌, ◌++◌, sym, subst, ap, ◌∙◌, append_assoc}
 use Rattle.wasm_instr.specs.below.bytes.features.WasmFeatures.{WasmFeatures}
-use Rattle.wasm_instr.specs.below.Source.{Reader, rest, Takes, NoPrefix}
+use Rattle.wasm_instr.specs.below.Number.{EncodesUnsigned}
+use Rattle.wasm_instr.specs.below.Source.{Reader, rest, NoPrefix, HasRead}
 use Rattle.wasm_instr.proofs.of_below.TakesLemmas.{same_rest}
 use Rattle.wasm_instr.specs.imm.control.select.Select.TheVariants as select
 use Rattle.wasm_instr.specs.imm.HandlerTables.{EncodesOne}
-use Rattle.wasm_instr.specs.Immediate.{Immediate, Kind, select_types, try_clauses, resume_clauses, is_select_types, is_try_clauses, is_resume_clauses}
+use Rattle.wasm_instr.specs.Immediate.{Immediate, Kind, unsigned_32, select_types, try_clauses, resume_clauses, is_unsigned_32, is_select_types, is_try_clauses, is_resume_clauses}
+use Rattle.wasm_instr.proofs.of_imm.ListRefusals.{some_then}
 use Rattle.wasm_instr.proofs.ImmediatePrefixCodes.{immediates_prefix_code}
 use Rattle.wasm_decode_opcodes.specs.Kinds.{EncodesKinds}
 use Rattle.wasm_decode_opcodes.specs.Owners.{OwnList, EncodesWithoutList}
-use Rattle.wasm_decode_opcodes.proofs.KindLemmas.{moved_features}
+use Rattle.wasm_decode_opcodes.specs.Refused.{EncodesToCount, KindsMayAllocate}
+use Rattle.wasm_decode_opcodes.proofs.KindLemmas.{last_read, moved_features, of_unsigned}
 use Rattle.wasm_decode_opcodes.proofs.SequenceLemmas.{kinds_split}
 
 pub tries_own : (f : WasmFeatures) (bytes : List ℕ) → NoPrefix (EncodesWithoutList f (is_try_clauses ∷ [])) bytes
@@ -40,7 +43,7 @@ own_after (resume_clauses t ∷ is) js h = tt
 own_after (i ∷ is) js h = own_after is js h
 
 -- two parts of which the second must own a list
-pub second_owns : (ks ls : List Kind) (is : List Immediate) (old mid : Reader) → (text : List ℕ) × EncodesKinds old.features ks text is × Takes old mid text →
+second_owns : (ks ls : List Kind) (is : List Immediate) (old mid : Reader) → HasRead (EncodesKinds old.features ks) is old mid →
     NoPrefix (EncodesWithoutList mid.features ls) (rest mid) → NoPrefix (EncodesWithoutList old.features (ks ++ ls)) (rest old)
 second_owns ks ls is old mid (text, p, t) none whole left js (h, without) eq =
     let s = kinds_split old.features ks ls whole js h in
@@ -49,3 +52,11 @@ second_owns ks ls is old mid (text, p, t) none whole left js (h, without) eq =
     none s.after left s.second
     (subst (λ z. EncodesKinds z ls s.after s.second) (sym (moved_features old mid text t)) s.is_second, λ own. without (subst OwnList (sym s.both) (own_after s.first s.second own)))
     (same_rest text s.before (rest mid) (s.after ++ left) c.1 same)
+
+-- an index before immediates that may allocate
+pub index_before : (ks : List Kind) (old mid : Reader) (n : ℕ) → HasRead (EncodesUnsigned 32) n old mid → KindsMayAllocate ks mid → KindsMayAllocate (is_unsigned_32 ∷ ks) old
+index_before ks old mid n read h =
+    record {
+      sized = some_then (EncodesUnsigned 32) (λ index. EncodesToCount ks) old mid n read h.sized;
+      owns = second_owns (is_unsigned_32 ∷ []) ks (unsigned_32 n ∷ []) old mid (last_read (EncodesUnsigned 32) is_unsigned_32 unsigned_32 old mid n (of_unsigned old.features) read) h.owns;
+    }

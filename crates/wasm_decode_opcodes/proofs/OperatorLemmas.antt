@@ -1,11 +1,12 @@
 -- From the immediates after an opcode to the operator.
-use Rattle.std.proofs.Common.{◌≡◌, ℕ, suc, ◌+◌, ◌-◌, ◌≤◌, ◌<◌, inl, inr, Bool, true, false, List, [], ◌∷◌, ◌++◌, length, length-append, length-drop, drop, Option, Some, None, Ok, Err, map, refl, sym, subst, ap, ◌∙◌, append_assoc, arith}
+use Rattle.std.proofs.Common.{◌≡◌, ℕ, suc, ◌+◌, ◌-◌, ◌≤◌, ◌<◌, inl, inr, List, [], ◌∷◌, ◌++◌, length, length-append, length-drop, drop, Option, Some, None, Ok, Err, map, refl, sym, subst, ap, ◌∙◌, append_assoc, arith}
 use Rattle.std.proofs.lemmas.List.{drop-drop}
 use Rattle.wasm_instr.specs.below.bytes.error.Error.{Error}
 use Rattle.wasm_instr.specs.below.bytes.features.WasmFeatures.{WasmFeatures}
 use Rattle.wasm_instr.specs.below.bytes.message.Message.{Message}
 use Rattle.wasm_instr.specs.below.bytes.message.Message.TheVariants as message
 use Rattle.wasm_instr.specs.below.Fault.{HasFault}
+use Rattle.wasm_instr.specs.below.FromReader.{IsRefused}
 use Rattle.wasm_instr.specs.below.Number.{EncodesUnsigned}
 use Rattle.wasm_instr.specs.below.Source.{Reader, rest, offset_of, end_of, at_position, Takes, NoPrefix, HasRead, IsByte}
 use Rattle.wasm_instr.proofs.of_below.PrefixCode.{unsigned_prefix_code}
@@ -19,13 +20,13 @@ use Rattle.wasm_instr.specs.Immediate.{Immediate, Kind, kind_of, EncodesImmediat
 use Rattle.wasm_instr.specs.Roles.{role_of}
 use Rattle.wasm_instr.specs.Row.{prefix_of, opcode_of, immediates_of}
 use Rattle.wasm_decode_opcodes.specs.Allowed.{EncodesAllowed}
-use Rattle.wasm_decode_opcodes.specs.Decoding.{Decodes, IsAfterCode, VisitsRow, IsRefusedAfterCode}
+use Rattle.wasm_decode_opcodes.specs.Decoding.{Decodes, IsAfterCode, VisitsRow, IsRefusedKinds}
 use Rattle.wasm_decode_opcodes.specs.declared.guard.Guard.{Guard}
-use Rattle.wasm_decode_opcodes.specs.Entry.{Entry, prefixes, unknown, free, guarded, kinds_of, guard_of, guarded_entry, entry_of, HasKinds}
+use Rattle.wasm_decode_opcodes.specs.Entry.{Entry, prefixes, unknown, free, guarded, kinds_of, guard_of, guarded_entry, entry_of, entry_kinds}
 use Rattle.wasm_decode_opcodes.specs.Entries.{entry_at}
 use Rattle.wasm_decode_opcodes.specs.Kinds.{EncodesKinds}
 use Rattle.wasm_decode_opcodes.specs.OperatorFaults.{KindsFault, FreeFault, SubopcodeFault, EntryFault, OpcodeFault, OperatorFault}
-use Rattle.wasm_decode_opcodes.specs.Refused.{IsRefusedOperator, MayAllocate}
+use Rattle.wasm_decode_opcodes.specs.Refused.{MayAllocate}
 use Rattle.wasm_decode_opcodes.proofs.KindLemmas.{RefusesKinds}
 use Rattle.wasm_decode_opcodes.proofs.EntriesAgree.{entry_agrees, prefix_agrees}
 
@@ -86,14 +87,15 @@ own f p code head after text left op c h s eq =
 pub same_entry : (op : Operator) (p : Option ℕ) (code : ℕ) → prefix_of op ≡ p → opcode_of op ≡ code → entry_at p code ≡ entry_of op
 same_entry op p code prefix opcode = ap (λ z. entry_at z code) (sym prefix) ∙ ap (entry_at (prefix_of op)) (sym opcode) ∙ entry_agrees op
 
-kinds_in : (g : Option Guard) (own_kinds ks : List Kind) → HasKinds (guarded_entry g own_kinds) ks → own_kinds ≡ ks
-kinds_in None own_kinds ks h = h
-kinds_in (Some g) own_kinds ks h = h
+kinds_in : (g : Option Guard) (own_kinds ks : List Kind) → entry_kinds (guarded_entry g own_kinds) ≡ Some ks → own_kinds ≡ ks
+kinds_in None own_kinds ks h = cc h
+kinds_in (Some g) own_kinds ks h = cc h
 
 -- the kinds in the entry of an opcode are those of its operators
-pub kinds_of_code : (op : Operator) (p : Option ℕ) (code : ℕ) (ks : List Kind) → prefix_of op ≡ p → opcode_of op ≡ code → HasKinds (entry_at p code) ks → kinds_of op ≡ ks
+pub kinds_of_code : (op : Operator) (p : Option ℕ) (code : ℕ) (ks : List Kind) → prefix_of op ≡ p → opcode_of op ≡ code → entry_kinds (entry_at p code) ≡ Some ks →
+    kinds_of op ≡ ks
 kinds_of_code op p code ks prefix opcode h =
-    kinds_in (guard_of (role_of op)) (kinds_of op) ks (subst (λ z. HasKinds z ks) (same_entry op p code prefix opcode) h)
+    kinds_in (guard_of (role_of op)) (kinds_of op) ks (ap entry_kinds (sym (same_entry op p code prefix opcode)) ∙ h)
 
 -- the guard in the entry of an opcode is that of its operators
 guard_in : (g : Option Guard) (own_kinds ks : List Kind) → guarded_entry g own_kinds ≡ free ks → g ≡ None
@@ -136,25 +138,27 @@ within_after_code start p code mid b = go b.opcode
         omega arith
 
 -- if no immediates of the kinds follow the opcode, no operator begins at its start
-pub none_after : (f : WasmFeatures) (k : FrameKind) (p : Option ℕ) (code : ℕ) (ks : List Kind) (head after : List ℕ) → IsCode p code → HasKinds (entry_at p code) ks →
-    EncodesOpcode p head code → NoPrefix (EncodesKinds f ks) after → NoPrefix (EncodesAllowed f k) (head ++ after)
+pub none_after : (f : WasmFeatures) (k : FrameKind) (p : Option ℕ) (code : ℕ) (ks : List Kind) (head after : List ℕ) → IsCode p code →
+    entry_kinds (entry_at p code) ≡ Some ks → EncodesOpcode p head code → NoPrefix (EncodesKinds f ks) after → NoPrefix (EncodesAllowed f k) (head ++ after)
 none_after f k p code ks head after c has h none text left op s eq =
     let o = own f p code head after text left op c h s.0 eq in
     none o.after left (immediates_of op) (kinds_of_code op p code ks o.same_prefix o.same_code has, o.immediates) o.goes_on
 
-pub refused_operator : (k : FrameKind) (p : Option ℕ) (code : ℕ) (ks : List Kind) (takes : Bool) (start : ℕ) (e : Error) (mid : Reader) → IsCode p code →
-    HasKinds (entry_at p code) ks → IsAfterCode start p code mid → IsRefusedAfterCode (EncodesKinds mid.features ks) takes start e mid →
-    (takes ≡ true → e.message ≡ message.OutOfMemory → MayAllocate (EncodesAllowed mid.features k) (at_position mid start)) →
-    IsRefusedOperator (EncodesAllowed mid.features k) e (at_position mid start)
-refused_operator k p code ks takes start e mid c has b h memory = go b.opcode
+pub refused_operator : (k : FrameKind) (p : Option ℕ) (code : ℕ) (ks : List Kind) (Memory : Reader → Type 0) (start : ℕ) (e : Error) (mid : Reader) → IsCode p code →
+    entry_kinds (entry_at p code) ≡ Some ks → IsAfterCode start p code mid → IsRefusedKinds ks Memory start e mid →
+    (Memory mid → MayAllocate (EncodesAllowed mid.features k) (at_position mid start)) → HasFault (OperatorFault mid.features k) e (at_position mid start) →
+    IsRefused (EncodesAllowed mid.features k) (OperatorFault mid.features k) (MayAllocate (EncodesAllowed mid.features k)) e (at_position mid start)
+refused_operator k p code ks Memory start e mid c has b h may fault = go b.opcode
   where
-    go : HasRead (EncodesOpcode p) code (at_position mid start) mid → IsRefusedOperator (EncodesAllowed mid.features k) e (at_position mid start)
+    go : HasRead (EncodesOpcode p) code (at_position mid start) mid →
+        IsRefused (EncodesAllowed mid.features k) (OperatorFault mid.features k) (MayAllocate (EncodesAllowed mid.features k)) e (at_position mid start)
     go (head, opcode, t) =
         record {
           refuses = λ more follow. subst (NoPrefix (EncodesAllowed mid.features k)) (sym (ap (λ z. z ++ more) t.parts ∙ append_assoc head (rest mid) more))
               (none_after mid.features k p code ks head (rest mid ++ more) c has opcode (h.refuses more follow));
           ahead = h.ahead;
-          memory = λ m. (let g = h.memory m in (g.1, memory g.0 m));
+          fault = fault;
+          memory = λ m. (let g = h.memory m in (may g.0, g.1));
         }
 
 -- ---- faults
@@ -200,21 +204,12 @@ free_fault k (Some p) code ks start e mid c is b fault some =
 
 -- ---- calls
 
-pub has_kinds : (p : Option ℕ) (code : ℕ) (ks : List Kind) → entry_at p code ≡ free ks → HasKinds (entry_at p code) ks
-has_kinds p code ks is = subst (λ z. HasKinds z ks) (sym is) refl
-
 -- reading the immediates fails, after an opcode without a guard
 pub refuses_free : {V A : Type 0} (visits : V → Operator → A → V → Type 0) (k : FrameKind) (p : Option ℕ) (code : ℕ) (ks : List Kind) (start : ℕ) (e : Error) (mid new : Reader)
-    (v : V) → IsCode p code → entry_at p code ≡ free ks → IsAfterCode start p code mid → RefusesKinds ks false start e mid new →
+    (v : V) → IsCode p code → entry_at p code ≡ free ks → IsAfterCode start p code mid → RefusesKinds ks (λ r. ⊥) start e mid new →
     Decodes visits (EncodesAllowed mid.features k) (OperatorFault mid.features k) (Err e) (at_position mid start) new v v
-refuses_free visits k p code ks start e mid new v c is b (went, h, fault) = (
-  refl,
-  (
-    went,
-    refused_operator k p code ks false start e mid c (has_kinds p code ks is) b h (λ takes m. absurd (cc takes)),
-    free_fault k p code ks start e mid c is b fault,
-  ),
-)
+refuses_free visits k p code ks start e mid new v c is b (went, h) =
+    (refl, (went, refused_operator k p code ks (λ r. ⊥) start e mid c (ap entry_kinds is) b h (λ none. absurd none) (free_fault k p code ks start e mid c is b h.fault)))
 
 -- the operator whose parts were read
 pub encodes_read : (f : WasmFeatures) (op : Operator) (p : Option ℕ) (code : ℕ) (is : List Immediate) (head text : List ℕ) → EncodesOpcode p head code →
@@ -232,7 +227,7 @@ encodes_read f op p code is head text h i prefix opcode immediates enabled =
 -- the immediates after an opcode were read, and the visit was made
 pub reads_visited : {V A : Type 0} (visits : V → Operator → A → V → Type 0) (Fault : Message → Reader → ℕ → Type 0) (k : FrameKind) (p : Option ℕ) (code : ℕ) (ks : List Kind)
     (is : List Immediate) (start : ℕ) (mid new : Reader) (v w : V) (a : A) → IsAfterCode start p code mid → VisitsRow visits p code is v a w →
-    (text : List ℕ) × EncodesKinds mid.features ks text is × Takes mid new text →
+    HasRead (EncodesKinds mid.features ks) is mid new →
     ((op : Operator) → prefix_of op ≡ p → opcode_of op ≡ code → IsEnabled mid.features op × Allows k (role_of op)) →
     Decodes visits (EncodesAllowed mid.features k) Fault (Ok a) (at_position mid start) new v w
 reads_visited visits Fault k p code ks is start mid new v w a b (op, prefix, opcode, immediates, vis) (text, i, taken) allowed = go b.opcode
@@ -241,16 +236,18 @@ reads_visited visits Fault k p code ks is start mid new v w a b (op, prefix, opc
         Decodes visits (EncodesAllowed mid.features k) Fault (Ok a) (at_position mid start) new v w
     go (head, h, t) =
         let g = allowed op prefix opcode in (
-          head ++ text,
           op,
-          (encodes_read mid.features op p code is head text h i.1 prefix opcode immediates g.0, g.1),
-          takes_then (at_position mid start) mid new head text t taken,
+          (
+            head ++ text,
+            (encodes_read mid.features op p code is head text h i.1 prefix opcode immediates g.0, g.1),
+            takes_then (at_position mid start) mid new head text t taken,
+          ),
           vis,
         )
 
 pub visited_free : {V A : Type 0} (visits : V → Operator → A → V → Type 0) (Fault : Message → Reader → ℕ → Type 0) (k : FrameKind) (p : Option ℕ) (code : ℕ) (ks : List Kind)
     (is : List Immediate) (start : ℕ) (mid new : Reader) (v w : V) (a : A) → entry_at p code ≡ free ks → IsAfterCode start p code mid → VisitsRow visits p code is v a w →
-    (text : List ℕ) × EncodesKinds mid.features ks text is × Takes mid new text →
+    HasRead (EncodesKinds mid.features ks) is mid new →
     Decodes visits (EncodesAllowed mid.features k) Fault (Ok a) (at_position mid start) new v w
 visited_free visits Fault k p code ks is start mid new v w a e b vis i =
     reads_visited visits Fault k p code ks is start mid new v w a b vis i

@@ -1,17 +1,16 @@
 -- Sequences whose reader goes back only at the end.
-use Rattle.std.proofs.Common.{◌≡◌, ℕ, ◌+◌, ◌≤◌, inl, inr, Bool, true, false, List, [], ◌∷◌, ◌++◌, length, length-append, drop, Err, map, refl, sym, subst, ap, ◌∙◌, append_assoc, arith}
+use Rattle.std.proofs.Common.{◌≡◌, ℕ, ◌+◌, ◌≤◌, inl, inr, List, [], ◌∷◌, ◌++◌, length, length-append, drop, Err, map, refl, sym, subst, ap, ◌∙◌, append_assoc, arith}
 use Rattle.std.proofs.lemmas.List.{drop-drop}
 use Rattle.std.proofs.Math.Seq.{drop-append_seam}
 use Rattle.wasm_instr.specs.below.bytes.error.Error.{Error}
 use Rattle.wasm_instr.specs.below.bytes.features.WasmFeatures.{WasmFeatures}
 use Rattle.wasm_instr.specs.below.bytes.message.Message.{Message}
-use Rattle.wasm_instr.specs.below.Fault.{HasFault}
-use Rattle.wasm_instr.specs.below.Source.{Reader, rest, at_position, Takes, NoPrefix, IsAhead, Reads, ReadsFrom}
+use Rattle.wasm_instr.specs.below.Source.{Reader, rest, at_position, Takes, NoPrefix, IsAhead, HasRead, Reads, ReadsFrom}
 use Rattle.wasm_instr.proofs.of_below.TakesLemmas.{takes_then, same_rest}
 use Rattle.wasm_instr.specs.imm.Orderings.{EncodesFence, FenceFault}
 use Rattle.wasm_instr.specs.Immediate.{Immediate, Kind, is_fence_order, kind_of, EncodesImmediates}
 use Rattle.wasm_instr.proofs.ImmediatePrefixCodes.{immediates_prefix_code}
-use Rattle.wasm_decode_opcodes.specs.Decoding.{IsRefusedAfterCode}
+use Rattle.wasm_decode_opcodes.specs.Decoding.{IsRefusedKinds, StaysAhead}
 use Rattle.wasm_decode_opcodes.specs.Kinds.{EncodesKinds}
 use Rattle.wasm_decode_opcodes.specs.OperatorFaults.{KindFault, KindsFault}
 use Rattle.wasm_decode_opcodes.proofs.KindLemmas.{OfKind, RefusesKinds, first_refused, fence_refused, moved_features, moved_start}
@@ -103,74 +102,64 @@ fault_second f start (k ∷ ks) ls (i ∷ is) m old mid offset text (a, (first, 
     let s = takes_apart old mid first more (subst (Takes old mid) parts t) in
     inr (i, s.0, (first, (cc a, one), s.1), fault_second f start ks ls is m s.0 mid offset more (cc a, others) s.2 fault)
 
-abbrev pub FailsKinds : List Kind → Bool → ℕ → Error → Reader → Reader → Type 0
-FailsKinds ks allocates start e old new =
-    (new ≡ at_position old new.position) × (old.position ≤ new.position) × IsRefusedAfterCode (EncodesKinds old.features ks) allocates start e old ×
-    HasFault (KindsFault old.features (old.start + start) ks) e old
+-- `ReadsKinds` of a failed call that does not go back.
+abbrev pub FailsKinds : List Kind → (Reader → Type 0) → ℕ → Error → Reader → Reader → Type 0
+FailsKinds ks Memory start e old new = StaysAhead start old new × IsRefusedKinds ks Memory start e old
+
+stays : (start : ℕ) (old new : Reader) → new ≡ old → StaysAhead start old new
+stays start old new same =
+    let position : new.position ≡ old.position = ap (λ (r : Reader). r.position) same in
+    (same ∙ ap (at_position old) (sym position), omega (arith, position))
 
 pub one_failed : {X : Type 0} (P : List ℕ → X → Type 0) (k : Kind) (immediate : X → Immediate) (start : ℕ) (e : Error) (old new : Reader) → OfKind P old.features k immediate →
-    start ≤ old.position → Reads P (KindFault old.features (old.start + start) k) (Err e) old new → FailsKinds (k ∷ []) false start e old new
+    start ≤ old.position → Reads P (KindFault old.features (old.start + start) k) (Err e) old new → FailsKinds (k ∷ []) (λ r. ⊥) start e old new
 one_failed P k immediate start e old new o begun h =
-    let r = first_refused P k [] immediate false start e e old new (at_position new start) o begun h refl refl in
-    let position : new.position ≡ old.position = ap (λ (r : Reader). r.position) h.0 in
-    (h.0 ∙ ap (at_position old) (sym position), omega (arith, position), r.1, r.2)
+    (stays start old new h.0, (first_refused P k [] immediate (λ r. ⊥) start e old new (at_position new start) o begun h refl).1)
 
 pub fence_failed : (start begun : ℕ) (e : Error) (old new : Reader) → begun ≡ old.start + start → start ≤ old.position →
-    ReadsFrom begun (EncodesFence old.features) (FenceFault old.features begun) (Err e) old new → FailsKinds (is_fence_order ∷ []) false start e old new
-fence_failed start begun e old new at before h =
-    let r = fence_refused start begun e e old new (at_position new start) at before h refl refl in
-    let position : new.position ≡ old.position = ap (λ (r : Reader). r.position) h.0 in
-    (h.0 ∙ ap (at_position old) (sym position), omega (arith, position), r.1, r.2)
+    ReadsFrom begun (EncodesFence old.features) (FenceFault old.features begun) (Err e) old new → FailsKinds (is_fence_order ∷ []) (λ r. ⊥) start e old new
+fence_failed start begun e old new at before h = (stays start old new h.0, fence_refused start begun e old new at before h)
 
-pub both_read : (ks ls : List Kind) (is js : List Immediate) (old mid new : Reader) → (text : List ℕ) × EncodesKinds old.features ks text is × Takes old mid text →
-    (text : List ℕ) × EncodesKinds mid.features ls text js × Takes mid new text → (text : List ℕ) × EncodesKinds old.features (ks ++ ls) text (is ++ js) × Takes old new text
+pub both_read : (ks ls : List Kind) (is js : List Immediate) (old mid new : Reader) → HasRead (EncodesKinds old.features ks) is old mid →
+    HasRead (EncodesKinds mid.features ls) js mid new → HasRead (EncodesKinds old.features (ks ++ ls)) (is ++ js) old new
 both_read ks ls is js old mid new (t, p, a) (u, q, b) = (
   t ++ u,
   kinds_then old.features ks ls is js t u p (subst (λ z. EncodesKinds z ls u js) (moved_features old mid t a) q),
   takes_then old mid new t u a b,
 )
 
-pub first_failed : (ks ls : List Kind) (allocates later : Bool) (start : ℕ) (e : Error) (old new : Reader) → (allocates ≡ true → later ≡ true) →
-    FailsKinds ks allocates start e old new → FailsKinds (ks ++ ls) later start e old new
-first_failed ks ls allocates later start e old new takes (moved, le, h, fault) = (
-  moved,
-  le,
+pub first_failed : (ks ls : List Kind) (start : ℕ) (e : Error) (old new : Reader) → FailsKinds ks (λ r. ⊥) start e old new → FailsKinds (ks ++ ls) (λ r. ⊥) start e old new
+first_failed ks ls start e old new (ahead, h) = (
+  ahead,
   record {
     refuses = λ more follow. none_first old.features ks ls (rest old ++ more) (h.refuses more follow);
     ahead = h.ahead;
-    memory = λ m. (let g = h.memory m in (takes g.0, g.1));
+    fault = λ some. fault_first old.features (old.start + start) ks ls e.message old e.offset (h.fault some);
+    memory = h.memory;
   },
-  λ some. fault_first old.features (old.start + start) ks ls e.message old e.offset (fault some),
 )
 
--- `FailsKinds` without the reader after the call.
-abbrev Claims : List Kind → Bool → ℕ → Error → Reader → Type 0
-Claims ks allocates start e old =
-    IsRefusedAfterCode (EncodesKinds old.features ks) allocates start e old × HasFault (KindsFault old.features (old.start + start) ks) e old
-
-second_claims : (ks ls : List Kind) (is : List Immediate) (allocates : Bool) (start : ℕ) (e : Error) (old mid : Reader) (text : List ℕ) →
-    EncodesKinds old.features ks text is → Takes old mid text → Claims ls allocates start e mid → Claims (ks ++ ls) allocates start e old
-second_claims ks ls is allocates start e old mid text p t (h, fault) =
+second_refused : (ks ls : List Kind) (is : List Immediate) (start : ℕ) (e : Error) (old mid : Reader) (text : List ℕ) → EncodesKinds old.features ks text is →
+    Takes old mid text → IsRefusedKinds ls (λ r. ⊥) start e mid → IsRefusedKinds (ks ++ ls) (λ r. ⊥) start e old
+second_refused ks ls is start e old mid text p t h =
     let features = moved_features old mid text t in
-    let starts = moved_start old mid text t in (
-      record {
-        refuses = λ more follow. subst (NoPrefix (EncodesKinds old.features (ks ++ ls))) (sym (ap (λ z. z ++ more) t.parts ∙ append_assoc text (rest mid) more))
-            (none_second old.features ks ls is text (rest mid ++ more) p (subst (λ z. NoPrefix (EncodesKinds z ls) (rest mid ++ more)) features (h.refuses more follow)));
-        ahead = subst (λ (r : Reader). IsAhead r e.offset) (ap (λ (r : Reader). at_position r start) t.moved) h.ahead;
-        memory = λ m. (let g = h.memory m in (g.0, g.1 ∙ ap (λ z. z + start) starts));
-      },
-      λ some. fault_second old.features (old.start + start) ks ls is e.message old mid e.offset text p t
+    let starts = moved_start old mid text t in
+    record {
+      refuses = λ more follow. subst (NoPrefix (EncodesKinds old.features (ks ++ ls))) (sym (ap (λ z. z ++ more) t.parts ∙ append_assoc text (rest mid) more))
+          (none_second old.features ks ls is text (rest mid ++ more) p (subst (λ z. NoPrefix (EncodesKinds z ls) (rest mid ++ more)) features (h.refuses more follow)));
+      ahead = subst (λ (r : Reader). IsAhead r e.offset) (ap (λ (r : Reader). at_position r start) t.moved) h.ahead;
+      fault = λ some. fault_second old.features (old.start + start) ks ls is e.message old mid e.offset text p t
           (subst (λ z. KindsFault z (old.start + start) ls e.message mid e.offset) features
-          (subst (λ z. KindsFault mid.features (z + start) ls e.message mid e.offset) starts (fault some))),
-    )
+          (subst (λ z. KindsFault mid.features (z + start) ls e.message mid e.offset) starts (h.fault some)));
+      memory = λ m. absurd (h.memory m).0;
+    }
 
-pub second_failed : (ks ls : List Kind) (is : List Immediate) (allocates : Bool) (start : ℕ) (e : Error) (old mid new : Reader) →
-    (text : List ℕ) × EncodesKinds old.features ks text is × Takes old mid text → FailsKinds ls allocates start e mid new → FailsKinds (ks ++ ls) allocates start e old new
-second_failed ks ls is allocates start e old mid new (text, p, t) (moved, le, h, fault) =
+pub second_failed : (ks ls : List Kind) (is : List Immediate) (start : ℕ) (e : Error) (old mid new : Reader) → HasRead (EncodesKinds old.features ks) is old mid →
+    FailsKinds ls (λ r. ⊥) start e mid new → FailsKinds (ks ++ ls) (λ r. ⊥) start e old new
+second_failed ks ls is start e old mid new (text, p, t) ((moved, le), h) =
     let position : mid.position ≡ old.position + length text = ap (λ (r : Reader). r.position) t.moved in
-    let s = second_claims ks ls is allocates start e old mid text p t (h, fault) in
-    (moved ∙ ap (λ (r : Reader). at_position r new.position) t.moved, omega (arith, le, position), s.0, s.1)
+    ((moved ∙ ap (λ (r : Reader). at_position r new.position) t.moved, omega (arith, le, position)), second_refused ks ls is start e old mid text p t h)
 
-pub gone_back : (ks : List Kind) (allocates : Bool) (start : ℕ) (e : Error) (old mid new : Reader) → FailsKinds ks allocates start e old mid → new ≡ at_position mid start →
-    RefusesKinds ks allocates start e old new
-gone_back ks allocates start e old mid new (moved, le, h, fault) back = (back ∙ ap (λ (r : Reader). at_position r start) moved, h, fault)
+pub gone_back : (ks : List Kind) (Memory : Reader → Type 0) (start : ℕ) (e : Error) (old mid new : Reader) → FailsKinds ks Memory start e old mid → new ≡ at_position mid start →
+    RefusesKinds ks Memory start e old new
+gone_back ks Memory start e old mid new (ahead, h) back = (back ∙ ap (λ (r : Reader). at_position r start) ahead.0, h)

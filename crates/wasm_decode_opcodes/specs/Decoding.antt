@@ -1,10 +1,11 @@
--- Calls that read an operator and have it visited, and the calls for their parts.
-use Rattle.std.specs.Prelude.{◌≡◌, ℕ, ◌+◌, ◌≤◌, Bool, true, List, Option, Result, Ok, Err}
+-- Calls that read an operator and may have it visited, and the calls for their parts.
+use Rattle.std.specs.Prelude.{◌≡◌, ℕ, ◌+◌, ◌≤◌, List, Option, Result, Ok, Err}
 use Rattle.wasm_instr.specs.below.bytes.error.Error.{Error}
 use Rattle.wasm_instr.specs.below.bytes.message.Message.{Message}
 use Rattle.wasm_instr.specs.below.bytes.message.Message.TheVariants as message
 use Rattle.wasm_instr.specs.below.Fault.{HasFault}
-use Rattle.wasm_instr.specs.below.Source.{Reader, rest, at_position, Takes, Refuses, IsAhead, HasRead}
+use Rattle.wasm_instr.specs.below.FromReader.{ReadsValue}
+use Rattle.wasm_instr.specs.below.Source.{Reader, rest, at_position, Refuses, IsAhead, HasRead}
 use Rattle.wasm_instr.specs.grammar.declared.frame_kind.FrameKind.{FrameKind}
 use Rattle.wasm_instr.specs.declared.operator.Operator.{Operator}
 use Rattle.wasm_instr.specs.Encoding.{EncodesOpcode}
@@ -13,18 +14,23 @@ use Rattle.wasm_instr.specs.Row.{prefix_of, opcode_of, immediates_of}
 use Rattle.wasm_decode_opcodes.specs.Allowed.{EncodesAllowed, EncodesScalar, EncodesIn}
 use Rattle.wasm_decode_opcodes.specs.Kinds.{EncodesKinds}
 use Rattle.wasm_decode_opcodes.specs.OperatorFaults.{KindsFault, OperatorFault, ScalarOperatorFault, FaultIn}
-use Rattle.wasm_decode_opcodes.specs.Refused.{IsRefusedOperator}
+use Rattle.wasm_decode_opcodes.specs.Refused.{MayAllocate}
 
--- The call fails: the reader is unchanged. Unless allocation failed, no operator of `Encodes` follows, and `Fault` holds.
-abbrev pub RefusesOperator : (List ℕ → Operator → Type 0) → (Message → Reader → ℕ → Type 0) → Error → Reader → Reader → Type 0
-RefusesOperator Encodes Fault e old new = (new ≡ old) × IsRefusedOperator Encodes e old × HasFault Fault e old
+-- As `ReadsValue`, for an operator. Allocation may fail where `MayAllocate` holds.
+abbrev pub DecodesOperator : (List ℕ → Operator → Type 0) → (Message → Reader → ℕ → Type 0) → Result Operator Error → Reader → Reader → Type 0
+DecodesOperator Encodes Fault result old new = ReadsValue Encodes Fault (MayAllocate Encodes) result old new
 
--- Unless allocation fails, `Ok` if and only if a prefix of the rest encodes an operator, which is then taken and visited. On `Err`, reader and visitor are unchanged, and `Fault` holds.
+-- As `DecodesOperator`, for a call after the opcode of an operator that began at `start`, in a frame of this kind. On `Err` the reader goes back to `start`.
+abbrev pub DecodesOperatorAt : FrameKind → ℕ → Result Operator Error → Reader → Reader → Type 0
+DecodesOperatorAt frame start result old new =
+    DecodesOperator (EncodesAllowed old.features frame) (OperatorFault old.features frame) result (at_position old start) new
+
+-- As `DecodesOperator`, and the operator is visited. On `Err`, the visitor is unchanged too.
 abbrev pub Decodes : {V A : Type 0} → (V → Operator → A → V → Type 0) → (List ℕ → Operator → Type 0) → (Message → Reader → ℕ → Type 0) → Result A Error → Reader → Reader → V → V → Type 0
-Decodes visits Encodes Fault (Ok a) old new v w = (text : List ℕ) × (op : Operator) × Encodes text op × Takes old new text × visits v op a w
-Decodes visits Encodes Fault (Err e) old new v w = (w ≡ v) × RefusesOperator Encodes Fault e old new
+Decodes visits Encodes Fault (Ok a) old new v w = (op : Operator) × HasRead Encodes op old new × visits v op a w
+Decodes visits Encodes Fault (Err e) old new v w = (w ≡ v) × DecodesOperator Encodes Fault (Err e) old new
 
--- As `Decodes`, for a call after the opcode of an operator that began at `start`, in a frame of this kind. On `Err` the reader goes back to `start`.
+-- As `Decodes`, for a call after the opcode, as in `DecodesOperatorAt`.
 abbrev pub DecodesAt : {V A : Type 0} → (V → Operator → A → V → Type 0) → FrameKind → ℕ → Result A Error → Reader → Reader → V → V → Type 0
 DecodesAt visits frame start result old new v w =
     Decodes visits (EncodesAllowed old.features frame) (OperatorFault old.features frame) result (at_position old start) new v w
@@ -44,14 +50,6 @@ abbrev pub DecodesScalarIn : {V A : Type 0} → (V → Operator → A → V → 
 DecodesScalarIn visits frame result old new v w =
     Decodes visits (EncodesIn (EncodesScalar old.features) frame) (FaultIn (ScalarOperatorFault old.features) frame) result old new v w
 
--- The call fails, and the reader goes back to `start`, where the operator began.
-abbrev pub RefusesAt : FrameKind → ℕ → Error → Reader → Reader → Type 0
-RefusesAt frame start e old new = RefusesOperator (EncodesAllowed old.features frame) (OperatorFault old.features frame) e (at_position old start) new
-
--- As `RefusesAt`, for a visitor without SIMD operators.
-abbrev pub RefusesScalarAt : FrameKind → ℕ → Error → Reader → Reader → Type 0
-RefusesScalarAt frame start e old new = RefusesOperator (EncodesScalar old.features frame) (ScalarOperatorFault old.features frame) e (at_position old start) new
-
 -- The reader is after this opcode, or this prefix byte and subopcode, which began at `start`.
 pub record IsAfterCode (start : ℕ) (prefix : Option ℕ) (code : ℕ) (r : Reader) : Type 0 where
   pub begun : start ≤ r.position
@@ -61,18 +59,23 @@ pub record IsAfterCode (start : ℕ) (prefix : Option ℕ) (code : ℕ) (r : Rea
 abbrev pub VisitsRow : {V A : Type 0} → (V → Operator → A → V → Type 0) → Option ℕ → ℕ → List Immediate → V → A → V → Type 0
 VisitsRow visits prefix code is v a w = (op : Operator) × (prefix_of op ≡ prefix) × (opcode_of op ≡ code) × (immediates_of op ≡ is) × visits v op a w
 
--- The call fails. Unless allocation failed, the bytes after an opcode do not encode a value. The operator began at `start`.
-pub record IsRefusedAfterCode {X : Type 0} (Encodes : List ℕ → X → Type 0) (takes_memory : Bool) (start : ℕ) (e : Error) (old : Reader) : Type 0 where
-  pub refuses : Refuses Encodes (rest old) e.message
+-- An error of immediates of these kinds, of an operator that began at `start`. `OutOfMemory` has the offset of `start`, and occurs only where `Memory` holds.
+pub record IsRefusedKinds (ks : List Kind) (Memory : Reader → Type 0) (start : ℕ) (e : Error) (old : Reader) : Type 0 where
+  pub refuses : Refuses (EncodesKinds old.features ks) (rest old) e.message
   pub ahead : IsAhead (at_position old start) e.offset
-  pub memory : e.message ≡ message.OutOfMemory → (takes_memory ≡ true) × (e.offset ≡ old.start + start)
+  pub fault : HasFault (KindsFault old.features (old.start + start) ks) e old
+  pub memory : e.message ≡ message.OutOfMemory → Memory old × (e.offset ≡ old.start + start)
 
--- As `DecodesAt`, for reading immediates of these kinds. The first that cannot be read has the error.
-abbrev pub ReadsKinds : {X : Type 0} → List Kind → (X → List Immediate) → Bool → ℕ → Result X Error → Reader → Reader → Type 0
-ReadsKinds ks immediates takes_memory start (Ok x) old new = (text : List ℕ) × EncodesKinds old.features ks text (immediates x) × Takes old new text
-ReadsKinds ks immediates takes_memory start (Err e) old new = (new ≡ at_position old start) × IsRefusedAfterCode (EncodesKinds old.features ks) takes_memory start e old × HasFault (KindsFault old.features (old.start + start) ks) e old
+-- Unless allocation fails, `Ok` if and only if a prefix of the rest encodes immediates of these kinds, which are taken. The error is that of the first that cannot be
+-- read. Then `Left` holds of the reader.
+abbrev pub ReadsKinds : {X : Type 0} → List Kind → (X → List Immediate) → (Reader → Type 0) → (ℕ → Reader → Reader → Type 0) → ℕ → Result X Error → Reader → Reader → Type 0
+ReadsKinds ks listed Memory Left start (Ok x) old new = HasRead (EncodesKinds old.features ks) (listed x) old new
+ReadsKinds ks listed Memory Left start (Err e) old new = Left start old new × IsRefusedKinds ks Memory start e old
 
--- As `ReadsKinds`, except that on `Err` the reader does not go back.
-abbrev pub ReadsImmediates : {X : Type 0} → List Kind → (X → List Immediate) → Bool → ℕ → Result X Error → Reader → Reader → Type 0
-ReadsImmediates ks immediates takes_memory start (Ok x) old new = (text : List ℕ) × EncodesKinds old.features ks text (immediates x) × Takes old new text
-ReadsImmediates ks immediates takes_memory start (Err e) old new = (new ≡ at_position old new.position) × (old.position ≤ new.position) × IsRefusedAfterCode (EncodesKinds old.features ks) takes_memory start e old × HasFault (KindsFault old.features (old.start + start) ks) e old
+-- The reader goes back to `start`.
+abbrev pub GoesBack : ℕ → Reader → Reader → Type 0
+GoesBack start old new = new ≡ at_position old start
+
+-- The reader does not go back.
+abbrev pub StaysAhead : ℕ → Reader → Reader → Type 0
+StaysAhead start old new = (new ≡ at_position old new.position) × (old.position ≤ new.position)

@@ -70,12 +70,6 @@ NeedsLegacy guard.Else = ⊥
 NeedsLegacy guard.Delegate = ⊥
 NeedsLegacy _ = Unit {0}
 
--- The entry has immediates of these kinds.
-abbrev pub HasKinds : Entry → List Kind → Type 0
-HasKinds (free own) ks = own ≡ ks
-HasKinds (guarded _ own) ks = own ≡ ks
-HasKinds _ ks = ⊥
-
 -- The kinds in the entry, if an operator has it.
 abbrev pub entry_kinds : Entry → Option (List Kind)
 entry_kinds (free ks) = Some ks

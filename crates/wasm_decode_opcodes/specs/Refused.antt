@@ -1,16 +1,15 @@
--- What the error of an operator implies about the bytes.
+-- Where reading an operator may allocate.
 use Rattle.std.specs.Prelude.{◌≡◌, ℕ, ◌⊎◌, List, ◌∷◌, None}
-use Rattle.wasm_instr.specs.below.bytes.error.Error.{Error}
-use Rattle.wasm_instr.specs.below.bytes.message.Message.TheVariants as message
 use Rattle.wasm_instr.specs.below.Number.{EncodesUnsigned}
 use Rattle.wasm_instr.specs.below.Sequence.{Then}
-use Rattle.wasm_instr.specs.below.Source.{Reader, rest, offset_of, BeginsWith, NoPrefix, SomePrefix, Refuses, IsAhead}
+use Rattle.wasm_instr.specs.below.Source.{Reader, rest, BeginsWith, NoPrefix, SomePrefix}
 use Rattle.wasm_instr.specs.imm.HandlerTables.{EncodesTypeCount, EncodesTryTableCount, EncodesHandlerCount}
 use Rattle.wasm_instr.specs.Immediate.{Kind, is_unsigned_32, is_select_types, is_try_clauses, is_resume_clauses}
 use Rattle.wasm_instr.specs.declared.operator.Operator.{Operator}
 use Rattle.wasm_instr.specs.Kinds.{HoldsList}
 use Rattle.wasm_decode_opcodes.specs.Entry.{free}
 use Rattle.wasm_decode_opcodes.specs.Entries.{entry_at}
+use Rattle.wasm_decode_opcodes.specs.Owners.{EncodesWithoutList}
 
 -- The opcodes of typed select, try_table, resume, resume_throw and resume_throw_ref, which may own a list.
 abbrev pub LeadsList : ℕ → Type 0
@@ -35,9 +34,7 @@ pub record MayAllocate (Encodes : List ℕ → Operator → Type 0) (old : Reade
   pub sized : SomePrefix EncodesListStart (rest old)
   pub owns : NoPrefix (λ text op. Encodes text op × ¬ HoldsList op) (rest old)
 
--- Unless allocation fails, no prefix of the rest `Encodes` an operator; for messages except `EndOfData`, whatever bytes follow. `OutOfMemory` has the offset
--- where the call began, and occurs only if `MayAllocate` holds.
-pub record IsRefusedOperator (Encodes : List ℕ → Operator → Type 0) (e : Error) (old : Reader) : Type 0 where
-  pub refuses : Refuses Encodes (rest old) e.message
-  pub ahead : IsAhead old e.offset
-  pub memory : e.message ≡ message.OutOfMemory → (e.offset ≡ offset_of old) × MayAllocate Encodes old
+-- As `MayAllocate`, for immediates of these kinds.
+pub record KindsMayAllocate (ks : List Kind) (old : Reader) : Type 0 where
+  pub sized : SomePrefix (EncodesToCount ks) (rest old)
+  pub owns : NoPrefix (EncodesWithoutList old.features ks) (rest old)

@@ -1,10 +1,10 @@
 //! The operators whose feature and frame are checked: `else`, and those of the legacy exceptions.
-ghost use Rattle.std.specs.Prelude.{◌≡◌, ◌≤◌, ◌<◌, ◌+◌, ℕ, List, IsTrue, ◌↔◌, false, None, IfOk, IfErr};
+ghost use Rattle.std.specs.Prelude.{◌≡◌, ◌≤◌, ◌<◌, ◌+◌, ℕ, List, IsTrue, ◌↔◌, false, None, Err, IfOk, IfErr};
 ghost use Rattle.wasm_instr.specs.below.Features.{HasFeature, legacy_exceptions};
 ghost use Rattle.wasm_instr.specs.below.Source.{at_position};
 ghost use Rattle.wasm_instr.specs.grammar.Frames.{Allows};
 ghost use Rattle.wasm_instr.specs.Immediate.{Kind};
-ghost use Rattle.wasm_decode_opcodes.specs.Decoding.{IsAfterCode, RefusesAt};
+ghost use Rattle.wasm_decode_opcodes.specs.Decoding.{IsAfterCode, DecodesOperatorAt};
 ghost use Rattle.wasm_decode_opcodes.specs.Entries.{entry_at};
 ghost use Rattle.wasm_decode_opcodes.specs.Entry.{guarded, guarded_role, guarded_instruction, needed_frame, NeedsLegacy};
 ghost use Rattle.wasm_decode_opcodes.specs.OperatorFaults.{GuardFault, LacksFeature};
@@ -47,7 +47,7 @@ impl Guard {
         ensures refuses { IfErr result
             (λ e. (code : ℕ) (ks : List Kind) → code < 256 → IsAfterCode start None code reader.old
             → entry_at None code ≡ guarded self ks
-            → RefusesAt frame start e reader.old reader.new) }
+            → DecodesOperatorAt frame start (Err e) reader.old reader.new) }
     {
         if self.lacks_feature(reader) {
             return Err(reader.refuse(start, Message::FeatureRequired(self.instruction())));

@@ -1,6 +1,6 @@
-ghost use Rattle.std.specs.Prelude.{◌≤◌, [], ◌∷◌, false};
+ghost use Rattle.std.specs.Prelude.{◌≤◌, [], ◌∷◌};
 ghost use Rattle.wasm_instr.specs.Immediate.{branch_table, is_branch_table};
-ghost use Rattle.wasm_decode_opcodes.specs.Decoding.{ReadsKinds};
+ghost use Rattle.wasm_decode_opcodes.specs.Decoding.{ReadsKinds, GoesBack};
 
 use wasm_instr::below::{BinaryReader, Result};
 use wasm_instr::imm::BrTable;
@@ -10,7 +10,7 @@ use wasm_instr::imm::BrTable;
 #[inline(always)]
 pub fn branch_table<'a>(reader: &mut BinaryReader<'a>, start: usize) -> Result<BrTable<'a>>
     requires { start ≤ reader.old.position }
-    ensures { ReadsKinds (is_branch_table ∷ []) (λ t. branch_table t ∷ []) false start result reader.old reader.new }
+    ensures { ReadsKinds (is_branch_table ∷ []) (λ t. branch_table t ∷ []) (λ r. ⊥) GoesBack start result reader.old reader.new }
 {
     match BrTable::read(reader) {
         Ok(read) => Ok(read),

@@ -1,9 +1,9 @@
 //! Types for the immediates after an opcode: `u32` for an unsigned number, `(u32, u32)` for two,
 //! `()` for none.
-ghost use Rattle.std.specs.Prelude.{◌≡◌, ◌≤◌, ℕ, List, [], ◌∷◌, ◌++◌, false};
+ghost use Rattle.std.specs.Prelude.{◌≡◌, ◌≤◌, ℕ, List, [], ◌∷◌, ◌++◌};
 ghost use Rattle.wasm_instr.specs.imm.declared.memory_argument.MemArgKind.{MemArgKind};
 ghost use Rattle.wasm_instr.specs.Immediate.{Immediate, Kind, unsigned_32, signed_32, signed_64, float_32, float_64, vector, one_lane, sixteen_lanes, memory_argument, memory_index, table_index_32, order, fence_order, heap_type, cast, block_type, is_unsigned_32, is_signed_32, is_signed_64, is_float_32, is_float_64, is_vector, is_one_lane, is_sixteen_lanes, is_memory_argument, is_memory_index, is_table_index, is_order, is_fence_order, is_heap_type, is_cast, is_block_type};
-ghost use Rattle.wasm_decode_opcodes.specs.Decoding.{ReadsImmediates};
+ghost use Rattle.wasm_decode_opcodes.specs.Decoding.{ReadsKinds, StaysAhead};
 
 use wasm_instr::below::{BinaryReader, HeapType, Result};
 use wasm_instr::imm::{
@@ -27,7 +27,7 @@ pub trait Immediates: Drop {
     /// Fails like the first immediate that cannot be read. The reader does not go back then.
     fn read(reader: &mut BinaryReader<'_>, start: usize, bound: u8) -> Result<Self>
         requires { start ≤ reader.old.position }
-        ensures { ReadsImmediates (kinds bound) (listed bound) false start result reader.old reader.new };
+        ensures { ReadsKinds (kinds bound) (listed bound) (λ r. ⊥) StaysAhead start result reader.old reader.new };
 }
 
 impl Immediates for () {

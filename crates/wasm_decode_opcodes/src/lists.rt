@@ -1,13 +1,12 @@
 //! Types for immediates that may own a list. Only their reads allocate.
-ghost use Rattle.std.specs.Prelude.{◌≡◌, ◌≤◌, List, [], ◌∷◌, true, IfErr};
-ghost use Rattle.wasm_instr.specs.below.Source.{offset_of, end_of, rest, NoPrefix, SomePrefix};
+ghost use Rattle.std.specs.Prelude.{◌≤◌, List, [], ◌∷◌};
+ghost use Rattle.wasm_instr.specs.below.Source.{offset_of, end_of};
 ghost use Rattle.wasm_instr.specs.Immediate.{Immediate, Kind, unsigned_32, select_types, try_clauses, resume_clauses, is_unsigned_32, is_select_types, is_try_clauses, is_resume_clauses};
-ghost use Rattle.wasm_decode_opcodes.specs.Decoding.{ReadsKinds};
-ghost use Rattle.wasm_decode_opcodes.specs.Owners.{EncodesWithoutList};
-ghost use Rattle.wasm_decode_opcodes.specs.Refused.{EncodesToCount};
+ghost use Rattle.wasm_decode_opcodes.specs.Decoding.{ReadsKinds, GoesBack};
+ghost use Rattle.wasm_decode_opcodes.specs.Refused.{KindsMayAllocate};
 
 use std::alloc::Global;
-use wasm_instr::below::{BinaryReader, FromReader, Message, Result};
+use wasm_instr::below::{BinaryReader, FromReader, Result};
 use wasm_instr::imm::{ResumeTable, Select, TryTable, refuse_from};
 
 /// The immediates of an operator that may own a list, as a type.
@@ -21,11 +20,7 @@ pub trait Lists: Drop {
     fn read_list(alloc: Global, reader: &mut BinaryReader<'_>, start: usize) -> Result<Self>
         requires begun { start ≤ reader.old.position }
         requires within { offset_of reader.old ≤ end_of reader.old }
-        ensures reads { ReadsKinds kinds listed true start result reader.old reader.new }
-        ensures owns { IfErr result (λ e. e.message ≡ Message.OutOfMemory
-            → NoPrefix (EncodesWithoutList reader.old.features kinds) (rest reader.old)) }
-        ensures memory { IfErr result (λ e. e.message ≡ Message.OutOfMemory
-            → SomePrefix (EncodesToCount kinds) (rest reader.old)) };
+        ensures { ReadsKinds kinds listed (KindsMayAllocate kinds) GoesBack start result reader.old reader.new };
 }
 
 impl Lists for Select {

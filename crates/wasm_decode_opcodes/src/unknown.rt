@@ -1,7 +1,7 @@
 //! Opcodes and subopcodes that no operator has.
-ghost use Rattle.std.specs.Prelude.{◌≡◌, Some, None};
+ghost use Rattle.std.specs.Prelude.{◌≡◌, Some, None, Err};
 ghost use Rattle.wasm_instr.specs.grammar.declared.frame_kind.FrameKind.{FrameKind};
-ghost use Rattle.wasm_decode_opcodes.specs.Decoding.{IsAfterCode, RefusesAt};
+ghost use Rattle.wasm_decode_opcodes.specs.Decoding.{IsAfterCode, DecodesOperatorAt};
 ghost use Rattle.wasm_decode_opcodes.specs.Entries.{entry_at};
 ghost use Rattle.wasm_decode_opcodes.specs.Entry.{prefixes, unknown};
 
@@ -14,7 +14,7 @@ use wasm_instr::below::{BinaryReader, Error, Message};
 pub fn unknown_opcode(reader: &mut BinaryReader<'_>, start: usize, code: u8) -> Error
     requires after { IsAfterCode start None code reader.old }
     requires unknown { entry_at None code ≡ unknown }
-    ensures { (frame : FrameKind) → RefusesAt frame start result reader.old reader.new }
+    ensures { (frame : FrameKind) → DecodesOperatorAt frame start (Err result) reader.old reader.new }
 {
     reader.refuse(start, Message::IllegalOpcode(code))
 }
@@ -32,7 +32,7 @@ pub fn unknown_subopcode(
     requires after { IsAfterCode start (Some prefix) code reader.old }
     requires prefix { entry_at None prefix ≡ prefixes }
     requires unknown { entry_at (Some prefix) code ≡ unknown }
-    ensures { (frame : FrameKind) → RefusesAt frame start result reader.old reader.new }
+    ensures { (frame : FrameKind) → DecodesOperatorAt frame start (Err result) reader.old reader.new }
 {
     reader.refuse(start, Message::UnknownSubopcode(prefix, code))
 }

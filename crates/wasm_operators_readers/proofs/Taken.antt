@@ -1,5 +1,5 @@
 -- From the decoder's call after an opcode to one read of the reader of operators.
-use Rattle.std.proofs.Common.{◌≡◌, ℕ, ◌+◌, ◌≤◌, List, ◌++◌, length, Some, None, inl, inr, refl, sym, subst, ap, ◌∙◌, arith}
+use Rattle.std.proofs.Common.{◌≡◌, ℕ, ◌+◌, ◌≤◌, List, ◌++◌, length, Some, None, Err, inl, inr, refl, sym, subst, ap, ◌∙◌, arith}
 use Rattle.std.specs.Prelude.{IsSome}
 use Rattle.wasm_decode.specs.below.bytes.error.Error.{Error}
 use Rattle.wasm_decode.specs.below.bytes.features.WasmFeatures.{WasmFeatures}
@@ -12,7 +12,7 @@ use Rattle.wasm_decode.specs.instr.declared.operator.Operator.{Operator}
 use Rattle.wasm_decode.specs.instr.Encoding.{EncodesOpcode}
 use Rattle.wasm_decode.specs.instr.Roles.{role_of, change_at}
 use Rattle.wasm_decode.proofs.of_instr.FirstBytes.{changes_there}
-use Rattle.wasm_decode.specs.opcodes.Decoding.{RefusesOperator, IsAfterCode}
+use Rattle.wasm_decode.specs.opcodes.Decoding.{DecodesOperator, IsAfterCode}
 use Rattle.wasm_decode.specs.opcodes.Refused.{MayAllocate}
 use Rattle.wasm_operators_readers.specs.Expression.{IsAny}
 use Rattle.wasm_operators_readers.specs.Openings.{opened_by}
@@ -66,24 +66,24 @@ begun_took Encodes sound allowed old mid new kind code start op text b encodes t
     }
 
 pub refused_unchanged : (Encodes : Taking) (Fault : Refusing) (old new : State) (kind : FrameKind) (e : Error) → innermost old.frames ≡ Some kind →
-    RefusesOperator (Encodes old.reader.features kind) (Fault old.reader.features kind) e old.reader new.reader → new.frames ≡ old.frames → old.room ≤ new.room →
+    DecodesOperator (Encodes old.reader.features kind) (Fault old.reader.features kind) (Err e) old.reader new.reader → new.frames ≡ old.frames → old.room ≤ new.room →
     GrowsLittle 0 old new → IsUnchanged old new × StopsRead (one_read Encodes Fault) e new
-refused_unchanged Encodes Fault old new kind e open_frame (same, refused, fault) frames room memory =
+refused_unchanged Encodes Fault old new kind e open_frame (same, refused) frames room memory =
     let list : MayAllocate (Encodes old.reader.features kind) old.reader → MayAllocate (Encodes new.reader.features kind) new.reader =
     λ h. subst (λ (r : Reader). MayAllocate (Encodes r.features kind) r) (sym same) h in (
       (same, frames, room, memory),
-      stops_read (one_read Encodes Fault) e old new kind same frames open_frame refused.refuses refused.ahead fault
-          (λ m. let h = refused.memory m in (h.0, inr (kind, ap innermost frames ∙ open_frame, list h.1))),
+      stops_read (one_read Encodes Fault) e old new kind same frames open_frame refused.refuses refused.ahead refused.fault
+          (λ m. let h = refused.memory m in (h.1, inr (kind, ap innermost frames ∙ open_frame, list h.0))),
     )
 
 pub begun_stopped : (Encodes : Taking) (Fault : Refusing) (old mid new : State) (kind : FrameKind) (code start : ℕ) (e : Error) →
-    BeginsOperator old mid kind start code → RefusesOperator (Encodes mid.reader.features kind) (Fault mid.reader.features kind) e (at_position mid.reader start) new.reader →
+    BeginsOperator old mid kind start code → DecodesOperator (Encodes mid.reader.features kind) (Fault mid.reader.features kind) (Err e) (at_position mid.reader start) new.reader →
     new.frames ≡ mid.frames → new.room ≡ mid.room → IsUnchanged old new × StopsRead (one_read Encodes Fault) e new
 begun_stopped Encodes Fault old mid new kind code start e b refused frames room =
     let features : mid.reader.features ≡ old.reader.features = ap (λ (r : Reader). r.features) b.back in
     refused_unchanged Encodes Fault old new kind e b.open_frame
-    (subst (λ (f : WasmFeatures). RefusesOperator (Encodes f kind) (Fault f kind) e old.reader new.reader) features
-    (subst (λ (r : Reader). RefusesOperator (Encodes mid.reader.features kind) (Fault mid.reader.features kind) e r new.reader) b.back refused))
+    (subst (λ (f : WasmFeatures). DecodesOperator (Encodes f kind) (Fault f kind) (Err e) old.reader new.reader) features
+    (subst (λ (r : Reader). DecodesOperator (Encodes mid.reader.features kind) (Fault mid.reader.features kind) (Err e) r new.reader) b.back refused))
     (frames ∙ b.frames) (subst (λ (n : ℕ). old.room ≤ n) (sym room) b.room)
     (as_little (frame_memory old.frames old.room) (length old.frames) 10 (frame_memory mid.frames mid.room) (frame_memory new.frames new.room) b.memory
     (ap (λ (n : ℕ). frame_memory new.frames n) room ∙ ap (λ (fs : List FrameKind). frame_memory fs mid.room) frames))

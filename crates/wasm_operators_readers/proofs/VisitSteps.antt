@@ -23,7 +23,7 @@ module _ {V A : Type 0} (visits : V → Operator → A → V → Type 0) (Encode
       BeginsOperator old mid kind start code → After mid new kind start (Ok a) v w →
       new.frames ≡ frames_changed mid.frames (change_at code) → mid.room ≤ new.room + opened (change_at code) →
       frame_memory new.frames new.room ≡ frame_memory mid.frames mid.room → VisitsOperator visits (one_read Encodes Fault) (Ok a) old new v w
-  visited_changing sound allowed old mid new kind code start a v w b (text, op, encodes, takes, visit) frames used same =
+  visited_changing sound allowed old mid new kind code start a v w b (op, (text, encodes, takes), visit) frames used same =
       (op, begun_took Encodes sound allowed old mid new kind code start op text b encodes takes frames used same, visit)
 
   pub refused_after : (old mid new : State) (kind : FrameKind) (code start : ℕ) (e : Error) (v w : V) → BeginsOperator old mid kind start code →

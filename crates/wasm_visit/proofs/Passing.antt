@@ -12,7 +12,7 @@ use Rattle.wasm_decode_groups.specs.opcodes.Decoding.{Decodes}
 pub through_reference : {V A : Type 0} (visits : V → Operator → A → V → Type 0) (E : List ℕ → Operator → Type 0) (F : Message → Reader → ℕ → Type 0)
     (result : Result A Error) (old new : Reader) (s : MutBor V) (w : V) → Decodes visits E F result old new s.now w →
     Decodes (λ s op a t. (s.ghost_name ≡ t.ghost_name) × visits s.now op a t.now) E F result old new s (re_v w s)
-through_reference visits E F (Ok a) old new s w (text, op, enc, taken, vis) = (text, op, enc, taken, (refl, vis))
+through_reference visits E F (Ok a) old new s w (op, read, vis) = (op, read, (refl, vis))
 through_reference visits E F (Err e) old new s w (same, h) = (ap (λ z. re_v z s) same, h)
 
 pub through_box : {V A : Type 0} (visits : V → Operator → A → V → Type 0) (E : List ℕ → Operator → Type 0) (F : Message → Reader → ℕ → Type 0)

@@ -24,7 +24,7 @@ returns-in-Err-read g c =
     let r = c.args.reader.now in
     let ks = g.I.Immediates.kinds 0 in
     checked_refused g.V.Visitor.visits c.args.frame c.args.code c.args.guard ks c.args.start c.in-Err-read.e r c.check.new.reader c.rewind.new.self c.args.v.now (omega (arith, c.requires.low)) c.requires.kinds c.requires.after c.in-Ok.ensures.stays c.in-Ok.ensures.feature c.in-Ok.ensures.allows
-    (gone_back ks _ c.args.start c.in-Err-read.e c.check.new.reader c.read.new.reader c.rewind.new.self c.in-Err-read.ensures c.rewind.ensures)
+    (gone_back ks (λ r. ⊥) c.args.start c.in-Err-read.e c.check.new.reader c.read.new.reader c.rewind.new.self c.in-Err-read.ensures c.rewind.ensures)
 
 pub returns-in-Err : goal.returns-in-Err
 returns-in-Err g c =

@@ -1,4 +1,4 @@
-use Rattle.std.proofs.Common.{◌≡◌, false, refl, sym, subst, ap, Some, ◌∙◌}
+use Rattle.std.proofs.Common.{◌≡◌, refl, sym, subst, ap, Some, ◌∙◌}
 use Rattle.wasm_visit_groups.specs.instr.Row.{immediates_of}
 use Rattle.wasm_decode_opcodes.specs.Entry.{entry_kinds}
 use Rattle.wasm_decode_opcodes.specs.OperatorFaults.{OperatorFault}
@@ -26,4 +26,4 @@ returns-in-Err g c k =
     let ks = g.I.Immediates.kinds c.args.bound in
     refuses_free {V = Unit {0}} (λ v op a w. op ≡ g.G.Group.operator a) k g.G.Group.prefix c.args.code ks c.args.start c.in-Err.e r c.rewind.new.self tt
     (is_code g.G.Group.prefix c.args.code ks c.requires.kinds.0 c.requires.code) c.requires.kinds.0 c.requires.after
-    (gone_back ks false c.args.start c.in-Err.e r c.read.new.reader c.rewind.new.self c.in-Err.ensures c.rewind.ensures)
+    (gone_back ks (λ r. ⊥) c.args.start c.in-Err.e r c.read.new.reader c.rewind.new.self c.in-Err.ensures c.rewind.ensures)

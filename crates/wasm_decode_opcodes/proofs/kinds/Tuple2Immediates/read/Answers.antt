@@ -1,4 +1,3 @@
-use Rattle.std.proofs.Common.{false}
 use Rattle.wasm_decode_opcodes.proofs.SequenceLemmas.{both_read, first_failed, second_failed}
 use Rattle.wasm_decode_opcodes.proofs.kinds.Tuple2Immediates.read.Goals as goal
 
@@ -10,9 +9,9 @@ returns-in-Ok-read g c =
 pub returns-in-Err-read : goal.returns-in-Err-read
 returns-in-Err-read g c =
     let b = c.args.bound in
-    second_failed (g.A.Immediates.kinds b) (g.B.Immediates.kinds b) (g.A.Immediates.listed b c.in-Ok.first) false c.args.start c.in-Err-read.e c.args.reader.now c.read.new.reader c.read-in-Ok.new.reader c.in-Ok.ensures c.in-Err-read.ensures
+    second_failed (g.A.Immediates.kinds b) (g.B.Immediates.kinds b) (g.A.Immediates.listed b c.in-Ok.first) c.args.start c.in-Err-read.e c.args.reader.now c.read.new.reader c.read-in-Ok.new.reader c.in-Ok.ensures c.in-Err-read.ensures
 
 pub returns-in-Err : goal.returns-in-Err
 returns-in-Err g c =
     let b = c.args.bound in
-    first_failed (g.A.Immediates.kinds b) (g.B.Immediates.kinds b) false false c.args.start c.in-Err.e c.args.reader.now c.read.new.reader (λ t. t) c.in-Err.ensures
+    first_failed (g.A.Immediates.kinds b) (g.B.Immediates.kinds b) c.args.start c.in-Err.e c.args.reader.now c.read.new.reader c.in-Err.ensures

@@ -1,18 +1,14 @@
-use Rattle.std.proofs.Common.{sym, ◌∙◌}
+use Rattle.std.proofs.Common.{[], ◌∷◌}
 use Rattle.wasm_instr.specs.below.Source.{rest, SomePrefix}
 use Rattle.wasm_instr.specs.imm.HandlerTables.{EncodesResumeTable, EncodesHandlerCount}
 use Rattle.wasm_instr.specs.Immediate.{resume_clauses, is_resume_clauses}
+use Rattle.wasm_decode_opcodes.specs.Refused.{KindsMayAllocate}
 use Rattle.wasm_decode_opcodes.proofs.KindLemmas.{memory_refused, of_resume_table}
 use Rattle.wasm_decode_opcodes.proofs.ListLemmas.{resumes_own}
 use Rattle.wasm_decode_opcodes.proofs.lists.ResumeTableLists.read_list.Goals as goal
 
-pub returns-in-Err-clause-reads : goal.returns-in-Err-clause-reads
-returns-in-Err-clause-reads c =
+pub returns-in-Err : goal.returns-in-Err
+returns-in-Err c =
     let r = c.args.reader.now in
-    memory_refused EncodesResumeTable is_resume_clauses resume_clauses (λ r. SomePrefix EncodesHandlerCount (rest r)) c.args.start c.in-Err.e c.refuse_from.result r c.from_reader.new.reader c.refuse_from.new.reader (of_resume_table r.features) c.requires.begun c.requires.within c.in-Err.ensures.reads c.refuse_from.ensures.back c.refuse_from.ensures.reported
-
-pub returns-in-Err-clause-owns : goal.returns-in-Err-clause-owns
-returns-in-Err-clause-owns c m = resumes_own c.args.reader.now.features (rest c.args.reader.now)
-
-pub returns-in-Err-clause-memory : goal.returns-in-Err-clause-memory
-returns-in-Err-clause-memory c m = (c.in-Err.ensures.reads.1.memory (sym c.refuse_from.ensures.reported.0 ∙ m)).0
+    memory_refused EncodesResumeTable is_resume_clauses resume_clauses (KindsMayAllocate (is_resume_clauses ∷ [])) (λ r. SomePrefix EncodesHandlerCount (rest r)) c.args.start c.in-Err.e c.refuse_from.result r c.from_reader.new.reader c.refuse_from.new.reader (of_resume_table r.features) c.requires.begun c.requires.within
+    (λ sized. record { sized = sized; owns = resumes_own r.features (rest r) }) c.in-Err.ensures.reads c.refuse_from.ensures.back c.refuse_from.ensures.reported
