@@ -6,6 +6,7 @@ use crate::out_of_line::AfterPrefix;
 use wasm_visit::below::{BinaryReader, Result};
 use wasm_visit::{GroupAtomic, GroupGc, GroupMisc, GroupSimdHigh, GroupSimdLow};
 
+/// The decoder after the prefix byte 0xfb.
 #[derive(Drop)]
 pub struct Gc;
 
@@ -23,6 +24,7 @@ impl<V: GroupGc> AfterPrefix<V> for Gc {
     }
 }
 
+/// The decoder after the prefix byte 0xfc.
 #[derive(Drop)]
 pub struct Misc;
 
@@ -40,6 +42,7 @@ impl<V: GroupMisc> AfterPrefix<V> for Misc {
     }
 }
 
+/// The decoder after the prefix byte 0xfe.
 #[derive(Drop)]
 pub struct Atomic;
 

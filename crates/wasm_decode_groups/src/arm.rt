@@ -17,11 +17,13 @@ use wasm_visit_groups::{ByAny, Visitor};
 pub trait Group {
     type Operator;
 
+    // The byte before the codes, if there is one.
     ghost prefix: { Option ℕ };
 
-    // The codes of the group, if another group has the same prefix.
+    // The codes of the group: all after its prefix byte, unless another group has the same one.
     ghost codes: { ℕ → Type 0 } = { λ code. Unit {0} };
 
+    // What `embed` returns.
     ghost operator: { Self.Operator → Operator };
 
     /// Converts the operator into an `Operator`.
@@ -29,6 +31,7 @@ pub trait Group {
         ensures { result ≡ operator op };
 }
 
+/// The numeric operators, whose opcodes are 0x45 to 0xc4.
 pub struct Numeric;
 
 impl Group for Numeric {
@@ -46,6 +49,7 @@ impl Group for Numeric {
     }
 }
 
+/// The operators with the prefix byte 0xfb.
 pub struct Gc;
 
 impl Group for Gc {
@@ -61,6 +65,7 @@ impl Group for Gc {
     }
 }
 
+/// The operators with the prefix byte 0xfc.
 pub struct Misc;
 
 impl Group for Misc {
@@ -76,6 +81,7 @@ impl Group for Misc {
     }
 }
 
+/// The operators with the prefix byte 0xfe.
 pub struct Atomic;
 
 impl Group for Atomic {
@@ -91,6 +97,7 @@ impl Group for Atomic {
     }
 }
 
+/// The SIMD operators whose subopcode after 0xfd is below 0x80.
 pub struct SimdLow;
 
 impl Group for SimdLow {
@@ -108,6 +115,7 @@ impl Group for SimdLow {
     }
 }
 
+/// The other SIMD operators.
 pub struct SimdHigh;
 
 impl Group for SimdHigh {
@@ -143,6 +151,7 @@ pub trait At<V: Visitor, G: Group, I: Immediates> {
         ensures { VisitsRow V.visits G.prefix code (I.listed (align_at G.prefix code) it) v.old result v.new };
 }
 
+/// Makes the operators of every group.
 pub struct Maker;
 
 impl<V: Visitor, G: Group, I: Immediates> At<V, G, I> for ByAny

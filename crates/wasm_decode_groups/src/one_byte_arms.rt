@@ -17,6 +17,7 @@ use wasm_visit_groups::imm::{ResumeTable, Select, TryTable};
 use wasm_visit_groups::instr::Operator;
 use wasm_visit_groups::{ByAny, Own, VisitOneByte, Visitor};
 
+/// The operators without a prefix byte, except the numeric ones.
 pub struct OneByte;
 
 impl Group for OneByte {

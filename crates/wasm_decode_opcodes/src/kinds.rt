@@ -246,6 +246,7 @@ impl Immediates for Ordering {
     }
 }
 
+/// A memory index.
 #[derive(Drop)]
 pub struct MemoryIndex(pub u32);
 
@@ -263,6 +264,7 @@ impl Immediates for MemoryIndex {
     }
 }
 
+/// A table index.
 #[derive(Drop)]
 pub struct TableIndex(pub u32);
 
@@ -280,6 +282,7 @@ impl Immediates for TableIndex {
     }
 }
 
+/// A memory argument without an ordering.
 #[derive(Drop)]
 pub struct PlainMemArg(pub MemArg);
 
@@ -297,6 +300,7 @@ impl Immediates for PlainMemArg {
     }
 }
 
+/// The memory argument of an atomic load or store.
 #[derive(Drop)]
 pub struct OpMemArg(pub MemArg);
 
@@ -314,6 +318,7 @@ impl Immediates for OpMemArg {
     }
 }
 
+/// The memory argument of an atomic read-modify-write.
 #[derive(Drop)]
 pub struct RmwMemArg(pub MemArg);
 
@@ -331,6 +336,7 @@ impl Immediates for RmwMemArg {
     }
 }
 
+/// The byte after `atomic.fence`.
 #[derive(Drop)]
 pub struct FenceOrdering(pub Ordering);
 
