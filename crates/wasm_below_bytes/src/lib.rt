@@ -15,6 +15,7 @@ mod long_numbers;
 mod memory_use;
 mod message;
 mod number_calls;
+mod packed_reads;
 
 pub use binary_reader::BinaryReader;
 pub use error::{BinaryReaderError, Error, ErrorKind, Result};

@@ -2,13 +2,13 @@
 ghost use Rattle.std.specs.Prelude.{◌≡◌, ◌<◌, [], ◌∷◌, IfSome, IfNone};
 ghost use Rattle.wasm_below_bytes.specs.Source.{Takes, Reads, U32Fault, U64Fault, I32Fault, S33Fault, I64Fault, as_too_long, offset_of, end_of};
 ghost use Rattle.wasm_below_bytes.specs.Number.{EncodesUnsigned, EncodesSigned};
-ghost use Rattle.wasm_below_bytes.specs.Leb128.{HasPlace, refusal_message, refusal_of_code, refusal_offset};
+ghost use Rattle.wasm_below_bytes.specs.Leb128.{HasPlace, refusal_message, refusal_offset};
 
 use super::BinaryReader;
 use crate::error::{Error, Result};
 use crate::long_numbers::{NumberRefusal, last_value, long_i32, long_s33, number_error, two_bytes};
 use crate::message::{Message, NumberName};
-use crate::number_calls::{coded_error, long_i64, long_u32, long_u64};
+use crate::number_calls::{long_i64, long_u32, long_u64};
 
 impl<'a> BinaryReader<'a> {
     /// Reads an unsigned LEB128 number of at most five bytes.
@@ -95,12 +95,13 @@ impl<'a> BinaryReader<'a> {
             self.position = number.after;
             return Ok(number.value as u32);
         }
-        let number = long_u32(self.buffer, self.position);
-        if number.after == 0 {
-            return Err(self.coded_refusal(number.value, 32, NumberName::VarU32));
+        match long_u32(self.buffer, self.position).into_result() {
+            Ok(number) => {
+                self.position = number.after;
+                Ok(number.value as u32)
+            }
+            Err(refusal) => Err(self.no_number(refusal, 32, NumberName::VarU32)),
         }
-        self.position = number.after;
-        Ok(number.value as u32)
     }
 
     #[inline(always)]
@@ -111,12 +112,13 @@ impl<'a> BinaryReader<'a> {
             self.position = number.after;
             return Ok(number.value);
         }
-        let number = long_u64(self.buffer, self.position);
-        if number.after == 0 {
-            return Err(self.coded_refusal(number.value, 64, NumberName::VarU64));
+        match long_u64(self.buffer, self.position).into_result() {
+            Ok(number) => {
+                self.position = number.after;
+                Ok(number.value)
+            }
+            Err(refusal) => Err(self.no_number(refusal, 64, NumberName::VarU64)),
         }
-        self.position = number.after;
-        Ok(number.value)
     }
 
     #[inline(always)]
@@ -149,23 +151,13 @@ impl<'a> BinaryReader<'a> {
     fn read_long_i64(&mut self) -> Result<i64>
         ensures { Reads (EncodesSigned 64) I64Fault result self.old self.new }
     {
-        let number = long_i64(self.buffer, self.position);
-        if number.after == 0 {
-            return Err(self.coded_refusal(number.value.unsigned_abs(), 64, NumberName::VarI64));
+        match long_i64(self.buffer, self.position).into_result() {
+            Ok(number) => {
+                self.position = number.after;
+                Ok(number.value)
+            }
+            Err(refusal) => Err(self.no_number(refusal, 64, NumberName::VarI64)),
         }
-        self.position = number.after;
-        Ok(number.value)
-    }
-
-    #[inline(always)]
-    fn coded_refusal(&self, code: u64, bits: u32, name: NumberName) -> Error
-        requires some { 0 < bits }
-        requires place { HasPlace (refusal_of_code code) bits (offset_of self.now) (end_of self.now) }
-        ensures message { result.message ≡ refusal_message (refusal_of_code code) name }
-        ensures offset { result.offset ≡ refusal_offset (refusal_of_code code) bits (offset_of self.now) (end_of self.now) }
-    {
-        let end = self.original_offset + self.buffer.len() as u64;
-        coded_error(code, self.original_position(), end, bits, name)
     }
 
     #[inline(always)]
