@@ -287,20 +287,17 @@ def prefixed_proof(ops, group):
         body += proved(unknown, "g c", f"{names[-1]} c.args.code (λ h. grind (arith, h))")
         body += proved("returns-in_default", "g c k", "(refl, c.unknown_subopcode.ensures k)")
         return group_proof(path, body, names)
-    exact = "c.has_no_immediates.ensures.exact"
     (bare,) = [part for part in parts(ops, group) if part.has_table]
     names.append(f"{bare.lemma}_arm")
     if those:
-        # the last arm has all other codes: what the table leaves
-        last = next(line for line in reversed(body) if line.startswith("pub arm-requires-")).split()[1]
-        at = body.index(f"pub {last} : goal.{last}")
-        left = f"others c.args.code (omega (arith, c.requires.half)) (sym {exact} ∙ c.if-has_no_immediates.false)"
-        kinds_left = f"let h = {left} in {names[-2]} c.args.code (grind (arith, h)) (grind (arith, h))"
-        body[at:at + 3] = proved("arm-requires-in_default-clause-kinds", "g c", kinds_left)
-    body += proved("arm-requires-clause-kinds", "g c", f"{names[-1]} c.args.code (c.has_no_immediates.ensures.without c.if-has_no_immediates.true)")
-    if not those:
-        body += proved(unknown, "g c", f"no_operator c.args.code c.requires.half (sym {exact} ∙ c.if-has_no_immediates.false)")
-        body += proved("returns", "g c k", "(refl, c.unknown_subopcode.ensures k)")
+        # the last arm has the codes that no other arm has
+        left = "outside c.args.code (omega (arith, c.requires.half)) (λ h. grind (arith, h))"
+        body += proved("arm-requires-in_default-clause-kinds", "g c", f"{names[-1]} c.args.code ({left})")
+        return group_proof(path, body, names)
+    asked = "c.has_no_immediates.ensures"
+    body += proved("arm-requires-clause-kinds", "g c", f"{names[-1]} c.args.code ({asked}.without c.if-has_no_immediates.true)")
+    body += proved(unknown, "g c", f"no_operator c.args.code c.requires.half (sym {asked}.exact ∙ c.if-has_no_immediates.false)")
+    body += proved("returns", "g c k", "(refl, c.unknown_subopcode.ensures k)")
     return group_proof(path, body, names)
 
 

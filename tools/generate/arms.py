@@ -247,11 +247,11 @@ def prefixed_body(those, group):
     if group.enum != "Simd":
         return ["match code {", *arms(those), f"_ => {unknown},", "}"]
     (bare,) = [part for part in those if part.has_table]
-    out = ["if has_no_immediates(code) {", f"return {call(bare, 'code')};", "}"]
     others = arms([part for part in those if not part.has_table])
-    if not others:
-        return [*out, unknown]
-    return [*out, "match code {", *others[:-1], f"_ => {others[-1].partition(' => ')[2]}", "}"]
+    if others:
+        # each code of this half has an operator
+        return ["match code {", *others, f"_ => {call(bare, 'code')},", "}"]
+    return ["if has_no_immediates(code) {", f"return {call(bare, 'code')};", "}", unknown]
 
 
 def prefixed(those, group):

@@ -13,12 +13,12 @@ without (free []) h = refl
 without (free (k ∷ ks)) h = absurd (cc h)
 without (guarded g ks) h = absurd (cc h)
 
-other_of : (e : Entry) → is_without_immediates e ≡ false → is_known e ≡ true → is_other e ≡ true
-other_of unknown h k = absurd (cc k)
-other_of prefixes h k = refl
-other_of (free []) h k = absurd (cc h)
-other_of (free (x ∷ xs)) h k = refl
-other_of (guarded g ks) h k = refl
+bare_of : (e : Entry) → is_known e ≡ true → (is_other e ≡ true → ⊥) → e ≡ free []
+bare_of unknown k never = absurd (cc k)
+bare_of prefixes k never = absurd (never refl)
+bare_of (free []) k never = refl
+bare_of (free (x ∷ xs)) k never = absurd (never refl)
+bare_of (guarded g ks) k never = absurd (never refl)
 
 unknown_of : (e : Entry) → is_without_immediates e ≡ false → (is_other e ≡ true → ⊥) → e ≡ unknown
 unknown_of unknown h never = refl
@@ -27,9 +27,9 @@ unknown_of (free []) h never = absurd (cc h)
 unknown_of (free (x ∷ xs)) h never = absurd (never refl)
 unknown_of (guarded g ks) h never = absurd (never refl)
 
--- Below 0x80 all other SIMD operators have immediates.
-pub others : (code : ℕ) → code < 0x80 → is_without_immediates (entry_at (Some 0xfd) code) ≡ false → InRanges code simd_other_codes
-others code low h = simd_others code (other_of (entry_at (Some 0xfd) code) h (simd_low_known code low))
+-- Below 0x80 the SIMD operators outside of these ranges have no immediates.
+pub outside : (code : ℕ) → code < 0x80 → (InRanges code simd_other_codes → ⊥) → entry_at (Some 0xfd) code ≡ free []
+outside code low never = bare_of (entry_at (Some 0xfd) code) (simd_low_known code low) (λ other. never (simd_others code other))
 
 -- From 0x80 on no operator has another subopcode.
 pub no_operator : (code : ℕ) → 0x80 ≤ code → is_without_immediates (entry_at (Some 0xfd) code) ≡ false → entry_at (Some 0xfd) code ≡ unknown

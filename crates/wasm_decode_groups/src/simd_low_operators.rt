@@ -7,7 +7,6 @@ ghost use Rattle.wasm_decode_opcodes.specs.Entries.{align_at};
 ghost use Rattle.wasm_decode_groups.specs.Arms.{HasKindsAt};
 
 use crate::arm::{At, Maker, Makes, SimdLow, arm};
-use crate::vectors_without_immediates::has_no_immediates;
 use wasm_decode_opcodes::PlainMemArg;
 use wasm_visit_groups::below::{BinaryReader, Result};
 use wasm_visit_groups::imm::{MemArgKind, V128};
@@ -41,9 +40,6 @@ pub fn simd_low_by<V: Visitor, R: AtSimdLow<V>>(
     requires half { code < 0x80 }
     ensures { (frame : FrameKind) → DecodesAt V.visits frame start result reader.old reader.new v.old v.new }
 {
-    if has_no_immediates(code) {
-        return arm::<V, SimdLow, (), R>(v, reader, start, code, 0);
-    }
     match code {
         0x00..=0x0b => arm::<V, SimdLow, PlainMemArg, R>(
             v,
@@ -68,7 +64,8 @@ pub fn simd_low_by<V: Visitor, R: AtSimdLow<V>>(
         ),
         0x0c => arm::<V, SimdLow, V128, R>(v, reader, start, 0x0c, 0),
         0x0d => arm::<V, SimdLow, [u8; 16], R>(v, reader, start, 0x0d, 0),
-        _ => arm::<V, SimdLow, u8, R>(v, reader, start, code, 0),
+        0x15..=0x22 => arm::<V, SimdLow, u8, R>(v, reader, start, code, 0),
+        _ => arm::<V, SimdLow, (), R>(v, reader, start, code, 0),
     }
 }
 
