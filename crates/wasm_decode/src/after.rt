@@ -79,7 +79,7 @@ pub fn simd_after_prefix<V: GroupSimdLow + GroupSimdHigh>(
 }
 
 #[inline(always)]
-pub fn simd_of<V: GroupSimdLow + GroupSimdHigh>(
+fn simd_of<V: GroupSimdLow + GroupSimdHigh>(
     v: &mut V,
     reader: &mut BinaryReader<'_>,
     start: usize,

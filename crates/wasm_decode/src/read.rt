@@ -4,9 +4,9 @@ ghost use Rattle.wasm_decode.specs.Reading.{DecodesOperatorIn, DecodesGcAt};
 ghost use Rattle.wasm_visit.specs.grammar.declared.frame_kind.FrameKind.{FrameKind};
 ghost use Rattle.wasm_visit.specs.opcodes.Decoding.{DecodesOperatorAt, IsAfterCode};
 
-use crate::after::{simd_of, subopcode, vector_without_immediates};
+use crate::after::{subopcode, vector_without_immediates};
 use crate::out_of_line::{place, visit_after_prefix};
-use crate::prefixes::{Atomic, Misc};
+use crate::prefixes::{Atomic, Misc, Simd};
 use crate::refusals::no_frame;
 use std::alloc::Global;
 use wasm_visit::below::{BinaryReader, Error, Result};
@@ -147,7 +147,7 @@ fn read_simd_of(reader: &mut BinaryReader<'_>, start: usize, code: u32) -> Resul
     if decode::has_no_immediates(code) {
         return Ok(Operator::Simd(vector_without_immediates(code)));
     }
-    simd_of(&mut Made, reader, start, code)
+    visit_after_prefix(&mut Made, reader, start, Simd { code })
 }
 
 #[inline(always)]

@@ -22,4 +22,4 @@ returns-then-has_no_immediates c k =
 pub returns : goal.returns
 returns c k =
     let r = c.args.reader.now in
-    as_read (EncodesAllowed r.features k) (OperatorFault r.features k) (at_position r c.args.start) c.simd_of.new.reader _ c.simd_of.new.v c.simd_of.result (c.simd_of.ensures k)
+    as_read (EncodesAllowed r.features k) (OperatorFault r.features k) (at_position r c.args.start) c.visit_after_prefix.new.reader _ c.visit_after_prefix.new.v c.visit_after_prefix.result (c.visit_after_prefix.ensures k)
