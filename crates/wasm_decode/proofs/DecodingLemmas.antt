@@ -9,7 +9,7 @@ use Rattle.wasm_visit.specs.below.Number.{EncodesUnsigned}
 use Rattle.wasm_visit.specs.below.Refusal.{IsReadFault}
 use Rattle.wasm_visit.specs.below.Source.{Reader, rest, at_position, Takes, BeginsWith, HasRead, Reads, IsByte, U32Fault}
 use Rattle.wasm_visit.proofs.of_below.Blocks.{refused_now}
-use Rattle.wasm_visit.proofs.of_below.TakesLemmas.{takes_then, rewound, first_byte_read, within_buffer}
+use Rattle.wasm_visit.proofs.of_below.TakesLemmas.{takes_then, rewound, first_byte_read}
 use Rattle.wasm_visit.specs.grammar.declared.frame_kind.FrameKind.{FrameKind}
 use Rattle.wasm_visit.specs.instr.declared.operator.Operator.{Operator}
 use Rattle.wasm_visit.specs.instr.declared.operator.Operator.TheVariants as operator
@@ -21,46 +21,18 @@ use Rattle.wasm_visit.specs.instr.Row.{prefix_of, opcode_of}
 use Rattle.wasm_visit.specs.opcodes.Allowed.{EncodesAllowed, EncodesScalar, EncodesIn}
 use Rattle.wasm_visit.specs.opcodes.Decoding.{Decodes, DecodesAt, DecodesOperator, DecodesOperatorAt, IsAfterCode}
 use Rattle.wasm_visit.specs.decode.Arms.{ReadsOperatorAt}
+use Rattle.wasm_visit.specs.decode.Lent.{ByLent}
+use Rattle.wasm_visit.specs.decode.declared.lent.Lent.{Lent}
 use Rattle.wasm_visit.specs.opcodes.declared.guard.Guard.{Guard}
 use Rattle.wasm_visit.specs.instr.Roles.{role_of}
 use Rattle.wasm_visit.specs.opcodes.Entry.{Entry, prefixes, guard_of, kinds_of, guarded_entry, entry_of}
 use Rattle.wasm_visit.specs.opcodes.Entries.{opcode_entries, entry_at}
 use Rattle.wasm_visit.specs.opcodes.OperatorFaults.{EntryFault, OperatorFault, ScalarOperatorFault, FaultIn}
 use Rattle.wasm_visit.specs.opcodes.Refused.{MayAllocate}
-use Rattle.wasm_visit.proofs.of_opcodes.OperatorLemmas.{within_after_code}
 use Rattle.wasm_visit.proofs.of_opcodes.EntriesAgree.{entry_agrees}
+use Rattle.wasm_visit.proofs.of_decode.Copies.{left_within, by_copy}
 use Rattle.wasm_visit.proofs.of_decode.Ranges.{InRanges, codes_in}
 use Rattle.wasm_decode.specs.Reading.{DecodesGcAt}
-
--- a call changes only the reader's position
-position_alone : {V A : Type 0} (visits : V → Operator → A → V → Type 0) (k : FrameKind) (start : ℕ) (result : Result A Error) (old mid : Reader) (v w : V) →
-    DecodesAt visits k start result old mid v w → mid ≡ at_position old mid.position
-position_alone visits k start (Ok a) old mid v w (op, (text, encodes, takes), visited) =
-    takes.moved ∙ ap (at_position old) (sym (ap (λ (r : Reader). r.position) takes.moved))
-position_alone visits k start (Err e) old mid v w (same, refuses) = refuses.0 ∙ ap (at_position old) (sym (ap (λ (r : Reader). r.position) refuses.0))
-
-module _ {V A : Type 0} (visits : V → Operator → A → V → Type 0) (k : FrameKind) (start : ℕ) (old lent mid : Reader) (v w : V) (same : lent ≡ old) where
-  -- the position of the copy is at most the length of the bytes
-  pub copy_within : (p : Option ℕ) (code : ℕ) (a : A) → IsAfterCode start p code old → DecodesAt visits k start (Ok a) lent mid v w → mid.position ≤ length old.buffer
-  copy_within p code a b (op, (text, encodes, takes), visited) =
-      let within = within_after_code start p code old b in
-      let t : Takes (at_position old start) mid text = subst (λ r. Takes (at_position r start) mid text) same takes in
-      let whole = within_buffer (at_position old start) mid text (omega (arith, within, b.begun)) t in
-      let at : mid.position ≡ start + length text = ap (λ (r : Reader). r.position) t.moved in
-      omega (arith, whole, at)
-
-  -- a reader that is set to the position of its copy did what the copy did
-  pub by_copy : (result : Result A Error) (new : Reader) (position : ℕ) → DecodesAt visits k start result lent mid v w → position ≡ mid.position →
-      new ≡ at_position old position → DecodesAt visits k start result old new v w
-  by_copy result new position h at went =
-      let read : DecodesAt visits k start result old mid v w = subst (λ r. DecodesAt visits k start result r mid v w) same h in
-      let e : new ≡ mid = went ∙ ap (at_position old) at ∙ sym (position_alone visits k start result old mid v w read) in
-      subst (λ r. DecodesAt visits k start result old r v w) (sym e) read
-
-  -- a copy whose call failed went back
-  pub copy_refused : (e : Error) (new : Reader) → DecodesAt visits k start (Err e) lent mid v w → new ≡ at_position old start →
-      DecodesAt visits k start (Err e) old new v w
-  copy_refused e new h went = by_copy (Err e) new start h (sym (ap (λ (r : Reader). r.position) h.1.0)) went
 
 -- the reader is after the byte that it read
 pub occurs : (old mid : Reader) (code start : ℕ) → HasRead IsByte code old mid → start ≡ old.position → (at_position mid start ≡ old) × IsAfterCode start None code mid
@@ -219,29 +191,26 @@ pub as_visited : (E : List ℕ → Operator → Type 0) (F : Message → Reader 
 as_visited E F old new (Ok op) read = (op, read, refl)
 as_visited E F old new (Err e) h = (refl, h)
 
-module _ (k : FrameKind) (start : ℕ) (old lent mid : Reader) (same : lent ≡ old) where
-  abbrev ReturnsOperator : Unit {0} → Operator → Operator → Unit {0} → Type 0
-  ReturnsOperator before op outcome after = outcome ≡ op
+abbrev ReturnsOperator : Unit {0} → Operator → Operator → Unit {0} → Type 0
+ReturnsOperator before op outcome after = outcome ≡ op
 
+module _ (k : FrameKind) (start : ℕ) (old lent mid : Reader) (same : lent ≡ old) where
   visited : (result : Result Operator Error) → DecodesOperatorAt k start result lent mid → DecodesAt ReturnsOperator k start result lent mid tt tt
   visited result h = as_visited (EncodesAllowed lent.features k) (OperatorFault lent.features k) (at_position lent start) mid result h
 
   -- the same by a copy of the reader
-  pub read_within : (p : Option ℕ) (code : ℕ) (op : Operator) → IsAfterCode start p code old → DecodesOperatorAt k start (Ok op) lent mid →
-      mid.position ≤ length old.buffer
-  read_within p code op b h = copy_within ReturnsOperator k start old lent mid tt tt same p code op b (visited (Ok op) h)
-
-  pub read_by_copy : (result : Result Operator Error) (new : Reader) (position : ℕ) → DecodesOperatorAt k start result lent mid → position ≡ mid.position →
-      new ≡ at_position old position → DecodesOperatorAt k start result old new
-  read_by_copy result new position h at went =
+  pub read_by_copy : (result : Result Operator Error) (new : Reader) → DecodesOperatorAt k start result lent mid → new ≡ at_position old mid.position →
+      DecodesOperatorAt k start result old new
+  read_by_copy result new h went =
       as_read (EncodesAllowed old.features k) (OperatorFault old.features k) (at_position old start) new tt tt result
-      (by_copy ReturnsOperator k start old lent mid tt tt same result new position (visited result h) at went)
+      (by_copy ReturnsOperator k start old lent mid tt tt same result new (visited result h) went)
 
-  pub read_refused : (e : Error) (new : Reader) → DecodesOperatorAt k start (Err e) lent mid → new ≡ at_position old start →
-      DecodesOperatorAt k start (Err e) old new
-  read_refused e new h went =
-      as_read (EncodesAllowed old.features k) (OperatorFault old.features k) (at_position old start) new tt tt (Err e)
-      (copy_refused ReturnsOperator k start old lent mid tt tt same e new (visited (Err e) h) went)
+pub read_within : (k : FrameKind) (start : ℕ) (old : Reader) (lent left : Lent) (p : Option ℕ) (code : ℕ) (outcome : Option Operator) → lent.reader ≡ old →
+    IsAfterCode start p code old → ByLent (λ r a b. DecodesOperatorAt k start r a b) outcome lent left → left.reader.position ≤ length old.buffer
+read_within k start old lent left p code (Some op) same b h =
+    left_within ReturnsOperator k start old lent left tt tt p code (Some op) same b (visited k start old lent.reader left.reader same (Ok op) h)
+read_within k start old lent left p code None same b h =
+    left_within {A = Operator} ReturnsOperator k start old lent left tt tt p code None same b (visited k start old lent.reader left.reader same (Err left.refusal) h)
 
 -- reading a `GcOperator` after the subopcode is reading its operator
 pub as_gc : (k : FrameKind) (start : ℕ) (old mid new : Reader) (result : Result GcOperator Error) → mid ≡ at_position old mid.position →

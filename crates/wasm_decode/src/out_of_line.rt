@@ -1,15 +1,14 @@
 //! Decodes the bytes after a prefix byte by a call that is not inlined, so that the code for
 //! operators with a one-byte opcode stays small.
 //!
-//! The call borrows a copy of the reader and a place for an error: the caller's reader and the
-//! result stay in registers. It is cold, so that the compiler places the code around it after the
-//! loop.
-ghost use Rattle.std.specs.Prelude.{ℕ, Option, Ok, Err, IfSome, IfNone};
+//! The call is cold, so that the compiler places the code around it after the loop.
+ghost use Rattle.std.specs.Prelude.{ℕ, Option};
+ghost use Rattle.wasm_visit.specs.decode.Lent.{ByLent};
 ghost use Rattle.wasm_visit.specs.grammar.declared.frame_kind.FrameKind.{FrameKind};
 ghost use Rattle.wasm_visit.specs.opcodes.Decoding.{IsAfterCode, DecodesAt};
 
-use wasm_visit::Visitor;
-use wasm_visit::below::{BinaryReader, Error, Message, Result};
+use wasm_visit::below::{BinaryReader, Result};
+use wasm_visit::{Lent, Visitor};
 
 /// A decoder that starts after a prefix byte or after its subopcode, for the visitor `V`.
 pub trait AfterPrefix<V: Visitor> {
@@ -24,12 +23,6 @@ pub trait AfterPrefix<V: Visitor> {
         ensures { (frame : FrameKind) → DecodesAt V.visits frame start result reader.old reader.new v.old v.new };
 }
 
-/// Returns an error to be overwritten.
-#[inline(always)]
-pub fn place() -> Error {
-    Error::new(Message::EndOfData, 0)
-}
-
 #[inline(always)]
 pub fn visit_after_prefix<V: Visitor, B: AfterPrefix<V>>(
     v: &mut V,
@@ -40,40 +33,31 @@ pub fn visit_after_prefix<V: Visitor, B: AfterPrefix<V>>(
     requires { IsAfterCode start (B.prefix after) (B.code after) reader.old }
     ensures { (frame : FrameKind) → DecodesAt V.visits frame start result reader.old reader.new v.old v.new }
 {
-    let mut lent = reader.clone();
-    let mut refusal = place();
-    match out_of_line(v, &mut lent, start, after, &mut refusal) {
-        Some(outcome) => {
-            reader.set_position(lent.current_position());
-            Ok(outcome)
-        }
-        None => {
-            reader.rewind(start);
-            Err(refusal)
-        }
+    let mut lent = Lent::new(reader);
+    let outcome = out_of_line(v, &mut lent, start, after);
+    lent.take_back(reader);
+    match outcome {
+        Some(outcome) => Ok(outcome),
+        None => Err(lent.refusal),
     }
 }
 
-/// Returns the result of the visit, or writes the error to `refusal`.
 #[cold]
 #[inline(never)]
 fn out_of_line<V: Visitor, B: AfterPrefix<V>>(
     v: &mut V,
-    reader: &mut BinaryReader<'_>,
+    lent: &mut Lent<'_>,
     start: usize,
     after: B,
-    refusal: &mut Error,
 ) -> Option<V::Output>
-    requires { IsAfterCode start (B.prefix after) (B.code after) reader.old }
-    ensures visited { IfSome result (λ outcome. (frame : FrameKind)
-        → DecodesAt V.visits frame start (Ok outcome) reader.old reader.new v.old v.new) }
-    ensures refused { IfNone result ((frame : FrameKind)
-        → DecodesAt V.visits frame start (Err refusal.new) reader.old reader.new v.old v.new) }
+    requires { IsAfterCode start (B.prefix after) (B.code after) lent.old.reader }
+    ensures { (frame : FrameKind)
+        → ByLent (λ r old new. DecodesAt V.visits frame start r old new v.old v.new) result lent.old lent.new }
 {
-    match after.visit(v, reader, start) {
+    match after.visit(v, &mut lent.reader, start) {
         Ok(outcome) => Some(outcome),
         Err(e) => {
-            *refusal = e;
+            lent.refusal = e;
             None
         }
     }

@@ -1,20 +1,21 @@
 //! Reads an operator by the visitor `Made` or, with the prefix byte 0xfb, without a visitor.
-ghost use Rattle.std.specs.Prelude.{◌≢◌, None, Some, Ok, Err, IfSome, IfNone};
+ghost use Rattle.std.specs.Prelude.{◌≢◌, None, Some};
 ghost use Rattle.wasm_decode.specs.Reading.{DecodesOperatorIn, DecodesGcAt};
+ghost use Rattle.wasm_visit.specs.decode.Lent.{ByLent};
 ghost use Rattle.wasm_visit.specs.grammar.declared.frame_kind.FrameKind.{FrameKind};
 ghost use Rattle.wasm_visit.specs.opcodes.Decoding.{DecodesOperatorAt, IsAfterCode};
 
 use crate::after::{subopcode, vector_without_immediates};
-use crate::out_of_line::{place, visit_after_prefix};
+use crate::out_of_line::visit_after_prefix;
 use crate::prefixes::{Atomic, Misc, Simd};
 use crate::refusals::no_frame;
 use std::alloc::Global;
-use wasm_visit::below::{BinaryReader, Error, Result};
+use wasm_visit::below::{BinaryReader, Result};
 use wasm_visit::grammar::FrameKind;
 use wasm_visit::instr::{GcOperator, Operator};
 use wasm_visit::opcodes::immediates;
 use wasm_visit::reading::{Made, numeric_by, one_byte_by, read_gc_operator};
-use wasm_visit::{ByAny, decode};
+use wasm_visit::{ByAny, Lent, decode};
 
 /// Reads the operator at the start of the rest. `frame` is the innermost frame. Fails like
 /// `visit_operator_simd`.
@@ -70,45 +71,33 @@ fn read_table<'a>(reader: &mut BinaryReader<'a>, start: usize) -> Result<Operato
     }
 }
 
-/// Reads an operator after the prefix byte 0xfb, by a call that borrows a copy of the reader.
+/// Reads an operator after the prefix byte 0xfb, by a call that is not inlined.
 #[inline(always)]
 fn read_gc(reader: &mut BinaryReader<'_>, start: usize) -> Result<Operator<'static>>
     requires { IsAfterCode start None 0xfb reader.old }
     ensures { (frame : FrameKind) → DecodesOperatorAt frame start result reader.old reader.new }
 {
-    let mut lent = reader.clone();
-    let mut refusal = place();
-    match gc_out_of_line(&mut lent, start, &mut refusal) {
-        Some(op) => {
-            reader.set_position(lent.current_position());
-            Ok(op)
-        }
-        None => {
-            reader.rewind(start);
-            Err(refusal)
-        }
+    let mut lent = Lent::new(reader);
+    let outcome = gc_out_of_line(&mut lent, start);
+    lent.take_back(reader);
+    match outcome {
+        Some(op) => Ok(op),
+        None => Err(lent.refusal),
     }
 }
 
-/// Returns the operator, or writes the error to `refusal`. The `Operator` is made at an exit that
-/// no error reaches.
+/// Makes the `Operator` at an exit that no error reaches.
 #[cold]
 #[inline(never)]
-fn gc_out_of_line(
-    reader: &mut BinaryReader<'_>,
-    start: usize,
-    refusal: &mut Error,
-) -> Option<Operator<'static>>
-    requires { IsAfterCode start None 0xfb reader.old }
-    ensures read { IfSome result (λ op. (frame : FrameKind)
-        → DecodesOperatorAt frame start (Ok op) reader.old reader.new) }
-    ensures refused { IfNone result ((frame : FrameKind)
-        → DecodesOperatorAt frame start (Err refusal.new) reader.old reader.new) }
+fn gc_out_of_line(lent: &mut Lent<'_>, start: usize) -> Option<Operator<'static>>
+    requires { IsAfterCode start None 0xfb lent.old.reader }
+    ensures { (frame : FrameKind)
+        → ByLent (λ r old new. DecodesOperatorAt frame start r old new) result lent.old lent.new }
 {
-    let op = match gc_of(reader, start) {
+    let op = match gc_of(&mut lent.reader, start) {
         Ok(op) => op,
         Err(e) => {
-            *refusal = e;
+            lent.refusal = e;
             return None;
         }
     };

@@ -1,5 +1,6 @@
 pub mod Arms
 pub mod Codes
+pub mod Copies
 pub mod WithoutImmediates
 pub mod Ranges
 pub use Rattle.wasm_visit_groups.proofs.of_below as of_below

@@ -1,4 +1,5 @@
 pub mod Arms
+pub mod Lent
 pub mod OneByte
 pub mod WithoutImmediates
 pub use Rattle.wasm_visit_groups.specs.below as below

@@ -5,6 +5,7 @@
 mod arm;
 mod atomic_operators;
 mod gc_operators;
+mod lent;
 mod misc_operators;
 mod numeric_operators;
 mod one_byte_arms;
@@ -17,6 +18,7 @@ mod vectors_without_immediates;
 
 pub use atomic_operators::{AtAtomic, atomic, atomic_by};
 pub use gc_operators::{AtGc, gc, gc_by, read_gc_operator};
+pub use lent::Lent;
 pub use misc_operators::{AtMisc, misc, misc_by};
 pub use numeric_operators::{numeric, numeric_by};
 pub use one_byte_operators::{AtOneByte, one_byte, one_byte_by};

@@ -1,14 +1,13 @@
 //! The less frequent operators with a one-byte opcode, decoded by one call that is not inlined.
-//!
-//! The call borrows a copy of the reader and a place for an error. So the caller's reader and the
-//! result of a visit stay in registers.
-ghost use Rattle.std.specs.Prelude.{◌≡◌, None, Ok, Err, IfSome, IfNone};
+ghost use Rattle.std.specs.Prelude.{None};
+ghost use Rattle.wasm_decode_groups.specs.Lent.{ByLent};
 ghost use Rattle.wasm_decode_groups.specs.OneByte.{IsOneByteCode};
 ghost use Rattle.wasm_decode_opcodes.specs.Decoding.{DecodesAt, IsAfterCode};
 
+use crate::lent::Lent;
 use crate::one_byte_operators::{AtOneByte, any_one_byte_by};
 use std::alloc::Global;
-use wasm_visit_groups::below::{BinaryReader, Error, Message, Result};
+use wasm_visit_groups::below::{BinaryReader, Result};
 use wasm_visit_groups::grammar::FrameKind;
 use wasm_visit_groups::{Own, VisitOneByte, Visitor};
 
@@ -43,39 +42,33 @@ pub fn other_one_byte_by<V: Visitor, R: AtOneByte<V>>(
     requires apart { IsOneByteCode code }
     ensures { DecodesAt V.visits frame start result reader.old reader.new v.old v.new }
 {
-    let mut lent = reader.clone();
-    let mut refusal = Error::new(Message::EndOfData, 0);
-    let outcome = out_of_line::<V, R>(alloc, v, &mut lent, start, frame, code, &mut refusal);
-    reader.set_position(lent.current_position());
+    let mut lent = Lent::new(reader);
+    let outcome = out_of_line::<V, R>(alloc, v, &mut lent, start, frame, code);
+    lent.take_back(reader);
     match outcome {
         Some(outcome) => Ok(outcome),
-        None => Err(refusal),
+        None => Err(lent.refusal),
     }
 }
 
-/// Decodes the operator, without being inlined. Returns the result of the visit, or writes the
-/// error to `refusal`.
+/// Decodes the operator, without being inlined.
 #[inline(never)]
 fn out_of_line<V: Visitor, R: AtOneByte<V>>(
     alloc: Global,
     v: &mut V,
-    reader: &mut BinaryReader<'_>,
+    lent: &mut Lent<'_>,
     start: usize,
     frame: FrameKind,
     code: u8,
-    refusal: &mut Error,
 ) -> Option<V::Output>
-    requires after { IsAfterCode start None code reader.old }
+    requires after { IsAfterCode start None code lent.old.reader }
     requires apart { IsOneByteCode code }
-    ensures visited { IfSome result
-        (λ outcome. DecodesAt V.visits frame start (Ok outcome) reader.old reader.new v.old v.new) }
-    ensures refused { IfNone result
-        (DecodesAt V.visits frame start (Err refusal.new) reader.old reader.new v.old v.new) }
+    ensures { ByLent (λ r old new. DecodesAt V.visits frame start r old new v.old v.new) result lent.old lent.new }
 {
-    match any_one_byte_by::<V, R>(alloc, v, reader, start, frame, code) {
+    match any_one_byte_by::<V, R>(alloc, v, &mut lent.reader, start, frame, code) {
         Ok(outcome) => Some(outcome),
         Err(e) => {
-            *refusal = e;
+            lent.refusal = e;
             None
         }
     }

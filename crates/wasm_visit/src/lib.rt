@@ -27,7 +27,7 @@ pub use wasm_decode_groups::groups::{
     Through, VisitAtomic, VisitGc, VisitMisc, VisitNumeric, VisitOneByte, VisitSimdHigh,
     VisitSimdLow, Visitor,
 };
-pub use wasm_decode_groups::{below, grammar, imm, instr, opcodes};
+pub use wasm_decode_groups::{Lent, below, grammar, imm, instr, opcodes};
 
 /// The decoders of the groups, for a visitor that overrides visits.
 pub mod decode {

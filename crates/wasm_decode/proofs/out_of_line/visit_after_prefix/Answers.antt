@@ -1,24 +1,23 @@
-use Rattle.std.proofs.Common.{Ok, arith}
-use Rattle.wasm_decode.proofs.DecodingLemmas.{copy_within, by_copy, copy_refused}
+use Rattle.std.proofs.Common.{Ok, Err}
+use Rattle.wasm_visit.proofs.of_decode.Copies.{left_within, by_copy}
 use Rattle.wasm_visit.specs.grammar.declared.frame_kind.FrameKind.TheVariants as frame_kind
 use Rattle.wasm_decode.proofs.out_of_line.visit_after_prefix.Goals as goal
 
-pub set_position-requires : goal.set_position-requires
-set_position-requires g c =
-    let call = c.out_of_line in
+pub take_back-requires : goal.take_back-requires
+take_back-requires g c =
+    let call = c.out_of_line-outcome in
     let after = c.args.after in
-    let within = copy_within g.V.Visitor.visits frame_kind.Block c.args.start c.args.reader.now c.clone-lent.result call.new.reader c.args.v.now call.new.v c.clone-lent.ensures
-    (g.B.AfterPrefix.prefix after) (g.B.AfterPrefix.code after) c.in-Some.outcome c.requires (c.in-Some.ensures.visited frame_kind.Block) in
-    omega (arith, within, c.current_position.ensures)
+    left_within g.V.Visitor.visits frame_kind.Block c.args.start c.args.reader.now c.new-lent.result call.new.lent c.args.v.now call.new.v
+    (g.B.AfterPrefix.prefix after) (g.B.AfterPrefix.code after) call.result c.new-lent.ensures c.requires (call.ensures frame_kind.Block)
 
 pub returns-in-Some : goal.returns-in-Some
 returns-in-Some g c k =
-    let call = c.out_of_line in
-    by_copy g.V.Visitor.visits k c.args.start c.args.reader.now c.clone-lent.result call.new.reader c.args.v.now call.new.v c.clone-lent.ensures
-    (Ok c.in-Some.outcome) c.set_position.new.self c.current_position.result (c.in-Some.ensures.visited k) c.current_position.ensures c.set_position.ensures
+    let call = c.out_of_line-outcome in
+    by_copy g.V.Visitor.visits k c.args.start c.args.reader.now c.new-lent.result.reader call.new.lent.reader c.args.v.now call.new.v c.new-lent.ensures
+    (Ok c.in-Some.outcome) c.take_back.new.reader (c.in-Some.ensures k) c.take_back.ensures
 
 pub returns-in-None : goal.returns-in-None
 returns-in-None g c k =
-    let call = c.out_of_line in
-    copy_refused g.V.Visitor.visits k c.args.start c.args.reader.now c.clone-lent.result call.new.reader c.args.v.now call.new.v c.clone-lent.ensures
-    call.new.refusal c.rewind.new.self (c.in-None.ensures.refused k) c.rewind.ensures
+    let call = c.out_of_line-outcome in
+    by_copy g.V.Visitor.visits k c.args.start c.args.reader.now c.new-lent.result.reader call.new.lent.reader c.args.v.now call.new.v c.new-lent.ensures
+    (Err call.new.lent.refusal) c.take_back.new.reader (c.in-None.ensures k) c.take_back.ensures

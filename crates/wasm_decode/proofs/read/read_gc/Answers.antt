@@ -1,20 +1,22 @@
-use Rattle.std.proofs.Common.{None, Ok, arith}
-use Rattle.wasm_decode.proofs.DecodingLemmas.{read_within, read_by_copy, read_refused}
+use Rattle.std.proofs.Common.{None, Ok, Err}
+use Rattle.wasm_decode.proofs.DecodingLemmas.{read_within, read_by_copy}
 use Rattle.wasm_visit.specs.grammar.declared.frame_kind.FrameKind.TheVariants as frame_kind
 use Rattle.wasm_decode.proofs.read.read_gc.Goals as goal
 
-pub set_position-requires : goal.set_position-requires
-set_position-requires c =
-    let within = read_within frame_kind.Block c.args.start c.args.reader.now c.clone-lent.result c.gc_out_of_line.new.reader c.clone-lent.ensures
-    None 0xfb c.in-Some.op c.requires (c.in-Some.ensures.read frame_kind.Block) in
-    omega (arith, within, c.current_position.ensures)
+pub take_back-requires : goal.take_back-requires
+take_back-requires c =
+    let call = c.gc_out_of_line-outcome in
+    read_within frame_kind.Block c.args.start c.args.reader.now c.new-lent.result call.new.lent None 0xfb call.result c.new-lent.ensures c.requires
+    (call.ensures frame_kind.Block)
 
 pub returns-in-Some : goal.returns-in-Some
 returns-in-Some c k =
-    read_by_copy k c.args.start c.args.reader.now c.clone-lent.result c.gc_out_of_line.new.reader c.clone-lent.ensures (Ok c.in-Some.op) c.set_position.new.self
-    c.current_position.result (c.in-Some.ensures.read k) c.current_position.ensures c.set_position.ensures
+    let call = c.gc_out_of_line-outcome in
+    read_by_copy k c.args.start c.args.reader.now c.new-lent.result.reader call.new.lent.reader c.new-lent.ensures (Ok c.in-Some.op) c.take_back.new.reader
+    (c.in-Some.ensures k) c.take_back.ensures
 
 pub returns-in-None : goal.returns-in-None
 returns-in-None c k =
-    read_refused k c.args.start c.args.reader.now c.clone-lent.result c.gc_out_of_line.new.reader c.clone-lent.ensures c.gc_out_of_line.new.refusal c.rewind.new.self
-    (c.in-None.ensures.refused k) c.rewind.ensures
+    let call = c.gc_out_of_line-outcome in
+    read_by_copy k c.args.start c.args.reader.now c.new-lent.result.reader call.new.lent.reader c.new-lent.ensures (Err call.new.lent.refusal) c.take_back.new.reader
+    (c.in-None.ensures k) c.take_back.ensures

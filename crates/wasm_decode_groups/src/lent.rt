@@ -1,0 +1,35 @@
+//! What a call that is not inlined borrows, so that its caller's reader and the result of a visit
+//! stay in registers.
+ghost use Rattle.std.specs.Prelude.{◌≡◌, ◌≤◌, length};
+ghost use Rattle.wasm_visit_groups.specs.below.Source.{at_position};
+
+use wasm_visit_groups::below::{BinaryReader, Error, Message};
+
+/// A copy of a reader, and a place for an error. The place is first, since the reader ends with
+/// padding, which the compiler would clear at each call.
+#[derive(Drop)]
+pub struct Lent<'a> {
+    pub refusal: Error,
+    pub reader: BinaryReader<'a>,
+}
+
+impl<'a> Lent<'a> {
+    #[inline(always)]
+    pub fn new(reader: &BinaryReader<'a>) -> Lent<'a>
+        ensures { result.reader ≡ reader.now }
+    {
+        Lent {
+            refusal: Error::new(Message::EndOfData, 0),
+            reader: reader.clone(),
+        }
+    }
+
+    /// Moves the reader to the position of its copy.
+    #[inline(always)]
+    pub fn take_back(&self, reader: &mut BinaryReader<'a>)
+        requires { self.now.reader.position ≤ length reader.old.buffer }
+        ensures { reader.new ≡ at_position reader.old self.now.reader.position }
+    {
+        reader.set_position(self.reader.current_position());
+    }
+}
