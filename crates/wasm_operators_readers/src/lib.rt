@@ -5,7 +5,6 @@
 //! after the last operator that was read.
 #![tactic(auto)]
 
-mod allocations;
 mod begin;
 mod collector;
 pub mod decoding_laws;
@@ -19,10 +18,9 @@ pub mod position_laws;
 pub mod run_laws;
 mod stack;
 
-pub use allocations::OperatorsReaderAllocations;
 pub use iterators::{OperatorsIterator, OperatorsIteratorWithOffsets};
 pub use operators::OperatorsReader;
-pub use stack::ControlStack;
+pub use stack::{ControlStack, OperatorsReaderAllocations};
 pub use wasm_decode::{below, grammar, imm, instr, visitors};
 
 /// The decoder of one operator.

@@ -3,7 +3,6 @@ ghost use Rattle.wasm_decode.specs.grammar.Frames.{frames_changed, innermost, op
 ghost use Rattle.wasm_decode.specs.imm.OutOfMemory.{IsOutOfMemoryAt};
 ghost use Rattle.wasm_operators_readers.specs.Stack.{HasRoom, GrowsByDoubling, IsSameMemory, frame_memory};
 
-use crate::allocations::OperatorsReaderAllocations;
 use std::alloc::{AllocError, Global};
 use std::marker::Model;
 use std::mem::replace;
@@ -52,8 +51,9 @@ impl ControlStack {
         ensures frames { result.frames ≡ frame ∷ [] }
         ensures room { result.room ≡ allocations }
     {
+        let OperatorsReaderAllocations { frames } = allocations;
         ControlStack {
-            around: allocations.into_frames(),
+            around: frames,
             current: Some(frame),
         }
     }
@@ -62,8 +62,9 @@ impl ControlStack {
     pub fn into_allocations(self) -> OperatorsReaderAllocations
         ensures { result ≡ frame_memory self.frames self.room }
     {
-        let ControlStack { around, .. } = self;
-        OperatorsReaderAllocations::from_frames(around)
+        let ControlStack { mut around, .. } = self;
+        around.clear();
+        OperatorsReaderAllocations { frames: around }
     }
 
     /// Closes all frames and keeps the capacity.
@@ -241,6 +242,48 @@ impl ControlStack {
             around,
             current: self.current,
         })
+    }
+}
+
+/// The memory of a reader's frames, for reuse. Contracts see its capacity in frames.
+#[derive(Debug, Drop)]
+pub struct OperatorsReaderAllocations {
+    frames: Vec<FrameKind>,
+}
+
+impl Model for OperatorsReaderAllocations {
+    ghost use Rattle.std.specs.Prelude.{◌≡◌, ℕ, []};
+    ghost use Rattle.std.specs.Vec.{vec_capacity};
+
+    ghost Value = { ℕ };
+
+    ghost view = { λ a. vec_capacity a.frames };
+
+    ghost invariant = { λ a. a.frames.items ≡ [] };
+}
+
+impl OperatorsReaderAllocations {
+    pub fn new(alloc: Global) -> OperatorsReaderAllocations
+        ensures { result ≡ 0 }
+    {
+        OperatorsReaderAllocations {
+            frames: Vec::new(alloc),
+        }
+    }
+
+    /// Raises the capacity to `frames`, unless it is greater already. Fails with `OutOfMemory` at
+    /// offset 0.
+    pub fn reserve(&mut self, frames: usize) -> Result<()>
+        ensures room { OnOk result (frames ≤ self.new) }
+        ensures kept { self.old ≤ self.new }
+        ensures enough { frames ≤ self.old → IsOk result }
+        ensures most { self.new ≤ max self.old frames }
+        ensures refused { IfErr result (λ e. IsOutOfMemoryAt 0 e × (self.new ≡ self.old)) }
+    {
+        if self.frames.reserve_exact(frames).is_err() {
+            return Err(Error::new(Message::OutOfMemory, 0));
+        }
+        Ok(())
     }
 }
 
