@@ -1,7 +1,10 @@
 -- What precedes the immediates of an operator.
-use Rattle.std.proofs.Common.{◌≡◌, ℕ, ◌+◌, ◌≤◌, length, Some, sym, subst, ap, ◌∙◌, arith}
+use Rattle.std.proofs.Common.{◌≡◌, ℕ, ◌+◌, ◌≤◌, true, false, length, Some, Result, Ok, Err, inl, inr, sym, subst, ap, ◌∙◌, arith}
+use Rattle.std.proofs.lemmas.Bool.{cases_lt, false≢true}
+use Rattle.std.specs.Prelude.{is_err, IsOk, IfErr}
 use Rattle.wasm_decode.specs.below.bytes.error.Error.{Error}
 use Rattle.wasm_decode.specs.below.bytes.message.Message.TheVariants as message
+use Rattle.wasm_decode.specs.imm.OutOfMemory.{IsOutOfMemoryAt}
 use Rattle.wasm_decode.specs.below.Source.{Reader, rest, at_position, BeginsWith, HasRead, IsByte}
 use Rattle.wasm_decode.proofs.of_below.TakesLemmas.{first_byte_read}
 use Rattle.wasm_decode.specs.grammar.declared.frame_kind.FrameKind.{FrameKind}
@@ -20,6 +23,18 @@ back_to old mid code start reads same =
     let h = occurs old mid code start reads same in
     let f = first_byte_read old mid code reads in
     (h.1.begun, h.0, (rest mid, f.2.parts))
+
+no_room : (room : ℕ) → (1 ≤ room → false ≡ true) → room ≡ 0
+no_room room enough = elim (cases_lt room 1) [
+  | inl below ↦ omega (arith, below)
+  | inr some ↦ absurd (false≢true (enough some))
+]
+
+-- after `reserve` failed for one frame
+pub not_reserved : {X : Type 0} (r : Result X Error) (s t : OpenFrames) → is_err r ≡ true → (1 ≤ s.room → IsOk r) → IfErr r (λ e. IsOutOfMemoryAt 0 e × (t ≡ s)) →
+    (s.room ≡ 0) × (t ≡ s)
+not_reserved (Ok x) s t is enough refused = absurd (false≢true is)
+not_reserved (Err e) s t is enough refused = (no_room s.room enough, refused.1)
 
 pub begun_without_room : (Encodes : Taking) (Fault : Refusing) (old mid new : Reader) (s t : OpenFrames) (kind : FrameKind) (code start : ℕ) (c : FrameChange) (e : Error) →
     innermost s.frames ≡ Some kind → HasRead IsByte code old mid → start ≡ old.position → c ≡ change_at code → OpensFrame c → s.room ≡ 0 → t ≡ s → new ≡ at_position mid start →

@@ -12,6 +12,7 @@ use Rattle.wasm_decode.specs.instr.declared.operator.Operator.{Operator}
 use Rattle.wasm_decode.specs.instr.Encoding.{EncodesOpcode}
 use Rattle.wasm_decode.specs.instr.Roles.{role_of, change_at}
 use Rattle.wasm_decode.proofs.of_instr.FirstBytes.{changes_there}
+use Rattle.wasm_decode.proofs.of_instr.HighBytes.{stays_from_20}
 use Rattle.wasm_decode.specs.opcodes.Decoding.{DecodesOperator, IsAfterCode}
 use Rattle.wasm_decode.specs.opcodes.Refused.{MayAllocate}
 use Rattle.wasm_operators_readers.specs.Expression.{IsAny}
@@ -64,6 +65,15 @@ begun_took Encodes sound allowed old mid new kind code start op text b encodes t
       memory = as_little (frame_memory old.frames old.room) (length old.frames) 10 (frame_memory mid.frames mid.room) (frame_memory new.frames new.room) b.memory same;
       kept = let depth = ap length b.frames in omega (arith, kept, same, depth);
     }
+
+pub begun_kept : (Encodes : Taking) → IsSound Encodes → TakesAllowed Encodes → (old mid new : State) (kind : FrameKind) (code start : ℕ) (op : Operator)
+    (text : List ℕ) → 0x20 ≤ code → BeginsOperator old mid kind start code → Encodes mid.reader.features kind text op → Takes (at_position mid.reader start) new.reader text →
+    new.frames ≡ mid.frames → new.room ≡ mid.room → TakesOperator Encodes op old new
+begun_kept Encodes sound allowed old mid new kind code start op text high b encodes takes frames room =
+    begun_took Encodes sound allowed old mid new kind code start op text b encodes takes
+    (frames ∙ ap (frames_changed mid.frames) (sym (stays_from_20 code high)))
+    (omega (arith, room))
+    (ap (λ (n : ℕ). frame_memory new.frames n) room ∙ ap (λ (fs : List FrameKind). frame_memory fs mid.room) frames)
 
 pub refused_unchanged : (Encodes : Taking) (Fault : Refusing) (old new : State) (kind : FrameKind) (e : Error) → innermost old.frames ≡ Some kind →
     DecodesOperator (Encodes old.reader.features kind) (Fault old.reader.features kind) (Err e) old.reader new.reader → new.frames ≡ old.frames → old.room ≤ new.room →

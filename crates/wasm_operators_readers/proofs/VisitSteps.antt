@@ -1,18 +1,17 @@
 -- A visit after its opcode: below 0x20 the stack changes; from 0x20 on the frames stay.
-use Rattle.std.proofs.Common.{◌≡◌, ℕ, ◌+◌, ◌≤◌, List, Result, Ok, Err, sym, ap, ◌∙◌, arith}
+use Rattle.std.proofs.Common.{◌≡◌, ℕ, ◌+◌, ◌≤◌, Result, Ok, Err}
 use Rattle.wasm_decode.specs.below.bytes.error.Error.{Error}
 use Rattle.wasm_decode.specs.below.Source.{at_position}
 use Rattle.wasm_decode.specs.grammar.declared.frame_kind.FrameKind.{FrameKind}
 use Rattle.wasm_decode.specs.grammar.Frames.{frames_changed, opened}
 use Rattle.wasm_decode.specs.instr.declared.operator.Operator.{Operator}
 use Rattle.wasm_decode.specs.instr.Roles.{change_at}
-use Rattle.wasm_decode.proofs.of_instr.HighBytes.{stays_from_20}
 use Rattle.wasm_decode.specs.opcodes.Decoding.{Decodes}
 use Rattle.wasm_operators_readers.specs.Reading.{Taking, Refusing, State, VisitsOperator}
 use Rattle.wasm_operators_readers.specs.Stack.{frame_memory}
 use Rattle.wasm_operators_readers.proofs.Premises.{IsSound}
 use Rattle.wasm_operators_readers.specs.Next.{BeginsOperator}
-use Rattle.wasm_operators_readers.proofs.Taken.{one_read, TakesAllowed, begun_took, begun_stopped}
+use Rattle.wasm_operators_readers.proofs.Taken.{one_read, TakesAllowed, begun_took, begun_kept, begun_stopped}
 
 module _ {V A : Type 0} (visits : V → Operator → A → V → Type 0) (Encodes : Taking) (Fault : Refusing) where
   abbrev pub After : State → State → FrameKind → ℕ → Result A Error → V → V → Type 0
@@ -35,9 +34,7 @@ module _ {V A : Type 0} (visits : V → Operator → A → V → Type 0) (Encode
   pub visited_from_20 : IsSound Encodes → TakesAllowed Encodes → (old mid new : State) (kind : FrameKind) (code start : ℕ) (result : Result A Error) (v w : V) →
       0x20 ≤ code → BeginsOperator old mid kind start code → After mid new kind start result v w → new.frames ≡ mid.frames → new.room ≡ mid.room →
       VisitsOperator visits (one_read Encodes Fault) result old new v w
-  visited_from_20 sound allowed old mid new kind code start (Ok a) v w high b after frames room =
-      visited_changing sound allowed old mid new kind code start a v w b after (frames ∙ ap (frames_changed mid.frames) (sym (stays_from_20 code high)))
-      (omega (arith, room))
-      (ap (λ (n : ℕ). frame_memory new.frames n) room ∙ ap (λ (fs : List FrameKind). frame_memory fs mid.room) frames)
+  visited_from_20 sound allowed old mid new kind code start (Ok a) v w high b (op, (text, encodes, takes), visit) frames room =
+      (op, begun_kept Encodes sound allowed old mid new kind code start op text high b encodes takes frames room, visit)
   visited_from_20 sound allowed old mid new kind code start (Err e) v w high b after frames room =
       refused_after old mid new kind code start e v w b after frames room

@@ -1,15 +1,17 @@
-//! What precedes and follows the immediates of an operator.
-ghost use Rattle.std.specs.Prelude.{◌≡◌, ◌↔◌, ◌+◌, ◌≤◌, IsSome, IsTrue, IfOk, IfErr};
-ghost use Rattle.wasm_decode.specs.grammar.Frames.{frames_changed, innermost, opened, OpensFrame};
-ghost use Rattle.wasm_decode.specs.instr.Roles.{change_at};
-ghost use Rattle.wasm_operators_readers.specs.Stack.{HasRoom, IsSameMemory};
+//! What precedes the immediates of an operator.
+ghost use Rattle.std.specs.Prelude.{IfOk, IfErr};
 ghost use Rattle.wasm_operators_readers.specs.Next.{BeginsOperator, StopsNext, state_of, simd, scalar};
 
 use crate::ControlStack;
 use wasm_decode::below::{BinaryReader, Message, Result};
-use wasm_decode::grammar::{FrameKind, frame_change_at};
+use wasm_decode::grammar::{FrameChange, FrameKind, frame_change_at};
 use wasm_decode::no_frame;
 
+/// The first opcode from which on every operator keeps the frames.
+pub const KEEPS_FRAMES_FROM: u8 = 0x20;
+
+/// The start of an operator. The change of the frames is found again from `code`, which is a
+/// constant where the operator is decoded: a stored change would need a branch.
 #[derive(Clone, Copy, Debug)]
 pub struct OperatorStart {
     pub frame: FrameKind,
@@ -35,38 +37,14 @@ pub fn begin(reader: &mut BinaryReader<'_>, control: &mut ControlStack) -> Resul
     let start = reader.current_position();
     match reader.read_u8() {
         Ok(code) => {
-            if keeps_frames(code) {
-                return Ok(OperatorStart { frame, start, code });
+            if code < KEEPS_FRAMES_FROM
+                && matches!(frame_change_at(code), FrameChange::Opens(_))
+                && control.reserve(1).is_err()
+            {
+                return Err(reader.refuse(start, Message::OutOfMemory));
             }
-            match control.make_room(frame_change_at(code)) {
-                Ok(()) => Ok(OperatorStart { frame, start, code }),
-                Err(_) => Err(reader.refuse(start, Message::OutOfMemory)),
-            }
+            Ok(OperatorStart { frame, start, code })
         }
         Err(e) => Err(e),
     }
-}
-
-/// Changes the frames after an operator was read. The change is found again from the opcode, which
-/// is a constant where the operator is decoded: a stored change would need a branch.
-#[inline(always)]
-pub fn change_frames(control: &mut ControlStack, code: u8)
-    requires open { IsSome (innermost control.old.frames) }
-    requires room { OpensFrame (change_at code) → HasRoom control.old }
-    ensures frames { control.new.frames ≡ frames_changed control.old.frames (change_at code) }
-    ensures room { control.old.room ≤ control.new.room + opened (change_at code) }
-    ensures memory { IsSameMemory control.old control.new }
-{
-    if keeps_frames(code) {
-        return;
-    }
-    control.apply_change(frame_change_at(code));
-}
-
-/// Returns whether the opcode is at least 0x20: such operators keep the frames.
-#[inline(always)]
-pub fn keeps_frames(opcode: u8) -> bool
-    ensures { IsTrue result ↔ (0x20 ≤ opcode) }
-{
-    opcode >= 0x20
 }

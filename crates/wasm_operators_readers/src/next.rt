@@ -10,10 +10,11 @@ ghost use Rattle.wasm_operators_readers.specs.Reading.{Finishes, RunsToEnd};
 ghost use Rattle.wasm_operators_readers.specs.Visiting.{Visited, VisitedScalar};
 
 use crate::ControlStack;
-use crate::begin::{begin, change_frames, keeps_frames};
+use crate::begin::{KEEPS_FRAMES_FROM, begin};
 use crate::collector::Collector;
 use std::alloc::Global;
 use wasm_decode::below::{BinaryReader, Error, Message, Result};
+use wasm_decode::grammar::frame_change_at;
 use wasm_decode::visitors::{HoldTable, VisitOperator};
 use wasm_decode::{visit_after_opcode, visit_after_opcode_simd, visit_below_0x20};
 
@@ -31,12 +32,12 @@ where
 {
     match begin(reader, control) {
         Ok(at) => {
-            if keeps_frames(at.code) {
+            if at.code >= KEEPS_FRAMES_FROM {
                 return visit_after_opcode_simd(alloc, v, reader, at.start, at.frame, at.code);
             }
             match visit_below_0x20(alloc, v, reader, at.start, at.frame, at.code) {
                 Ok(outcome) => {
-                    change_frames(control, at.code);
+                    control.apply_change(frame_change_at(at.code));
                     Ok(outcome)
                 }
                 Err(e) => Err(e),
@@ -58,12 +59,12 @@ pub fn visit_next<'a, V: VisitOperator<'a>>(
 {
     match begin(reader, control) {
         Ok(at) => {
-            if keeps_frames(at.code) {
+            if at.code >= KEEPS_FRAMES_FROM {
                 return visit_after_opcode(alloc, v, reader, at.start, at.frame, at.code);
             }
             match visit_below_0x20(alloc, v, reader, at.start, at.frame, at.code) {
                 Ok(outcome) => {
-                    change_frames(control, at.code);
+                    control.apply_change(frame_change_at(at.code));
                     Ok(outcome)
                 }
                 Err(e) => Err(e),

@@ -8,13 +8,13 @@ ghost use Rattle.wasm_operators_readers.specs.Next.{ReadsNext, VisitsNext, Visit
 mod stack;
 mod to_end;
 
-use crate::begin::{begin, change_frames};
+use crate::begin::{KEEPS_FRAMES_FROM, begin};
 use crate::next::{finish, visit_next, visit_next_simd};
 use crate::{ControlStack, OperatorsReaderAllocations};
 use std::alloc::Global;
 use std::marker::Model;
 use wasm_decode::below::{BinaryReader, Result};
-use wasm_decode::grammar::FrameKind;
+use wasm_decode::grammar::{FrameKind, frame_change_at};
 use wasm_decode::instr::Operator;
 use wasm_decode::read_after_opcode;
 use wasm_decode::visitors::VisitOperator;
@@ -124,7 +124,9 @@ impl<'a> OperatorsReader<'a> {
             Ok(at) => {
                 match read_after_opcode(self.alloc, &mut self.reader, at.start, at.frame, at.code) {
                     Ok(operator) => {
-                        change_frames(&mut self.control, at.code);
+                        if at.code < KEEPS_FRAMES_FROM {
+                            self.control.apply_change(frame_change_at(at.code));
+                        }
                         Ok(operator)
                     }
                     Err(e) => Err(e),

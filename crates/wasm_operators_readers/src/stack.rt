@@ -129,23 +129,6 @@ impl ControlStack {
         Ok(())
     }
 
-    /// Reserves capacity for the frame that this change opens, if any. Fails with `OutOfMemory` at
-    /// offset 0.
-    #[inline(always)]
-    pub fn make_room(&mut self, change: FrameChange) -> Result<()>
-        ensures frames { self.new.frames ≡ self.old.frames }
-        ensures room { OnOk result (OpensFrame change → HasRoom self.new) }
-        ensures kept { self.old.room ≤ self.new.room }
-        ensures memory { GrowsByDoubling 1 self.old self.new }
-        ensures refused { IfErr result
-            (λ e. IsOutOfMemoryAt 0 e × OpensFrame change × (self.old.room ≡ 0) × (self.new ≡ self.old)) }
-    {
-        if change.opens() {
-            return self.reserve(1);
-        }
-        Ok(())
-    }
-
     /// Opens a frame inside others. Can fail with `OutOfMemory` at offset 0, unless the stack is
     /// empty or has capacity.
     pub fn push(&mut self, frame: FrameKind) -> Result<()>
@@ -217,9 +200,7 @@ impl ControlStack {
             FrameChange::Opens(frame) => self.open(frame),
             FrameChange::Turns(FrameKind::Else) => self.turn(FrameKind::Else),
             FrameChange::Turns(frame) => self.turn(frame),
-            FrameChange::Closes => {
-                let _ = self.pop();
-            }
+            FrameChange::Closes => self.current = self.around.pop(),
         }
     }
 
