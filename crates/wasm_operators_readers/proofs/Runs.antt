@@ -23,7 +23,7 @@ use Rattle.wasm_decode.specs.instr.Roles.{role_of, roles_of}
 use Rattle.wasm_operators_readers.specs.Expression.{Placed, OfPlaced, operators, LaidOut, AreEncoded, EncodesRest, IsPrefixAfter, Longest}
 use Rattle.wasm_operators_readers.specs.Flat.{IsAllowedFrom}
 use Rattle.wasm_operators_readers.specs.Openings.{opened_along, most_open}
-use Rattle.wasm_operators_readers.specs.Reading.{Taking, State, StopsRead, IsFresh, GrowsLittle, IsUnchanged, TakesOperator, TakesOperators, StopsRun, FramesLeft, StopsFinish, EndsRun, Decoder}
+use Rattle.wasm_operators_readers.specs.Reading.{Taking, State, StopsRead, IsFresh, GrowsLittle, IsUnchanged, TakesOperator, TakesOperators, StopsRun, FramesLeft, StopsFinish, Finishes, EndsRun, RunsToEnd, Decoder}
 use Rattle.wasm_operators_readers.specs.Stack.{frame_memory}
 use Rattle.wasm_operators_readers.specs.MainTheorem.{ReadSoFar, ReadsTree, BeginningAt, ReadsBeginning, IsWithinDepth, IsNotOutOfMemory}
 use Rattle.wasm_operators_readers.proofs.FlatLemmas.{allowed_begins, flat_longest}
@@ -312,3 +312,13 @@ pub finish_left : (m : Message) (e : Error) (s : State) → e.message ≡ m → 
 finish_left message.FramesRemain e s is all at h = (all, h, is, at)
 finish_left message.UnexpectedData e s is all at h = absurd (h.1 all)
 finish_left _ e s is all at h = absurd h
+
+-- a run to the end of the data, and then finishing
+pub run_ended : {X : Type 0} (decoder : Decoder) (result : Result X Error) (s : State) → rest s.reader ≡ [] → Finishes result s → EndsRun decoder result s
+run_ended decoder (Ok x) s all h = h
+run_ended decoder (Err e) s all h = inl (finish_left e.message e s refl all h.0 h.1)
+
+pub run_from : {X : Type 0} (decoder : Decoder) (Effect : OfPlaced) (result : Result X Error) (start old new : State) → start ≡ old →
+    ((placed : Placed) × Effect placed × TakesOperators start new placed) → EndsRun decoder result new → RunsToEnd decoder Effect result old new
+run_from decoder Effect result start old new same (placed, effect, takes) ends =
+    (placed, effect, subst (λ (s : State). TakesOperators s new placed) same takes, ends)

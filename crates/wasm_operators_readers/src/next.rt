@@ -1,12 +1,14 @@
-//! Visiting the next operator, and all operators to the end of the data.
+//! Visiting the next operator, and all operators to the end of the data, without finishing.
 //!
 //! The reader and the stack are borrowed separately, so that a loop can hold the reader in a local
 //! variable, which stays in registers as long as no call out of line borrows it.
-ghost use Rattle.std.specs.Prelude.{◌≡◌, ◌+◌, ◌<◌, ◌≤◌, ◌⊎◌, IfErr, vec_capacity, vec_len};
+ghost use Rattle.std.specs.Prelude.{◌≡◌, ◌+◌, ◌<◌, ◌≤◌, ◌⊎◌, [], OnOk, IfErr, vec_capacity, vec_len};
+ghost use Rattle.wasm_decode.specs.below.Source.{rest};
 ghost use Rattle.wasm_decode.specs.opcodes.Allowed.{EncodesAllowed};
 ghost use Rattle.wasm_operators_readers.specs.Collecting.{Collects};
 ghost use Rattle.wasm_operators_readers.specs.Next.{NextMayAllocate, simd, adding, scalar, VisitsNext, VisitsNextScalar, state_of};
-ghost use Rattle.wasm_operators_readers.specs.Reading.{Finishes, RunsToEnd};
+ghost use Rattle.wasm_operators_readers.specs.Expression.{Placed};
+ghost use Rattle.wasm_operators_readers.specs.Reading.{StopsRun, TakesOperators};
 ghost use Rattle.wasm_operators_readers.specs.Visiting.{Visited, VisitedScalar};
 
 use crate::ControlStack;
@@ -74,19 +76,6 @@ pub fn visit_next<'a, V: VisitOperator<'a>>(
     }
 }
 
-pub fn finish(reader: &BinaryReader<'_>, control: &ControlStack) -> Result<()>
-    ensures { Finishes result (state_of reader.now control.now) }
-{
-    let position = reader.original_position();
-    if !control.is_empty() {
-        return Err(Error::new(Message::FramesRemain, position));
-    }
-    if !reader.eof() {
-        return Err(Error::new(Message::UnexpectedData, position));
-    }
-    Ok(())
-}
-
 #[inline(always)]
 pub fn visit_rest_simd<'a, V>(
     alloc: Global,
@@ -97,8 +86,10 @@ pub fn visit_rest_simd<'a, V>(
 where
     V: VisitOperator<'a>,
     V::Output: Copy,
-    ensures { RunsToEnd simd (Visited V.visits v.old v.new)
-        result (state_of reader.old control.old) (state_of reader.new control.new) }
+    ensures visited { (placed : Placed) × Visited V.visits v.old v.new placed
+        × TakesOperators (state_of reader.old control.old) (state_of reader.new control.new) placed }
+    ensures end { OnOk result (rest reader.new ≡ []) }
+    ensures stopped { IfErr result (λ e. StopsRun simd e (state_of reader.new control.new)) }
 {
     'visits: while !reader.eof() {
         match visit_next_simd(alloc, v, reader, control) {
@@ -106,7 +97,7 @@ where
             Err(e) => return Err(e),
         }
     }
-    finish(reader, control)
+    Ok(())
 }
 
 #[inline(always)]
@@ -118,8 +109,10 @@ pub fn visit_rest<'a, V: VisitOperator<'a>>(
 ) -> Result<()>
 where
     V::Output: Copy,
-    ensures { RunsToEnd scalar (VisitedScalar V.visits v.old v.new)
-        result (state_of reader.old control.old) (state_of reader.new control.new) }
+    ensures visited { (placed : Placed) × VisitedScalar V.visits v.old v.new placed
+        × TakesOperators (state_of reader.old control.old) (state_of reader.new control.new) placed }
+    ensures end { OnOk result (rest reader.new ≡ []) }
+    ensures stopped { IfErr result (λ e. StopsRun scalar e (state_of reader.new control.new)) }
 {
     'scalar_visits: while !reader.eof() {
         match visit_next(alloc, v, reader, control) {
@@ -127,11 +120,11 @@ where
             Err(e) => return Err(e),
         }
     }
-    finish(reader, control)
+    Ok(())
 }
 
-/// Visits to the end or to an error, and finishes. Each visit makes an item in place; an operator
-/// that is read would be copied. Generic, because the prover compares all calls of a known visitor.
+/// Visits to the end of the data or to an error. Each visit makes an item in place; an operator that
+/// is read would be copied. Generic, because the prover compares all calls of a known visitor.
 #[inline(always)]
 pub fn collect_rest<'a, T>(
     alloc: Global,
@@ -141,8 +134,10 @@ pub fn collect_rest<'a, T>(
 ) -> Result<()>
 where
     T: HoldTable<'a> + Drop,
-    ensures runs { RunsToEnd adding (Collects T.holds list.old.items.items list.new.items.items)
-        result (state_of reader.old control.old) (state_of reader.new control.new) }
+    ensures collected { (placed : Placed) × Collects T.holds list.old.items.items list.new.items.items placed
+        × TakesOperators (state_of reader.old control.old) (state_of reader.new control.new) placed }
+    ensures end { OnOk result (rest reader.new ≡ []) }
+    ensures stopped { IfErr result (λ e. StopsRun adding e (state_of reader.new control.new)) }
     ensures kept { vec_capacity list.old.items ≤ vec_capacity list.new.items }
     ensures memory { IfErr result
         (λ e. e.message ≡ Message.OutOfMemory
@@ -159,5 +154,5 @@ where
             Err(e) => return Err(e),
         }
     }
-    finish(reader, control)
+    Ok(())
 }

@@ -9,11 +9,11 @@ mod stack;
 mod to_end;
 
 use crate::begin::{KEEPS_FRAMES_FROM, begin};
-use crate::next::{finish, visit_next, visit_next_simd};
+use crate::next::{visit_next, visit_next_simd};
 use crate::{ControlStack, OperatorsReaderAllocations};
 use std::alloc::Global;
 use std::marker::Model;
-use wasm_decode::below::{BinaryReader, Result};
+use wasm_decode::below::{BinaryReader, Error, Message, Result};
 use wasm_decode::grammar::{FrameKind, frame_change_at};
 use wasm_decode::instr::Operator;
 use wasm_decode::read_after_opcode;
@@ -169,6 +169,12 @@ impl<'a> OperatorsReader<'a> {
     pub fn finish(&self) -> Result<()>
         ensures { Finishes result self.now }
     {
-        finish(&self.reader, &self.control)
+        if !self.control.is_empty() {
+            return Err(Error::new(Message::FramesRemain, self.original_position()));
+        }
+        if !self.eof() {
+            return Err(Error::new(Message::UnexpectedData, self.original_position()));
+        }
+        Ok(())
     }
 }

@@ -27,7 +27,10 @@ impl<'a> OperatorsReader<'a> {
         let mut reader = self.reader.clone();
         let outcome = collect_rest(self.alloc, list, &mut reader, &mut self.control);
         self.reader = reader;
-        outcome
+        match outcome {
+            Ok(()) => self.finish(),
+            Err(e) => Err(e),
+        }
     }
 
     pub(crate) fn visit_to_end_simd<V>(&mut self, v: &mut V) -> Result<()>
@@ -41,7 +44,10 @@ impl<'a> OperatorsReader<'a> {
         let outcome = visit_rest_simd(self.alloc, v, &mut reader, &mut control);
         self.reader = reader;
         self.control = control;
-        outcome
+        match outcome {
+            Ok(()) => self.finish(),
+            Err(e) => Err(e),
+        }
     }
 
     pub(crate) fn visit_to_end<V: VisitOperator<'a>>(&mut self, v: &mut V) -> Result<()>
@@ -54,6 +60,9 @@ impl<'a> OperatorsReader<'a> {
         let outcome = visit_rest(self.alloc, v, &mut reader, &mut control);
         self.reader = reader;
         self.control = control;
-        outcome
+        match outcome {
+            Ok(()) => self.finish(),
+            Err(e) => Err(e),
+        }
     }
 }

@@ -29,19 +29,23 @@ operators-preserved g c =
       omega (arith, i.3, c.try_reserve.ensures.capacity, (h.2 room).1),
     )
 
-pub returns-in-Err-clause-runs : goal.returns-in-Err-clause-runs
-returns-in-Err-clause-runs g c =
+pub returns-in-Err-clause-collected : goal.returns-in-Err-clause-collected
+returns-in-Err-clause-collected g c =
     let i = c.operators.invariant in
     let h = c.in-Err.ensures in
-    let left : rest c.operators.reader ≡ [] → ⊥ = search rules in
-    let stops = stops_adding c.in-Err.e (state_of c.visit_next_simd.new.reader c.visit_next_simd.new.control) h.2 in
     let old = c.args.list.now.items.items in (
       i.0,
       subst (λ w. Collects g.T.HoldOperator.holds old w.items.items i.0) (sym h.1)
           (subst (λ x. Collects g.T.HoldOperator.holds old x i.0) (sym c.try_reserve.ensures.items) i.1),
       ran_unchanged (state_of c.args.reader.now c.args.control.now) (state_of c.operators.reader c.operators.control) (state_of c.visit_next_simd.new.reader c.visit_next_simd.new.control) i.0 i.2 h.0,
-      run_stops adding c.in-Err.e (state_of c.operators.reader c.operators.control) (state_of c.visit_next_simd.new.reader c.visit_next_simd.new.control) left h.0 stops,
     )
+
+pub returns-in-Err-clause-stopped : goal.returns-in-Err-clause-stopped
+returns-in-Err-clause-stopped g c =
+    let h = c.in-Err.ensures in
+    let left : rest c.operators.reader ≡ [] → ⊥ = search rules in
+    let stops = stops_adding c.in-Err.e (state_of c.visit_next_simd.new.reader c.visit_next_simd.new.control) h.2 in
+    run_stops adding c.in-Err.e (state_of c.operators.reader c.operators.control) (state_of c.visit_next_simd.new.reader c.visit_next_simd.new.control) left h.0 stops
 
 pub returns-in-Err-clause-memory : goal.returns-in-Err-clause-memory
 returns-in-Err-clause-memory g c = λ is. inl (memory_needs simd is_reading c.in-Err.e

@@ -23,13 +23,17 @@ visits-preserved g c =
       ran_push EncodesAllowed sound (state_of c.args.reader.now c.args.control.now) s (state_of c.visit_next_simd.new.reader c.visit_next_simd.new.control) i.0 op i.2 h.1,
     )
 
-pub returns-in-Err : goal.returns-in-Err
-returns-in-Err g c =
+pub returns-in-Err-clause-visited : goal.returns-in-Err-clause-visited
+returns-in-Err-clause-visited g c =
     let i = c.visits.invariant in
-    let h = c.in-Err.ensures in
-    let left : rest c.visits.reader ≡ [] → ⊥ = search rules in (
+    let h = c.in-Err.ensures in (
       i.0,
       subst (λ w. Visited g.V.Visitor.visits c.args.v.now w i.0) (sym h.1) i.1,
       ran_unchanged (state_of c.args.reader.now c.args.control.now) (state_of c.visits.reader c.visits.control) (state_of c.visit_next_simd.new.reader c.visit_next_simd.new.control) i.0 i.2 h.0,
-      run_stops simd c.in-Err.e (state_of c.visits.reader c.visits.control) (state_of c.visit_next_simd.new.reader c.visit_next_simd.new.control) left h.0 h.2,
     )
+
+pub returns-in-Err-clause-stopped : goal.returns-in-Err-clause-stopped
+returns-in-Err-clause-stopped g c =
+    let h = c.in-Err.ensures in
+    let left : rest c.visits.reader ≡ [] → ⊥ = search rules in
+    run_stops simd c.in-Err.e (state_of c.visits.reader c.visits.control) (state_of c.visit_next_simd.new.reader c.visit_next_simd.new.control) left h.0 h.2
