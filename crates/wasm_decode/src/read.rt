@@ -1,5 +1,5 @@
 //! Reads an operator by the visitor `Made` or, with the prefix byte 0xfb, without a visitor.
-ghost use Rattle.std.specs.Prelude.{◌≢◌, None, Some};
+ghost use Rattle.std.specs.Prelude.{None, Some};
 ghost use Rattle.wasm_decode.specs.Reading.{DecodesOperatorIn, DecodesGcAt};
 ghost use Rattle.wasm_visit.specs.decode.Lent.{ByLent};
 ghost use Rattle.wasm_visit.specs.grammar.declared.frame_kind.FrameKind.{FrameKind};
@@ -55,7 +55,10 @@ pub fn read_after_opcode<'a>(
         0x0e => read_table(reader, start),
         0xfb => read_gc(reader, start),
         0xfd => read_simd(reader, start),
-        _ => read_group(alloc, reader, start, frame, code),
+        0xfc => visit_after_prefix(&mut Made, reader, start, Misc),
+        0xfe => visit_after_prefix(&mut Made, reader, start, Atomic),
+        0x45..=0xc4 => Ok(numeric_by::<Made, ByAny>(&mut Made, code)),
+        _ => one_byte_by::<Made, ByAny>(alloc, &mut Made, reader, start, frame, code),
     }
 }
 
@@ -137,26 +140,4 @@ fn read_simd_of(reader: &mut BinaryReader<'_>, start: usize, code: u32) -> Resul
         return Ok(Operator::Simd(vector_without_immediates(code)));
     }
     visit_after_prefix(&mut Made, reader, start, Simd { code })
-}
-
-#[inline(always)]
-fn read_group(
-    alloc: Global,
-    reader: &mut BinaryReader<'_>,
-    start: usize,
-    frame: FrameKind,
-    code: u8,
-) -> Result<Operator<'static>>
-    requires after { IsAfterCode start None code reader.old }
-    requires table { code ≢ 0x0e }
-    requires gc { code ≢ 0xfb }
-    requires vector { code ≢ 0xfd }
-    ensures { DecodesOperatorAt frame start result reader.old reader.new }
-{
-    match code {
-        0xfc => visit_after_prefix(&mut Made, reader, start, Misc),
-        0xfe => visit_after_prefix(&mut Made, reader, start, Atomic),
-        0x45..=0xc4 => Ok(numeric_by::<Made, ByAny>(&mut Made, code)),
-        _ => one_byte_by::<Made, ByAny>(alloc, &mut Made, reader, start, frame, code),
-    }
 }

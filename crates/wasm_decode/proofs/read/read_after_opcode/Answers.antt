@@ -5,13 +5,13 @@ use Rattle.wasm_visit.specs.opcodes.OperatorFaults.{OperatorFault}
 use Rattle.wasm_visit.proofs.of_decode.Codes.{numeric_without_immediates_45}
 use Rattle.wasm_visit.proofs.of_opcodes.OperatorLemmas.{visited_without_immediates}
 use Rattle.wasm_decode.proofs.DecodingLemmas.{as_read, prefix_bytes}
-use Rattle.wasm_decode.proofs.read.read_group.Goals as goal
+use Rattle.wasm_decode.proofs.read.read_after_opcode.Goals as goal
 
 pub one_byte_by-requires-clause-apart : goal.one_byte_by-requires-clause-apart
 one_byte_by-requires-clause-apart c =
     record {
-      apart = λ e. (let h = prefix_bytes c.args.code e in grind (arith, h, c.requires.gc, c.requires.vector));
-      table = c.requires.table;
+      apart = λ e. (let h = prefix_bytes c.args.code e in grind (arith, h));
+      table = λ same. grind (arith, same);
       numeric = λ from to. grind (arith, from, to);
     }
 
@@ -36,5 +36,5 @@ returns-in-69-to-196 c =
     let call = c.numeric_by in
     let none = (numeric_without_immediates_45 c.args.code (omega (arith, c.in-69-to-196)) (omega (arith, c.in-69-to-196))).0 in
     as_read (EncodesAllowed r.features k) (OperatorFault r.features k) (at_position r c.args.start) r _ call.new.v (Ok call.result)
-    (visited_without_immediates (λ before op outcome after. outcome ≡ op) (OperatorFault r.features k) k None c.args.code c.args.start r _ call.new.v call.result none c.requires.after
+    (visited_without_immediates (λ before op outcome after. outcome ≡ op) (OperatorFault r.features k) k None c.args.code c.args.start r _ call.new.v call.result none c.requires
     call.ensures)
