@@ -3,8 +3,9 @@ use Rattle.wasm_below.specs.bytes.error.Error.{Error}
 use Rattle.wasm_below.specs.Fault.{DeterminesRefusal}
 use Rattle.wasm_below.specs.Number.{EncodesUnsigned}
 use Rattle.wasm_below.specs.Sequence.{PrefixCode}
-use Rattle.wasm_below.specs.Source.{Reader, rest, BeginsWith, IsByte, EndFault, U32Fault, HasRead, Reads}
+use Rattle.wasm_below.specs.Source.{Reader, rest, BeginsWith, IsByte, EndFault, U32Fault, HasRead}
 use Rattle.wasm_below.specs.TypeEncoding.{EncodesValType, ValTypeFault}
+use Rattle.wasm_module.specs.Ahead.{Fails, ReadsAhead}
 use Rattle.wasm_module.specs.Types.{EncodesValueTypes, ValueTypesFault, EncodesSignature, SignatureFault, IsField, FieldFault, EncodesFields, FieldsFault, EncodesAfterByte, FaultAfterByte, EncodesComposite, CompositeFault, NamesSupertypes, EncodesIndices, IndicesFault, EncodesWithSupertypes, WithSupertypesFault, EncodesSubAfterByte, SubFaultAfterByte, EncodesSubType, SubTypeFault, EncodesRecTypeLength, RecTypeLengthFault}
 use Rattle.wasm_module.specs.declared.composite.CompositeType.{CompositeType}
 use Rattle.wasm_module.specs.declared.composite.CompositeType.TheVariants as composite
@@ -14,16 +15,16 @@ use Rattle.wasm_module.proofs.Parts.{refused_now, then_determines, byte_prefix_c
 use Rattle.wasm_module.proofs.Sequences.{then_code, both_code, refused_as}
 
 module _ (byte : ℕ) where
-  pub function_read : byte ≡ 0x60 → (old new : Reader) (parameters results : ℕ) → HasRead EncodesSignature (parameters, results) old new →
+  pub function_read : byte ≡ 0x60 → {old new : Reader} {parameters results : ℕ} → HasRead EncodesSignature (parameters, results) old new →
       HasRead (EncodesAfterByte byte) (composite.Function parameters results) old new
-  function_read is old new parameters results (a, p, t) = (a, (is, p), t)
+  function_read is (a, p, t) = (a, (is, p), t)
 
-  pub struct_read : byte ≡ 0x5f → (old new : Reader) (fields : ℕ) → HasRead EncodesFields fields old new →
+  pub struct_read : byte ≡ 0x5f → {old new : Reader} {fields : ℕ} → HasRead EncodesFields fields old new →
       HasRead (EncodesAfterByte byte) (composite.Struct fields) old new
-  struct_read is old new fields (a, p, t) = (a, (is, p), t)
+  struct_read is (a, p, t) = (a, (is, p), t)
 
-  pub array_read : byte ≡ 0x5e → (old new : Reader) → HasRead IsField tt old new → HasRead (EncodesAfterByte byte) composite.Array old new
-  array_read is old new (a, p, t) = (a, (is, p), t)
+  pub array_read : byte ≡ 0x5e → {old new : Reader} → HasRead IsField tt old new → HasRead (EncodesAfterByte byte) composite.Array old new
+  array_read is (a, p, t) = (a, (is, p), t)
 
   as_function : byte ≡ 0x60 → (text : List ℕ) (ty : CompositeType) → EncodesAfterByte byte text ty → (p : ℕ × ℕ) × EncodesSignature text p
   as_function is text (composite.Function parameters results) b = ((parameters, results), b.1)
@@ -31,10 +32,10 @@ module _ (byte : ℕ) where
   as_function is text composite.Array b = let other = b.0 in absurd (omega (arith, is, other))
   as_function is text (composite.Other kind) b = absurd (b.0.0 is)
 
-  pub function_refused : byte ≡ 0x60 → (e : Error) (old new : Reader) → Reads EncodesSignature SignatureFault (Err e) old new →
-      Reads (EncodesAfterByte byte) (FaultAfterByte byte) (Err e) old new
-  function_refused is e old new =
-      refused_as EncodesSignature (EncodesAfterByte byte) SignatureFault (FaultAfterByte byte) (as_function is) e old new (λ f. inl (is, f))
+  pub function_refused : byte ≡ 0x60 → {e : Error} {old : Reader} → Fails EncodesSignature SignatureFault e old →
+      Fails (EncodesAfterByte byte) (FaultAfterByte byte) e old
+  function_refused is =
+      refused_as EncodesSignature (EncodesAfterByte byte) SignatureFault (FaultAfterByte byte) (as_function is) (λ f. inl (is, f))
 
   as_struct : byte ≡ 0x5f → (text : List ℕ) (ty : CompositeType) → EncodesAfterByte byte text ty → (n : ℕ) × EncodesFields text n
   as_struct is text (composite.Function parameters results) b = let other = b.0 in absurd (omega (arith, is, other))
@@ -42,10 +43,10 @@ module _ (byte : ℕ) where
   as_struct is text composite.Array b = let other = b.0 in absurd (omega (arith, is, other))
   as_struct is text (composite.Other kind) b = absurd (b.0.1 is)
 
-  pub struct_refused : byte ≡ 0x5f → (e : Error) (old new : Reader) → Reads EncodesFields FieldsFault (Err e) old new →
-      Reads (EncodesAfterByte byte) (FaultAfterByte byte) (Err e) old new
-  struct_refused is e old new =
-      refused_as EncodesFields (EncodesAfterByte byte) FieldsFault (FaultAfterByte byte) (as_struct is) e old new (λ f. inr (inl (is, f)))
+  pub struct_refused : byte ≡ 0x5f → {e : Error} {old : Reader} → Fails EncodesFields FieldsFault e old →
+      Fails (EncodesAfterByte byte) (FaultAfterByte byte) e old
+  struct_refused is =
+      refused_as EncodesFields (EncodesAfterByte byte) FieldsFault (FaultAfterByte byte) (as_struct is) (λ f. inr (inl (is, f)))
 
   as_array : byte ≡ 0x5e → (text : List ℕ) (ty : CompositeType) → EncodesAfterByte byte text ty → (done : Unit {0}) × IsField text done
   as_array is text (composite.Function parameters results) b = let other = b.0 in absurd (omega (arith, is, other))
@@ -53,20 +54,20 @@ module _ (byte : ℕ) where
   as_array is text composite.Array b = (tt, b.1)
   as_array is text (composite.Other kind) b = absurd (b.0.2 is)
 
-  pub array_refused : byte ≡ 0x5e → (e : Error) (old new : Reader) → Reads IsField FieldFault (Err e) old new →
-      Reads (EncodesAfterByte byte) (FaultAfterByte byte) (Err e) old new
-  array_refused is e old new =
-      refused_as IsField (EncodesAfterByte byte) FieldFault (FaultAfterByte byte) (as_array is) e old new (λ f. inr (inr (is, f)))
+  pub array_refused : byte ≡ 0x5e → {e : Error} {old : Reader} → Fails IsField FieldFault e old →
+      Fails (EncodesAfterByte byte) (FaultAfterByte byte) e old
+  array_refused is =
+      refused_as IsField (EncodesAfterByte byte) FieldFault (FaultAfterByte byte) (as_array is) (λ f. inr (inr (is, f)))
 
   as_with_supertypes : NamesSupertypes byte → (text : List ℕ) (ty : CompositeType) → EncodesSubAfterByte byte text ty → (same : CompositeType) × EncodesWithSupertypes text same
   as_with_supertypes named text ty (inl p) = (ty, p.1)
   as_with_supertypes named text ty (inr p) = absurd (p.0 named)
 
   pub with_supertypes_reads : NamesSupertypes byte → (result : Result CompositeType Error) (old new : Reader) →
-      Reads EncodesWithSupertypes WithSupertypesFault result old new → Reads (EncodesSubAfterByte byte) (SubFaultAfterByte byte) result old new
+      ReadsAhead EncodesWithSupertypes WithSupertypesFault result old new → ReadsAhead (EncodesSubAfterByte byte) (SubFaultAfterByte byte) result old new
   with_supertypes_reads named (Ok ty) old new (a, p, t) = (a, inl (named, p), t)
   with_supertypes_reads named (Err e) old new h =
-      refused_as EncodesWithSupertypes (EncodesSubAfterByte byte) WithSupertypesFault (SubFaultAfterByte byte) (as_with_supertypes named) e old new
+      refused_as EncodesWithSupertypes (EncodesSubAfterByte byte) WithSupertypesFault (SubFaultAfterByte byte) (as_with_supertypes named)
       (λ f. inl (named, f)) h
 
 pub names_supertypes : (byte : ℕ) → 0x4f ≤ byte → byte < 0x51 → NamesSupertypes byte
@@ -77,20 +78,20 @@ names_supertypes byte low high = named_at (byte - 0x4f) (omega (arith, low)) (om
     named_at (suc zero) e h = inr (omega (arith, e))
     named_at (suc (suc more)) e h = absurd (omega (arith, h))
 
-pub rec_type_byte : (old new : Reader) (byte : ℕ) → BeginsWith 0x4e (rest old) → HasRead IsByte byte old new → byte ≡ 0x4e
-rec_type_byte old new byte (more, starts) (a, p, t) = let is = p.0 in let parts = t.parts in cc (is, parts, starts)
+pub rec_type_byte : {old new : Reader} {byte : ℕ} → BeginsWith 0x4e (rest old) → HasRead IsByte byte old new → byte ≡ 0x4e
+rec_type_byte {old} {new} {byte} (more, starts) (a, p, t) = let is = p.0 in let parts = t.parts in cc (is, parts, starts)
 
-pub rec_type_there : (old new : Reader) (e : Error) → BeginsWith 0x4e (rest old) → Reads IsByte EndFault (Err e) old new → ⊥
-rec_type_there old new e (more, starts) (same, h, f) = refused_now IsByte e old h (0x4e ∷ []) more 0x4e (refl, omega arith) starts
+pub rec_type_there : {old : Reader} {e : Error} → BeginsWith 0x4e (rest old) → Fails IsByte EndFault e old → ⊥
+rec_type_there {old} {e} (more, starts) (h, f) = refused_now IsByte e old h (0x4e ∷ []) more 0x4e (refl, omega arith) starts
 
-pub rec_type_read : (byte : ℕ) → byte ≡ 0x4e → (old new : Reader) (n : ℕ) → HasRead (EncodesUnsigned 32) n old new →
+pub rec_type_read : {byte : ℕ} → byte ≡ 0x4e → {old new : Reader} {n : ℕ} → HasRead (EncodesUnsigned 32) n old new →
     HasRead (λ text m. (byte ≡ 0x4e) × EncodesUnsigned 32 text m) n old new
-rec_type_read byte is old new n (a, p, t) = (a, (is, p), t)
+rec_type_read is (a, p, t) = (a, (is, p), t)
 
-pub rec_type_refused : (byte : ℕ) (e : Error) (old new : Reader) → Reads (EncodesUnsigned 32) U32Fault (Err e) old new →
-    Reads (λ text m. (byte ≡ 0x4e) × EncodesUnsigned 32 text m) U32Fault (Err e) old new
-rec_type_refused byte e old new =
-    refused_as (EncodesUnsigned 32) (λ text m. (byte ≡ 0x4e) × EncodesUnsigned 32 text m) U32Fault U32Fault (λ text m b. (m, b.1)) e old new (λ f. f)
+pub rec_type_refused : (byte : ℕ) {e : Error} {old : Reader} → Fails (EncodesUnsigned 32) U32Fault e old →
+    Fails (λ text m. (byte ≡ 0x4e) × EncodesUnsigned 32 text m) U32Fault e old
+rec_type_refused byte =
+    refused_as (EncodesUnsigned 32) (λ text m. (byte ≡ 0x4e) × EncodesUnsigned 32 text m) U32Fault U32Fault (λ text m b. (m, b.1)) (λ f. f)
 
 module _ (numbers : PrefixCode (EncodesUnsigned 32)) where
   pub indices_code : PrefixCode EncodesIndices

@@ -1,11 +1,12 @@
 -- Values of one kind, as a loop reads them, and lists of which only the length is kept.
-use Rattle.std.proofs.Common.{◌≡◌, ℕ, zero, suc, ◌+◌, ◌<◌, ◌≤◌, List, [], length, inl, inr, Err, refl, ap, sym, subst, ◌∙◌, arith}
+use Rattle.std.proofs.Common.{◌≡◌, ℕ, zero, suc, ◌+◌, ◌<◌, ◌≤◌, List, [], length, inl, inr, refl, ap, sym, subst, ◌∙◌, arith}
 use Rattle.wasm_below.specs.bytes.error.Error.{Error}
 use Rattle.wasm_below.specs.bytes.message.Message.{Message}
 use Rattle.wasm_below.specs.Fault.{ManyFault, DeterminesRefusal}
 use Rattle.wasm_below.specs.Number.{EncodesUnsigned}
 use Rattle.wasm_below.specs.Sequence.{PrefixCode}
-use Rattle.wasm_below.specs.Source.{Reader, at_position, Takes, IsRefusal, HasRead, Reads, U32Fault}
+use Rattle.wasm_below.specs.Source.{Reader, at_position, Takes, IsRefusal, HasRead, U32Fault}
+use Rattle.wasm_module.specs.Ahead.{Fails}
 use Rattle.wasm_module.specs.Types.{IsMany, EncodesCounted, EncodesLength, LengthFault}
 use Rattle.wasm_module.proofs.Parts.{refused_now, then_determines}
 use Rattle.wasm_module.proofs.Sequences.{then_read, then_none, then_refused, then_code, refused_as}
@@ -17,8 +18,6 @@ takes_none r = record { moved = ap (at_position r) (let same : r.position ≡ r.
 pub record IsOnTheWay {X : Type 0} (P : List ℕ → X → Type 0) (Fault : Message → Reader → ℕ → Type 0) (count i : ℕ) (old now : Reader) : Type 0 where
   pub left : ℕ
   pub all : i + left ≡ count
-  pub moved : now ≡ at_position old now.position
-  pub forward : old.position ≤ now.position
   pub read : (new : Reader) → HasRead (IsMany P left) tt now new → HasRead (IsMany P count) tt old new
   pub refused : (e : Error) → IsRefusal (IsMany P left) e now → IsRefusal (IsMany P count) e old
   pub fault : (m : Message) (offset : ℕ) → ManyFault P Fault left m now offset → ManyFault P Fault count m old offset
@@ -29,8 +28,6 @@ module _ {X : Type 0} (P : List ℕ → X → Type 0) (Fault : Message → Reade
       record {
         left = count;
         all = omega arith;
-        moved = refl;
-        forward = omega arith;
         read = λ new h. h;
         refused = λ e h. h;
         fault = λ m offset h. h;
@@ -55,44 +52,30 @@ module _ {X : Type 0} (P : List ℕ → X → Type 0) (Fault : Message → Reade
       let less = one_less count i w.left w.all more in
       let k = less.0 in
       let here = left_at count i old now w (suc k) less.1 in
-      let step : new.position ≡ now.position + length h.0 = ap (λ (r : Reader). r.position) h.2.moved in
-      let forward = w.forward in
       let all = w.all in
       let same = less.1 in
       record {
         left = k;
         all = omega (arith, all, same);
-        moved = h.2.moved ∙ ap (λ r. at_position r (now.position + length h.0)) w.moved ∙ ap (at_position old) (sym step);
-        forward = omega (arith, forward, step);
-        read = λ last q. here.0 last (then_read P (λ v. IsMany P k) now new last x tt h q);
+        read = λ last q. here.0 last (then_read P (λ v. IsMany P k) h q);
         refused = λ e q. here.1 e (then_refused P (λ v. IsMany P k) code e now new x h q);
         fault = λ m offset f. here.2 m offset (inr (x, new, h, f));
       }
 
-  pub way_ends : (count i : ℕ) (old now : Reader) → count ≤ i → IsOnTheWay P Fault count i old now → HasRead (IsMany P count) tt old now
+  pub way_ends : (count i : ℕ) (old now : Reader) → count ≤ i → IsOnTheWay P Fault count i old now → HasRead (EncodesCounted P count) count old now
   way_ends count i old now none w =
       let all = w.all in
       let here = left_at count i old now w zero (omega (arith, all, none)) in
-      here.0 now ([], refl, takes_none now)
+      let whole = here.0 now ([], refl, takes_none now) in
+      (whole.0, (refl, whole.1), whole.2)
 
-  pub way_refused : (count i : ℕ) (old now same new : Reader) (e : Error) (position : ℕ) → i < count → IsOnTheWay P Fault count i old now →
-      Reads P Fault (Err e) now same → position ≡ old.position → new ≡ at_position same position →
-      Reads (IsMany P count) (ManyFault P Fault count) (Err e) old new
-  way_refused count i old now same new e position more w h at went =
+  pub way_refused : (count i : ℕ) (old now : Reader) → i < count → IsOnTheWay P Fault count i old now → {e : Error} → Fails P Fault e now →
+      Fails (EncodesCounted P count) (ManyFault P Fault count) e old
+  way_refused count i old now more w {e} h =
       let less = one_less count i w.left w.all more in
-      let here = left_at count i old now w (suc less.0) less.1 in (
-        went ∙ ap (λ r. at_position r position) (h.0 ∙ w.moved) ∙ ap (at_position old) at,
-        here.1 e (then_none P (λ v. IsMany P less.0) e now h.1),
-        here.2 e.message e.offset (inl (refused_now P e now h.1, h.2)),
-      )
-
-  pub counted_read : (count : ℕ) (old new : Reader) → HasRead (IsMany P count) tt old new → HasRead (EncodesCounted P count) count old new
-  counted_read count old new (a, p, t) = (a, (refl, p), t)
-
-  pub counted_refused : (count : ℕ) (e : Error) (old new : Reader) → Reads (IsMany P count) (ManyFault P Fault count) (Err e) old new →
-      Reads (EncodesCounted P count) (ManyFault P Fault count) (Err e) old new
-  counted_refused count e old new =
-      refused_as (IsMany P count) (EncodesCounted P count) (ManyFault P Fault count) (ManyFault P Fault count) (λ text n b. (tt, b.1)) e old new (λ f. f)
+      let here = left_at count i old now w (suc less.0) less.1 in
+      refused_as (IsMany P count) (EncodesCounted P count) (ManyFault P Fault count) (ManyFault P Fault count) (λ text n b. (tt, b.1)) (λ f. f)
+      (here.1 e (then_none P (λ v. IsMany P less.0) e now h.0), here.2 e.message e.offset (inl (refused_now P e now h.0, h.1)))
 
   module _ (code : PrefixCode P) where
     many_code : (n : ℕ) → PrefixCode (IsMany P n)

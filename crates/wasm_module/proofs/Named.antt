@@ -1,17 +1,18 @@
-use Rattle.std.proofs.Common.{◌≡◌, ℕ, List, [], ◌∷◌, ◌++◌, length, Err, refl, ap, sym, ◌∙◌, arith}
+use Rattle.std.proofs.Common.{◌≡◌, ℕ, List, [], ◌∷◌, ◌++◌, length, refl, ap, sym, ◌∙◌, arith}
 use Rattle.wasm_below.specs.bytes.error.Error.{Error}
 use Rattle.wasm_below.specs.Fault.{DeterminesRefusal}
 use Rattle.wasm_below.specs.Number.{EncodesUnsigned}
 use Rattle.wasm_below.specs.Sequence.{PrefixCode}
-use Rattle.wasm_below.specs.Source.{Reader, Reads, IsByte, IsBlock, EndFault, EndsWithin, U32Fault}
+use Rattle.wasm_below.specs.Source.{Reader, IsByte, IsBlock, EndFault, EndsWithin, U32Fault}
+use Rattle.wasm_module.specs.Ahead.{Fails}
 use Rattle.wasm_module.specs.Exports.{ExportParts, EncodesExternIndex, ExternIndexFault, EncodesExport, ExportFault}
 use Rattle.wasm_module.specs.Names.{IsBytes, EncodesName, NameFault, NameParts, EncodesNameAssociation, NameAssociationFault}
 use Rattle.wasm_module.proofs.Parts.{then_determines, byte_prefix_code, short_determines, end_determines}
 use Rattle.wasm_module.proofs.Sequences.{then_code, both_code, refused_as}
 
-pub bytes_refused : (n : ℕ) (e : Error) (old new : Reader) → Reads (IsBlock n) (EndsWithin n) (Err e) old new → Reads (IsBytes n) (EndsWithin n) (Err e) old new
-bytes_refused n e old new =
-    refused_as (IsBlock n) (IsBytes n) (EndsWithin n) (EndsWithin n) (λ text z b. (record { ref_ptr = (0, 0); now = text }, (refl, b.1))) e old new (λ f. f)
+pub bytes_refused : (n : ℕ) {e : Error} {old : Reader} → Fails (IsBlock n) (EndsWithin n) e old → Fails (IsBytes n) (EndsWithin n) e old
+bytes_refused n =
+    refused_as (IsBlock n) (IsBytes n) (EndsWithin n) (EndsWithin n) (λ text z b. (record { ref_ptr = (0, 0); now = text }, (refl, b.1))) (λ f. f)
 
 bytes_code : (n : ℕ) → PrefixCode (IsBytes n)
 bytes_code n a b x y m k p q e = let same = same_start a b x y (p.1 ∙ sym q.1) e in (same, p.0 ∙ same ∙ sym q.0)

@@ -16,11 +16,6 @@ takes_both a b c x y p q =
       parts = p.parts ∙ ap (λ z. x ++ z) q.parts ∙ sym (append_assoc x y (rest c));
     }
 
-pub back : (old mid now new : Reader) (text : List ℕ) (position : ℕ) → Takes old mid text → now ≡ mid → position ≡ old.position → new ≡ at_position now position →
-    new ≡ old
-back old mid now new text position t same at went =
-    went ∙ ap (at_position now) at ∙ ap (λ r. at_position r old.position) same ∙ ap (λ r. at_position r old.position) t.moved
-
 ends_here : (m : Message) → IsReadFault m → MayFollow m []
 ends_here message.EndOfData fault = refl
 ends_here message.OutOfMemory fault = absurd fault
@@ -28,14 +23,6 @@ ends_here _ fault = tt
 
 pub refused_now : {X : Type 0} (P : List ℕ → X → Type 0) (e : Error) (r : Reader) → IsRefusal P e r → NoPrefix P (rest r)
 refused_now P e r h = subst (NoPrefix P) (append-nil (rest r)) (h.refuses [] (ends_here e.message h.fault))
-
-pub first_fault : {X : Type 0} (P : List ℕ → X → Type 0) (First : Message → Reader → ℕ → Type 0) (After : X → Message → Reader → ℕ → Type 0) (e : Error)
-    (r : Reader) → IsRefusal P e r → First e.message r e.offset → ThenFault P First After e.message r e.offset
-first_fault P First After e r h fault = inl (refused_now P e r h, fault)
-
-pub second_fault : {X : Type 0} (P : List ℕ → X → Type 0) (First : Message → Reader → ℕ → Type 0) (After : X → Message → Reader → ℕ → Type 0) (e : Error)
-    (old mid : Reader) (x : X) → HasRead P x old mid → After x e.message mid e.offset → ThenFault P First After e.message old e.offset
-second_fault P First After e old mid x reads fault = inr (x, mid, reads, fault)
 
 same_after : {X : Type 0} (P : List ℕ → X → Type 0) → PrefixCode P → (r s t : Reader) (x y : X) → HasRead P x r s → HasRead P y r t →
     (x ≡ y) × (s ≡ t)

@@ -1,21 +1,23 @@
 -- Values that are read one after the other: only the last is kept, or both are.
-use Rattle.std.proofs.Common.{◌≡◌, ℕ, ◌+◌, List, ◌++◌, length, Err, inl, inr, refl, ap, sym, subst, ◌∙◌, append_assoc, arith}
+use Rattle.std.proofs.Common.{◌≡◌, ℕ, ◌+◌, List, ◌++◌, length, Result, Ok, Err, inl, inr, refl, ap, sym, subst, ◌∙◌, append_assoc, arith}
 use Rattle.std.proofs.lemmas.List.{append_cancel_left}
+use Rattle.std.specs.Prelude.{IsErrAnd}
 use Rattle.wasm_below.specs.bytes.error.Error.{Error}
 use Rattle.wasm_below.specs.bytes.message.Message.{Message}
 use Rattle.wasm_below.specs.Fault.{ThenFault}
 use Rattle.wasm_below.specs.Sequence.{Then, PrefixCode}
-use Rattle.wasm_below.specs.Source.{Reader, rest, end_of, at_position, IsRefusal, HasRead, Reads}
+use Rattle.wasm_below.specs.Source.{Reader, rest, end_of, IsRefusal, HasRead, Reads}
+use Rattle.wasm_module.specs.Ahead.{Fails, ReadsAhead}
 use Rattle.wasm_module.specs.Both.{Both}
-use Rattle.wasm_module.specs.Imports.{SomeOf, IsExternTypeAfterByte, EncodesExternTypeAfterByte, ExternTypeFaultAfterByte}
-use Rattle.wasm_module.proofs.Parts.{takes_both, back, refused_now}
+use Rattle.wasm_module.specs.Imports.{SomeOf}
+use Rattle.wasm_module.proofs.Parts.{takes_both, refused_now}
 
 first_text : (a b x y : List ℕ) → a ≡ b → a ++ x ≡ b ++ y → x ≡ y
 first_text a b x y same e = append_cancel_left a x y (e ∙ ap (λ t. t ++ y) (sym same))
 
 module _ {X Y : Type 0} (P : List ℕ → X → Type 0) (Q : X → List ℕ → Y → Type 0) where
-  pub then_read : (old mid new : Reader) (x : X) (y : Y) → HasRead P x old mid → HasRead (Q x) y mid new → HasRead (Then P Q) y old new
-  then_read old mid new x y (a, p, t) (b, q, u) = (a ++ b, (a, b, x, refl, p, q), takes_both old mid new a b t u)
+  pub then_read : {old mid new : Reader} {x : X} {y : Y} → HasRead P x old mid → HasRead (Q x) y mid new → HasRead (Then P Q) y old new
+  then_read {old} {mid} {new} {x} {y} (a, p, t) (b, q, u) = (a ++ b, (a, b, x, refl, p, q), takes_both old mid new a b t u)
 
   pub then_none : (e : Error) (old : Reader) → IsRefusal P e old → IsRefusal (Then P Q) e old
   then_none e old h =
@@ -54,19 +56,17 @@ module _ {X Y : Type 0} (P : List ℕ → X → Type 0) (Q : X → List ℕ → 
 
 module _ {X Y : Type 0} (P : List ℕ → X → Type 0) (Q : X → List ℕ → Y → Type 0) (F : Message → Reader → ℕ → Type 0)
     (G : X → Message → Reader → ℕ → Type 0) where
-  pub then_first : (e : Error) (old new : Reader) → Reads P F (Err e) old new → Reads (Then P Q) (ThenFault P F G) (Err e) old new
-  then_first e old new (same, h, f) = (same, then_none P Q e old h, inl (refused_now P e old h, f))
+  pub then_first : {e : Error} {old : Reader} → Fails P F e old → Fails (Then P Q) (ThenFault P F G) e old
+  then_first {e} {old} (h, f) = (then_none P Q e old h, inl (refused_now P e old h, f))
 
-  pub then_second : PrefixCode P → (e : Error) (old mid now new : Reader) (x : X) (position : ℕ) → HasRead P x old mid →
-      Reads (Q x) (G x) (Err e) mid now → position ≡ old.position → new ≡ at_position now position → Reads (Then P Q) (ThenFault P F G) (Err e) old new
-  then_second code e old mid now new x position first (same, h, f) at went =
-      (back old mid now new first.0 position first.2 same at went, then_refused P Q code e old mid x first h, inr (x, mid, first, f))
+  pub then_second : PrefixCode P → {e : Error} {old mid : Reader} {x : X} → HasRead P x old mid → Fails (Q x) (G x) e mid →
+      Fails (Then P Q) (ThenFault P F G) e old
+  then_second code {e} {old} {mid} {x} first (h, f) = (then_refused P Q code e old mid x first h, inr (x, mid, first, f))
 
 pub refused_as : {X Z : Type 0} (P : List ℕ → X → Type 0) (Q : List ℕ → Z → Type 0) (F G : Message → Reader → ℕ → Type 0) →
-    ((text : List ℕ) (z : Z) → Q text z → (x : X) × P text x) → (e : Error) (old new : Reader) → (F e.message old e.offset → G e.message old e.offset) →
-    Reads P F (Err e) old new → Reads Q G (Err e) old new
-refused_as P Q F G has e old new faults (same, h, f) = (
-  same,
+    ((text : List ℕ) (z : Z) → Q text z → (x : X) × P text x) → {e : Error} {old : Reader} → (F e.message old e.offset → G e.message old e.offset) →
+    Fails P F e old → Fails Q G e old
+refused_as P Q F G has {e} {old} faults (h, f) = (
   record {
     refuses = λ more follow text after z b. h.refuses more follow text after (has text z b).0 (has text z b).1;
     fault = h.fault;
@@ -74,6 +74,21 @@ refused_as P Q F G has e old new faults (same, h, f) = (
   },
   faults f,
 )
+
+module _ {Z : Type 0} (E : List ℕ → Z → Type 0) (F : Message → Reader → ℕ → Type 0) where
+  -- A `?` returns the error as it is.
+  pub failed : (r : Result Z Error) {e : Error} {old : Reader} (new : Reader) → IsErrAnd r (λ y. y ≡ e) → Fails E F e old → ReadsAhead E F r old new
+  failed (Ok x) new is h = absurd is
+  failed (Err y) {e} {old} new is h = subst (λ z. Fails E F z old) (sym is) h
+
+  -- A copy reads ahead. If this fails, the reader stays.
+  pub stays : (r : Result Z Error) {e : Error} {copy old : Reader} → copy ≡ old → IsErrAnd r (λ y. y ≡ e) → Fails E F e copy → Reads E F r old old
+  stays (Ok x) same is h = absurd is
+  stays (Err y) {e} {copy} {old} same is h = let k = subst (λ z. Fails E F y z) same (subst (λ z. Fails E F z copy) (sym is) h) in (refl, k.0, k.1)
+
+-- The reader goes where the copy is.
+pub advances : {Z : Type 0} (E : List ℕ → Z → Type 0) {copy old new : Reader} {z : Z} → copy ≡ old → HasRead E z copy new → HasRead E z old new
+advances E {copy} {old} {new} {z} same h = subst (λ r. HasRead E z r new) same h
 
 module _ {X Y Z : Type 0} (P : List ℕ → X → Type 0) (Q : List ℕ → Y → Type 0) (parts : Z → X × Y) where
   abbrev pub Whole : List ℕ → Z → Type 0
@@ -97,37 +112,28 @@ module _ {X Y Z : Type 0} (P : List ℕ → X → Type 0) (Q : List ℕ → Y �
 
 module _ {X Y Z : Type 0} (P : List ℕ → X → Type 0) (Q : List ℕ → Y → Type 0) (F : Message → Reader → ℕ → Type 0)
     (G : X → Message → Reader → ℕ → Type 0) (parts : Z → X × Y) where
-  pub both_first : (e : Error) (old new : Reader) → Reads P F (Err e) old new → Reads (Whole P Q parts) (ThenFault P F G) (Err e) old new
-  both_first e old new h =
-      refused_as (Then P (Second P Q parts)) (Whole P Q parts) (ThenFault P F G) (ThenFault P F G) (one_after P Q parts) e old new (λ f. f)
-      (then_first P (Second P Q parts) F G e old new h)
+  pub both_first : {e : Error} {old : Reader} → Fails P F e old → Fails (Whole P Q parts) (ThenFault P F G) e old
+  both_first h =
+      refused_as (Then P (Second P Q parts)) (Whole P Q parts) (ThenFault P F G) (ThenFault P F G) (one_after P Q parts) (λ f. f)
+      (then_first P (Second P Q parts) F G h)
 
-  pub both_second : PrefixCode P → (e : Error) (old mid now new : Reader) (x : X) (position : ℕ) → HasRead P x old mid → Reads Q (G x) (Err e) mid now →
-      position ≡ old.position → new ≡ at_position now position → Reads (Whole P Q parts) (ThenFault P F G) (Err e) old new
-  both_second code e old mid now new x position first second at went =
-      refused_as (Then P (Second P Q parts)) (Whole P Q parts) (ThenFault P F G) (ThenFault P F G) (one_after P Q parts) e old new (λ f. f)
-      (then_second P (Second P Q parts) F G code e old mid now new x position first
-      (refused_as Q (Second P Q parts x) (G x) (G x) (λ text z b. ((parts z).1, b.1)) e mid now (λ f. f) second) at went)
+  pub both_second : PrefixCode P → {e : Error} {old mid : Reader} {x : X} → HasRead P x old mid → Fails Q (G x) e mid →
+      Fails (Whole P Q parts) (ThenFault P F G) e old
+  both_second code {x = x} first second =
+      refused_as (Then P (Second P Q parts)) (Whole P Q parts) (ThenFault P F G) (ThenFault P F G) (one_after P Q parts) (λ f. f)
+      (then_second P (Second P Q parts) F G code first
+      (refused_as Q (Second P Q parts x) (G x) (G x) (λ text z b. ((parts z).1, b.1)) (λ f. f) second))
 
-pub both_read : {X Y : Type 0} (P : List ℕ → X → Type 0) (Q : List ℕ → Y → Type 0) (old mid new : Reader) (x : X) (y : Y) → HasRead P x old mid →
+pub both_read : {X Y : Type 0} (P : List ℕ → X → Type 0) (Q : List ℕ → Y → Type 0) {old mid new : Reader} {x : X} {y : Y} → HasRead P x old mid →
     HasRead Q y mid new → HasRead (Both P Q) (x, y) old new
-both_read P Q old mid new x y (a, p, t) (b, q, u) = (a ++ b, (a, b, refl, p, q), takes_both old mid new a b t u)
+both_read P Q {old} {mid} {new} {x} {y} (a, p, t) (b, q, u) = (a ++ b, (a, b, refl, p, q), takes_both old mid new a b t u)
 
 module _ {X : Type 0} (P : List ℕ → X → Type 0) where
-  pub some_read : (old new : Reader) (x : X) → HasRead P x old new → HasRead (SomeOf P) tt old new
-  some_read old new x (a, p, t) = (a, (x, p), t)
+  pub some_read : {old new : Reader} {x : X} → HasRead P x old new → HasRead (SomeOf P) tt old new
+  some_read {old} {new} {x} (a, p, t) = (a, (x, p), t)
 
-  pub some_refused : (F : Message → Reader → ℕ → Type 0) (e : Error) (old new : Reader) → Reads P F (Err e) old new → Reads (SomeOf P) F (Err e) old new
-  some_refused F e old new = refused_as P (SomeOf P) F F (λ text z b. b) e old new (λ f. f)
+  pub some_refused : (F : Message → Reader → ℕ → Type 0) {e : Error} {old : Reader} → Fails P F e old → Fails (SomeOf P) F e old
+  some_refused F = refused_as P (SomeOf P) F F (λ text z b. b) (λ f. f)
 
   pub some_code : PrefixCode P → PrefixCode (SomeOf P)
   some_code code a b x y m n p q e = ((code a b x y p.0 q.0 p.1 q.1 e).0, refl)
-
-pub extern_type_after_byte_read : (byte : ℕ) (old new : Reader) → HasRead (IsExternTypeAfterByte byte) tt old new → HasRead (EncodesExternTypeAfterByte byte) byte old new
-extern_type_after_byte_read byte old new (a, p, t) = (a, (refl, p), t)
-
-pub extern_type_after_byte_refused : (byte : ℕ) (e : Error) (old new : Reader) → Reads (IsExternTypeAfterByte byte) (ExternTypeFaultAfterByte byte) (Err e) old new →
-    Reads (EncodesExternTypeAfterByte byte) (ExternTypeFaultAfterByte byte) (Err e) old new
-extern_type_after_byte_refused byte e old new =
-    refused_as (IsExternTypeAfterByte byte) (EncodesExternTypeAfterByte byte) (ExternTypeFaultAfterByte byte) (ExternTypeFaultAfterByte byte)
-    (λ text z b. (tt, b.1)) e old new (λ f. f)

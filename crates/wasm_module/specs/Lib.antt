@@ -1,3 +1,4 @@
+pub mod Ahead
 pub mod Both
 pub mod Exports
 pub mod Imports

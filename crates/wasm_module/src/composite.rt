@@ -1,11 +1,10 @@
 ghost use Rattle.std.specs.Prelude.{◌≡◌, ◌↔◌, IsTrue, Ok, IfErr};
-ghost use Rattle.wasm_below.specs.Fault.{ManyFault};
-ghost use Rattle.wasm_below.specs.Number.{EncodesUnsigned};
-ghost use Rattle.wasm_below.specs.Source.{Reads, BeginsWith, U32Fault, rest};
-ghost use Rattle.wasm_below.specs.TypeEncoding.{EncodesValType, ValTypeFault};
-ghost use Rattle.wasm_module.specs.Types.{IsMany, EncodesValueTypes, ValueTypesFault, EncodesSignature, SignatureFault, EncodesAfterByte, FaultAfterByte, EncodesComposite, CompositeFault, EncodesIndices, IndicesFault, EncodesWithSupertypes, WithSupertypesFault, EncodesSubAfterByte, SubFaultAfterByte, EncodesSubType, SubTypeFault, EncodesRecTypeLength, RecTypeLengthFault};
+ghost use Rattle.wasm_below.specs.Source.{Reads, BeginsWith, rest};
+ghost use Rattle.wasm_module.specs.Ahead.{ReadsAhead};
+ghost use Rattle.wasm_module.specs.Types.{EncodesSignature, SignatureFault, EncodesAfterByte, FaultAfterByte, EncodesWithSupertypes, WithSupertypesFault, EncodesSubAfterByte, SubFaultAfterByte, EncodesSubType, SubTypeFault, EncodesRecTypeLength, RecTypeLengthFault};
 
-use crate::field::{count_fields, skip_field};
+use crate::field::Field;
+use crate::list::{Item, read_length};
 use crate::module_laws::types;
 use std::alloc::Global;
 use wasm_below::byte_laws::unsigned_numbers;
@@ -24,93 +23,14 @@ const OPEN: u8 = 0x50;
 
 const REC_TYPE: u8 = 0x4e;
 
-fn skip_value_types(reader: &mut BinaryReader<'_>, count: u32) -> Result<()>
-    ensures { Reads (IsMany EncodesValType count) (ManyFault EncodesValType ValTypeFault count) result reader.old reader.new }
-{
-    value_types();
-    let start = reader.current_position();
-    for _value in 0..count {
-        match ValType::read(reader) {
-            Ok(_) => {}
-            Err(e) => {
-                reader.rewind(start);
-                return Err(e);
-            }
-        }
-    }
-    Ok(())
-}
-
-fn count_value_types(reader: &mut BinaryReader<'_>) -> Result<u32>
-    ensures { Reads EncodesValueTypes ValueTypesFault result reader.old reader.new }
-{
-    unsigned_numbers();
-    let start = reader.current_position();
-    let count = match reader.read_var_u32() {
-        Ok(count) => count,
-        Err(e) => return Err(e),
-    };
-    match skip_value_types(reader, count) {
-        Ok(()) => Ok(count),
-        Err(e) => {
-            reader.rewind(start);
-            Err(e)
-        }
-    }
-}
-
 fn read_signature(reader: &mut BinaryReader<'_>) -> Result<(u32, u32)>
-    ensures { Reads EncodesSignature SignatureFault result reader.old reader.new }
+    ensures { ReadsAhead EncodesSignature SignatureFault result reader.old reader.new }
 {
     unsigned_numbers();
     value_types();
-    let start = reader.current_position();
-    let parameters = match count_value_types(reader) {
-        Ok(parameters) => parameters,
-        Err(e) => return Err(e),
-    };
-    match count_value_types(reader) {
-        Ok(results) => Ok((parameters, results)),
-        Err(e) => {
-            reader.rewind(start);
-            Err(e)
-        }
-    }
-}
-
-fn skip_indices(reader: &mut BinaryReader<'_>, count: u32) -> Result<()>
-    ensures { Reads (IsMany (EncodesUnsigned 32) count) (ManyFault (EncodesUnsigned 32) U32Fault count) result reader.old reader.new }
-{
-    unsigned_numbers();
-    let start = reader.current_position();
-    for _index in 0..count {
-        match reader.read_var_u32() {
-            Ok(_) => {}
-            Err(e) => {
-                reader.rewind(start);
-                return Err(e);
-            }
-        }
-    }
-    Ok(())
-}
-
-fn count_indices(reader: &mut BinaryReader<'_>) -> Result<u32>
-    ensures { Reads EncodesIndices IndicesFault result reader.old reader.new }
-{
-    unsigned_numbers();
-    let start = reader.current_position();
-    let count = match reader.read_var_u32() {
-        Ok(count) => count,
-        Err(e) => return Err(e),
-    };
-    match skip_indices(reader, count) {
-        Ok(()) => Ok(count),
-        Err(e) => {
-            reader.rewind(start);
-            Err(e)
-        }
-    }
+    let parameters = read_length::<ValType>(reader)?;
+    let results = read_length::<ValType>(reader)?;
+    Ok((parameters, results))
 }
 
 /// Specification: Composite Types.
@@ -124,7 +44,7 @@ pub enum CompositeType {
 }
 
 fn read_after_byte(reader: &mut BinaryReader<'_>, kind: u8) -> Result<CompositeType>
-    ensures { Reads (EncodesAfterByte kind) (FaultAfterByte kind) result reader.old reader.new }
+    ensures { ReadsAhead (EncodesAfterByte kind) (FaultAfterByte kind) result reader.old reader.new }
 {
     match kind {
         FUNCTION => match read_signature(reader) {
@@ -134,11 +54,11 @@ fn read_after_byte(reader: &mut BinaryReader<'_>, kind: u8) -> Result<CompositeT
             }),
             Err(e) => Err(e),
         },
-        STRUCT => match count_fields(reader) {
+        STRUCT => match read_length::<Field>(reader) {
             Ok(fields) => Ok(CompositeType::Struct { fields }),
             Err(e) => Err(e),
         },
-        ARRAY => match skip_field(reader) {
+        ARRAY => match Field::read_item(reader) {
             Ok(()) => Ok(CompositeType::Array),
             Err(e) => Err(e),
         },
@@ -146,43 +66,18 @@ fn read_after_byte(reader: &mut BinaryReader<'_>, kind: u8) -> Result<CompositeT
     }
 }
 
-fn read_composite(reader: &mut BinaryReader<'_>) -> Result<CompositeType>
-    ensures { Reads EncodesComposite CompositeFault result reader.old reader.new }
-{
-    let start = reader.current_position();
-    let kind = match reader.read_u8() {
-        Ok(kind) => kind,
-        Err(e) => return Err(e),
-    };
-    match read_after_byte(reader, kind) {
-        Ok(ty) => Ok(ty),
-        Err(e) => {
-            reader.rewind(start);
-            Err(e)
-        }
-    }
-}
-
 fn read_with_supertypes(reader: &mut BinaryReader<'_>) -> Result<CompositeType>
-    ensures { Reads EncodesWithSupertypes WithSupertypesFault result reader.old reader.new }
+    ensures { ReadsAhead EncodesWithSupertypes WithSupertypesFault result reader.old reader.new }
 {
     unsigned_numbers();
-    let start = reader.current_position();
-    match count_indices(reader) {
-        Ok(_) => {}
-        Err(e) => return Err(e),
-    }
-    match read_composite(reader) {
-        Ok(ty) => Ok(ty),
-        Err(e) => {
-            reader.rewind(start);
-            Err(e)
-        }
-    }
+    read_length::<u32>(reader)?;
+    let kind = reader.read_u8()?;
+    let ty = read_after_byte(reader, kind)?;
+    Ok(ty)
 }
 
 fn read_sub_after_byte(reader: &mut BinaryReader<'_>, kind: u8) -> Result<CompositeType>
-    ensures { Reads (EncodesSubAfterByte kind) (SubFaultAfterByte kind) result reader.old reader.new }
+    ensures { ReadsAhead (EncodesSubAfterByte kind) (SubFaultAfterByte kind) result reader.old reader.new }
 {
     match kind {
         FINAL | OPEN => read_with_supertypes(reader),
@@ -197,18 +92,11 @@ impl CompositeType {
     pub fn read(reader: &mut BinaryReader<'_>) -> Result<CompositeType>
         ensures { Reads EncodesSubType SubTypeFault result reader.old reader.new }
     {
-        let start = reader.current_position();
-        let kind = match reader.read_u8() {
-            Ok(kind) => kind,
-            Err(e) => return Err(e),
-        };
-        match read_sub_after_byte(reader, kind) {
-            Ok(ty) => Ok(ty),
-            Err(e) => {
-                reader.rewind(start);
-                Err(e)
-            }
-        }
+        let mut ahead = reader.clone();
+        let kind = ahead.read_u8()?;
+        let ty = read_sub_after_byte(&mut ahead, kind)?;
+        *reader = ahead;
+        Ok(ty)
     }
 }
 
@@ -232,18 +120,11 @@ pub fn read_rec_type_len(reader: &mut BinaryReader<'_>) -> Result<u32>
     if !is_rec_type_list_next(reader) {
         return Ok(1);
     }
-    let start = reader.current_position();
-    match reader.read_u8() {
-        Ok(_) => {}
-        Err(e) => return Err(e),
-    }
-    match reader.read_var_u32() {
-        Ok(count) => Ok(count),
-        Err(e) => {
-            reader.rewind(start);
-            Err(e)
-        }
-    }
+    let mut ahead = reader.clone();
+    ahead.read_u8()?;
+    let length = ahead.read_var_u32()?;
+    *reader = ahead;
+    Ok(length)
 }
 
 impl UsesMemory for CompositeType {

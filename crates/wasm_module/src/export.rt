@@ -4,7 +4,7 @@ ghost use Rattle.wasm_below.specs.Fault.{DeterminesRefusal};
 ghost use Rattle.wasm_below.specs.FromReader.{ReadsValue};
 ghost use Rattle.wasm_below.specs.Sequence.{PrefixCode};
 ghost use Rattle.wasm_below.specs.Source.{Reads};
-ghost use Rattle.wasm_module.specs.Exports.{EncodesExternIndex, ExternIndexFault, EncodesExport, ExportFault};
+ghost use Rattle.wasm_module.specs.Exports.{EncodesExport, ExportFault};
 
 use crate::module_laws::exports;
 use crate::name::Name;
@@ -12,23 +12,6 @@ use std::alloc::Global;
 use std::marker::Model;
 use wasm_below::byte_laws::unsigned_numbers;
 use wasm_below::{BinaryReader, FromReader, MemoryUse, Never, Result, UsesMemory};
-
-fn read_extern_index(reader: &mut BinaryReader<'_>) -> Result<(u8, u32)>
-    ensures { Reads EncodesExternIndex ExternIndexFault result reader.old reader.new }
-{
-    let start = reader.current_position();
-    let kind = match reader.read_u8() {
-        Ok(kind) => kind,
-        Err(e) => return Err(e),
-    };
-    match reader.read_var_u32() {
-        Ok(index) => Ok((kind, index)),
-        Err(e) => {
-            reader.rewind(start);
-            Err(e)
-        }
-    }
-}
 
 /// The name, kind and index of an item that the module exports.
 #[derive(Debug, Drop)]
@@ -76,18 +59,12 @@ impl<'a> Export<'a> {
         ensures { Reads EncodesExport ExportFault result reader.old reader.new }
     {
         unsigned_numbers();
-        let start = reader.current_position();
-        let name = match Name::read(reader) {
-            Ok(name) => name,
-            Err(e) => return Err(e),
-        };
-        match read_extern_index(reader) {
-            Ok((kind, index)) => Ok(Export { name, kind, index }),
-            Err(e) => {
-                reader.rewind(start);
-                Err(e)
-            }
-        }
+        let mut ahead = reader.clone();
+        let name = Name::read(&mut ahead)?;
+        let kind = ahead.read_u8()?;
+        let index = ahead.read_var_u32()?;
+        *reader = ahead;
+        Ok(Export { name, kind, index })
     }
 }
 

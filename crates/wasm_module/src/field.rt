@@ -1,10 +1,11 @@
 ghost use Rattle.std.specs.Prelude.{◌↔◌, IsTrue};
-ghost use Rattle.wasm_below.specs.Fault.{ManyFault};
+ghost use Rattle.wasm_below.specs.Sequence.{PrefixCode};
 ghost use Rattle.wasm_below.specs.Source.{Reads, rest};
 ghost use Rattle.wasm_below.specs.TypeEncoding.{LedBy, ValTypeFault};
-ghost use Rattle.wasm_module.specs.Types.{IsMany, IsPackedByte, IsStorage, IsField, FieldFault, EncodesFields, FieldsFault};
+ghost use Rattle.wasm_module.specs.Ahead.{ReadsAhead};
+ghost use Rattle.wasm_module.specs.Types.{IsPackedByte, IsStorage, IsField, FieldFault};
 
-use wasm_below::byte_laws::unsigned_numbers;
+use crate::list::Item;
 use wasm_below::type_laws::value_types;
 use wasm_below::{BinaryReader, Result, ValType};
 
@@ -40,55 +41,28 @@ fn skip_storage(reader: &mut BinaryReader<'_>) -> Result<()>
     }
 }
 
-pub fn skip_field(reader: &mut BinaryReader<'_>) -> Result<()>
-    ensures { Reads IsField FieldFault result reader.old reader.new }
-{
-    value_types();
-    let start = reader.current_position();
-    match skip_storage(reader) {
-        Ok(()) => {}
-        Err(e) => return Err(e),
-    }
-    match reader.read_u8() {
-        Ok(_) => Ok(()),
-        Err(e) => {
-            reader.rewind(start);
-            Err(e)
-        }
-    }
-}
+/// A field of a struct or array type.
+pub struct Field;
 
-fn skip_fields(reader: &mut BinaryReader<'_>, count: u32) -> Result<()>
-    ensures { Reads (IsMany IsField count) (ManyFault IsField FieldFault count) result reader.old reader.new }
-{
-    value_types();
-    let start = reader.current_position();
-    for _field in 0..count {
-        match skip_field(reader) {
-            Ok(()) => {}
-            Err(e) => {
-                reader.rewind(start);
-                return Err(e);
-            }
-        }
-    }
-    Ok(())
-}
+impl Item for Field {
+    type Value = ();
 
-pub fn count_fields(reader: &mut BinaryReader<'_>) -> Result<u32>
-    ensures { Reads EncodesFields FieldsFault result reader.old reader.new }
-{
-    unsigned_numbers();
-    let start = reader.current_position();
-    let count = match reader.read_var_u32() {
-        Ok(count) => count,
-        Err(e) => return Err(e),
-    };
-    match skip_fields(reader, count) {
-        Ok(()) => Ok(count),
-        Err(e) => {
-            reader.rewind(start);
-            Err(e)
-        }
+    ghost encodes = { λ text done. IsField text done };
+
+    ghost fault = { λ m r offset. FieldFault m r offset };
+
+    fn read_item(reader: &mut BinaryReader<'_>) -> Result<()>
+        ensures { ReadsAhead IsField FieldFault result reader.old reader.new }
+    {
+        value_types();
+        skip_storage(reader)?;
+        reader.read_u8()?;
+        Ok(())
+    }
+
+    fn is_prefix_code()
+        ensures { PrefixCode IsField }
+    {
+        value_types();
     }
 }

@@ -4,7 +4,8 @@ ghost use Rattle.wasm_below.specs.Fault.{DeterminesRefusal};
 ghost use Rattle.wasm_below.specs.FromReader.{ReadsValue};
 ghost use Rattle.wasm_below.specs.Sequence.{PrefixCode};
 ghost use Rattle.wasm_below.specs.Source.{Reads};
-ghost use Rattle.wasm_module.specs.Imports.{IsExternTypeAfterByte, ExternTypeFaultAfterByte, EncodesExternType, ExternTypeFault, EncodesNamed, NamedFault, EncodesImport, ImportFault};
+ghost use Rattle.wasm_module.specs.Ahead.{ReadsAhead};
+ghost use Rattle.wasm_module.specs.Imports.{IsExternTypeAfterByte, ExternTypeFaultAfterByte, EncodesExternType, ExternTypeFault, EncodesImport, ImportFault};
 
 use crate::module_laws::imports;
 use crate::name::Name;
@@ -15,7 +16,7 @@ use wasm_below::byte_laws::unsigned_numbers;
 use wasm_below::{BinaryReader, FromReader, MemoryUse, Never, Result, UsesMemory};
 
 fn skip_extern_type_after_byte(reader: &mut BinaryReader<'_>, kind: u8) -> Result<()>
-    ensures { Reads (IsExternTypeAfterByte kind) (ExternTypeFaultAfterByte kind) result reader.old reader.new }
+    ensures { ReadsAhead (IsExternTypeAfterByte kind) (ExternTypeFaultAfterByte kind) result reader.old reader.new }
 {
     match kind {
         0 => match reader.read_var_u32() {
@@ -31,38 +32,11 @@ fn skip_extern_type_after_byte(reader: &mut BinaryReader<'_>, kind: u8) -> Resul
 }
 
 fn read_extern_type(reader: &mut BinaryReader<'_>) -> Result<u8>
-    ensures { Reads EncodesExternType ExternTypeFault result reader.old reader.new }
+    ensures { ReadsAhead EncodesExternType ExternTypeFault result reader.old reader.new }
 {
-    let start = reader.current_position();
-    let kind = match reader.read_u8() {
-        Ok(kind) => kind,
-        Err(e) => return Err(e),
-    };
-    match skip_extern_type_after_byte(reader, kind) {
-        Ok(()) => Ok(kind),
-        Err(e) => {
-            reader.rewind(start);
-            Err(e)
-        }
-    }
-}
-
-fn read_named<'a>(reader: &mut BinaryReader<'a>) -> Result<(Name<'a>, u8)>
-    ensures { Reads EncodesNamed NamedFault result reader.old reader.new }
-{
-    unsigned_numbers();
-    let start = reader.current_position();
-    let name = match Name::read(reader) {
-        Ok(name) => name,
-        Err(e) => return Err(e),
-    };
-    match read_extern_type(reader) {
-        Ok(kind) => Ok((name, kind)),
-        Err(e) => {
-            reader.rewind(start);
-            Err(e)
-        }
-    }
+    let kind = reader.read_u8()?;
+    skip_extern_type_after_byte(reader, kind)?;
+    Ok(kind)
 }
 
 /// The names of an import, and the kind of what is imported.
@@ -111,22 +85,16 @@ impl<'a> Import<'a> {
         ensures { Reads EncodesImport ImportFault result reader.old reader.new }
     {
         unsigned_numbers();
-        let start = reader.current_position();
-        let module_name = match Name::read(reader) {
-            Ok(name) => name,
-            Err(e) => return Err(e),
-        };
-        match read_named(reader) {
-            Ok((name, kind)) => Ok(Import {
-                module_name,
-                name,
-                kind,
-            }),
-            Err(e) => {
-                reader.rewind(start);
-                Err(e)
-            }
-        }
+        let mut ahead = reader.clone();
+        let module_name = Name::read(&mut ahead)?;
+        let name = Name::read(&mut ahead)?;
+        let kind = read_extern_type(&mut ahead)?;
+        *reader = ahead;
+        Ok(Import {
+            module_name,
+            name,
+            kind,
+        })
     }
 }
 

@@ -6,6 +6,7 @@ mod custom;
 mod export;
 mod field;
 mod import;
+mod list;
 pub mod module_laws;
 mod name;
 mod preamble;

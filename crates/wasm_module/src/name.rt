@@ -40,18 +40,11 @@ impl<'a> Name<'a> {
         ensures { Reads EncodesName NameFault result reader.old reader.new }
     {
         unsigned_numbers();
-        let start = reader.current_position();
-        let length = match reader.read_var_u32() {
-            Ok(length) => length,
-            Err(e) => return Err(e),
-        };
-        match reader.read_bytes(length as usize) {
-            Ok(bytes) => Ok(Name { bytes }),
-            Err(e) => {
-                reader.rewind(start);
-                Err(e)
-            }
-        }
+        let mut ahead = reader.clone();
+        let length = ahead.read_var_u32()?;
+        let bytes = ahead.read_bytes(length as usize)?;
+        *reader = ahead;
+        Ok(Name { bytes })
     }
 }
 
@@ -88,18 +81,11 @@ impl<'a> NameAssociation<'a> {
         ensures { Reads EncodesNameAssociation NameAssociationFault result reader.old reader.new }
     {
         unsigned_numbers();
-        let start = reader.current_position();
-        let index = match reader.read_var_u32() {
-            Ok(index) => index,
-            Err(e) => return Err(e),
-        };
-        match Name::read(reader) {
-            Ok(name) => Ok(NameAssociation { index, name }),
-            Err(e) => {
-                reader.rewind(start);
-                Err(e)
-            }
-        }
+        let mut ahead = reader.clone();
+        let index = ahead.read_var_u32()?;
+        let name = Name::read(&mut ahead)?;
+        *reader = ahead;
+        Ok(NameAssociation { index, name })
     }
 }
 

@@ -66,16 +66,9 @@ pub fn read_preamble(reader: &mut BinaryReader<'_>) -> Result<Preamble>
     ensures { Reads EncodesPreamble PreambleFault result reader.old reader.new }
 {
     fixed_numbers();
-    let start = reader.current_position();
-    let magic = match reader.read_u32() {
-        Ok(magic) => magic,
-        Err(e) => return Err(e),
-    };
-    match reader.read_u32() {
-        Ok(version) => Ok(Preamble { magic, version }),
-        Err(e) => {
-            reader.rewind(start);
-            Err(e)
-        }
-    }
+    let mut ahead = reader.clone();
+    let magic = ahead.read_u32()?;
+    let version = ahead.read_u32()?;
+    *reader = ahead;
+    Ok(Preamble { magic, version })
 }

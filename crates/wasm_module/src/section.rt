@@ -43,16 +43,9 @@ pub fn read_section<'a>(reader: &mut BinaryReader<'a>) -> Result<Section<'a>>
     ensures reads { Reads (EncodesSection reader.old.features) SectionFault result reader.old reader.new }
     ensures placed { IfOk result (λ s. end_of s.contents ≡ offset_of reader.new) }
 {
-    let start = reader.current_position();
-    let id = match reader.read_u8() {
-        Ok(id) => id,
-        Err(e) => return Err(e),
-    };
-    match reader.read_reader() {
-        Ok(contents) => Ok(Section { id, contents }),
-        Err(e) => {
-            reader.rewind(start);
-            Err(e)
-        }
-    }
+    let mut ahead = reader.clone();
+    let id = ahead.read_u8()?;
+    let contents = ahead.read_reader()?;
+    *reader = ahead;
+    Ok(Section { id, contents })
 }

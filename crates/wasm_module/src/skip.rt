@@ -1,6 +1,9 @@
 //! Skips the type of an import after the byte of its kind.
+//!
+//! If one of these calls fails, the reader may have moved.
 ghost use Rattle.wasm_below.specs.Source.{Reads};
-ghost use Rattle.wasm_module.specs.Imports.{IsMost, MostFault, IsBounds, BoundsFault, IsLimits, LimitsFault, IsTable, TableFault, IsGlobal, GlobalFault, IsTag, TagFault};
+ghost use Rattle.wasm_module.specs.Ahead.{ReadsAhead};
+ghost use Rattle.wasm_module.specs.Imports.{IsMost, MostFault, IsLimits, LimitsFault, IsTable, TableFault, IsGlobal, GlobalFault, IsTag, TagFault};
 
 use wasm_below::byte_laws::unsigned_numbers;
 use wasm_below::type_laws::{reference_types, value_types};
@@ -18,90 +21,38 @@ fn skip_most(reader: &mut BinaryReader<'_>, flags: u8) -> Result<()>
     }
 }
 
-fn skip_bounds(reader: &mut BinaryReader<'_>, flags: u8) -> Result<()>
-    ensures { Reads (IsBounds flags) (BoundsFault flags) result reader.old reader.new }
+pub fn skip_limits(reader: &mut BinaryReader<'_>) -> Result<()>
+    ensures { ReadsAhead IsLimits LimitsFault result reader.old reader.new }
 {
     unsigned_numbers();
-    let start = reader.current_position();
-    match reader.read_var_u64() {
-        Ok(_) => {}
-        Err(e) => return Err(e),
-    }
-    match skip_most(reader, flags) {
-        Ok(()) => Ok(()),
-        Err(e) => {
-            reader.rewind(start);
-            Err(e)
-        }
-    }
-}
-
-pub fn skip_limits(reader: &mut BinaryReader<'_>) -> Result<()>
-    ensures { Reads IsLimits LimitsFault result reader.old reader.new }
-{
-    let start = reader.current_position();
-    let flags = match reader.read_u8() {
-        Ok(flags) => flags,
-        Err(e) => return Err(e),
-    };
-    match skip_bounds(reader, flags) {
-        Ok(()) => Ok(()),
-        Err(e) => {
-            reader.rewind(start);
-            Err(e)
-        }
-    }
+    let flags = reader.read_u8()?;
+    reader.read_var_u64()?;
+    skip_most(reader, flags)?;
+    Ok(())
 }
 
 pub fn skip_table(reader: &mut BinaryReader<'_>) -> Result<()>
-    ensures { Reads IsTable TableFault result reader.old reader.new }
+    ensures { ReadsAhead IsTable TableFault result reader.old reader.new }
 {
     reference_types();
-    let start = reader.current_position();
-    match RefType::read(reader) {
-        Ok(_) => {}
-        Err(e) => return Err(e),
-    }
-    match skip_limits(reader) {
-        Ok(()) => Ok(()),
-        Err(e) => {
-            reader.rewind(start);
-            Err(e)
-        }
-    }
+    RefType::read(reader)?;
+    skip_limits(reader)?;
+    Ok(())
 }
 
 pub fn skip_global(reader: &mut BinaryReader<'_>) -> Result<()>
-    ensures { Reads IsGlobal GlobalFault result reader.old reader.new }
+    ensures { ReadsAhead IsGlobal GlobalFault result reader.old reader.new }
 {
     value_types();
-    let start = reader.current_position();
-    match ValType::read(reader) {
-        Ok(_) => {}
-        Err(e) => return Err(e),
-    }
-    match reader.read_u8() {
-        Ok(_) => Ok(()),
-        Err(e) => {
-            reader.rewind(start);
-            Err(e)
-        }
-    }
+    ValType::read(reader)?;
+    reader.read_u8()?;
+    Ok(())
 }
 
 pub fn skip_tag(reader: &mut BinaryReader<'_>) -> Result<()>
-    ensures { Reads IsTag TagFault result reader.old reader.new }
+    ensures { ReadsAhead IsTag TagFault result reader.old reader.new }
 {
-    let start = reader.current_position();
-    match reader.read_u8() {
-        Ok(_) => {}
-        Err(e) => return Err(e),
-    }
-    match reader.read_var_u32() {
-        Ok(_) => Ok(()),
-        Err(e) => {
-            reader.rewind(start);
-            Err(e)
-        }
-    }
+    reader.read_u8()?;
+    reader.read_var_u32()?;
+    Ok(())
 }

@@ -2,25 +2,19 @@ use Rattle.wasm_module.proofs.Composites.{function_read, function_refused, struc
 use Rattle.wasm_module.proofs.composite.read_after_byte.Goals as goal
 
 pub returns-in-Ok : goal.returns-in-Ok
-returns-in-Ok c =
-    function_read c.args.kind c.in-96.is c.args.reader.now c.read_signature.new.reader c.in-Ok.parameters c.in-Ok.results c.in-Ok.ensures
+returns-in-Ok c = function_read c.args.kind c.in-96.is c.in-Ok.ensures
 
 pub returns-in-Err : goal.returns-in-Err
-returns-in-Err c =
-    function_refused c.args.kind c.in-96.is c.in-Err.e c.args.reader.now c.read_signature.new.reader c.in-Err.ensures
+returns-in-Err c = function_refused c.args.kind c.in-96.is c.in-Err.ensures
 
-pub returns-in-Ok-count_fields : goal.returns-in-Ok-count_fields
-returns-in-Ok-count_fields c =
-    struct_read c.args.kind c.in-95.is c.args.reader.now c.count_fields.new.reader c.in-Ok-count_fields.fields c.in-Ok-count_fields.ensures
+pub returns-in-Ok-read_length : goal.returns-in-Ok-read_length
+returns-in-Ok-read_length c = struct_read c.args.kind c.in-95.is c.in-Ok-read_length.ensures
 
-pub returns-in-Err-count_fields : goal.returns-in-Err-count_fields
-returns-in-Err-count_fields c =
-    struct_refused c.args.kind c.in-95.is c.in-Err-count_fields.e c.args.reader.now c.count_fields.new.reader c.in-Err-count_fields.ensures
+pub returns-in-Err-read_length : goal.returns-in-Err-read_length
+returns-in-Err-read_length c = struct_refused c.args.kind c.in-95.is c.in-Err-read_length.ensures
 
-pub returns-in-Ok-skip_field : goal.returns-in-Ok-skip_field
-returns-in-Ok-skip_field c =
-    array_read c.args.kind c.in-94.is c.args.reader.now c.skip_field.new.reader c.in-Ok-skip_field.ensures
+pub returns-in-Ok-read_item : goal.returns-in-Ok-read_item
+returns-in-Ok-read_item c = array_read c.args.kind c.in-94.is c.in-Ok-read_item.ensures
 
-pub returns-in-Err-skip_field : goal.returns-in-Err-skip_field
-returns-in-Err-skip_field c =
-    array_refused c.args.kind c.in-94.is c.in-Err-skip_field.e c.args.reader.now c.skip_field.new.reader c.in-Err-skip_field.ensures
+pub returns-in-Err-read_item : goal.returns-in-Err-read_item
+returns-in-Err-read_item c = array_refused c.args.kind c.in-94.is c.in-Err-read_item.ensures

@@ -1,26 +1,33 @@
-use Rattle.std.proofs.Common.{◌≡◌}
+use Rattle.std.proofs.Common.{◌≡◌, sym, subst}
 use Rattle.wasm_below.specs.Number.{EncodesUnsigned}
-use Rattle.wasm_below.specs.Source.{IsByte, EndFault, U32Fault}
+use Rattle.wasm_below.specs.Source.{IsByte, EndFault, U32Fault, BeginsWith, rest}
+use Rattle.wasm_module.specs.Types.{EncodesRecTypeLength, RecTypeLengthFault}
 use Rattle.wasm_module.proofs.Composites.{rec_type_byte, rec_type_there, rec_type_read, rec_type_refused}
 use Rattle.wasm_module.proofs.Parts.{byte_prefix_code}
-use Rattle.wasm_module.proofs.Sequences.{then_read, then_second}
+use Rattle.wasm_module.proofs.Sequences.{then_read, then_second, stays, advances}
 use Rattle.wasm_module.proofs.composite.read_rec_type_len.Goals as goal
 
-pub returns-in-Err-clause-rec_type : goal.returns-in-Err-clause-rec_type
-returns-in-Err-clause-rec_type c begins = absurd (rec_type_there c.args.reader.now c.read_u8.new.self c.in-Err.e begins c.in-Err.ensures)
+pub returns-in_err-read_u8-clause-rec_type : goal.returns-in_err-read_u8-clause-rec_type
+returns-in_err-read_u8-clause-rec_type c =
+    let h = c.in_err-read_u8.ensures in
+    λ begins.
+    let here = subst (λ r. BeginsWith 0x4e (rest r)) (sym c.clone-ahead.ensures) begins in
+    absurd (rec_type_there {old = c.clone-ahead.result} here (h.1, h.2))
 
-pub returns-in-Ok-read_var_u32-clause-rec_type : goal.returns-in-Ok-read_var_u32-clause-rec_type
-returns-in-Ok-read_var_u32-clause-rec_type c begins =
-    then_read IsByte (λ byte text n. (byte ≡ 0x4e) × EncodesUnsigned 32 text n) c.args.reader.now c.read_u8.new.self c.read_var_u32.new.self
-    c.in-Ok.field-0 c.in-Ok-read_var_u32.count c.in-Ok.ensures
-    (rec_type_read c.in-Ok.field-0 (rec_type_byte c.args.reader.now c.read_u8.new.self c.in-Ok.field-0 begins c.in-Ok.ensures) c.read_u8.new.self
-    c.read_var_u32.new.self c.in-Ok-read_var_u32.count c.in-Ok-read_var_u32.ensures)
+pub returns-clause-rec_type : goal.returns-clause-rec_type
+returns-clause-rec_type c =
+    λ begins.
+    let here = subst (λ r. BeginsWith 0x4e (rest r)) (sym c.clone-ahead.ensures) begins in
+    let first = c.in_ok-read_u8.ensures in
+    advances EncodesRecTypeLength c.clone-ahead.ensures
+    (then_read IsByte (λ byte text n. (byte ≡ 0x4e) × EncodesUnsigned 32 text n) first (rec_type_read (rec_type_byte here first) c.in_ok-length.ensures))
 
-pub returns-in-Err-read_var_u32-clause-rec_type : goal.returns-in-Err-read_var_u32-clause-rec_type
-returns-in-Err-read_var_u32-clause-rec_type c begins =
-    let mid = c.read_u8.new.self in
-    let s = then_second IsByte (λ byte text n. (byte ≡ 0x4e) × EncodesUnsigned 32 text n) EndFault (λ byte. U32Fault) byte_prefix_code
-    c.in-Err-read_var_u32.e c.args.reader.now mid c.read_var_u32.new.self c.rewind.new.self c.in-Ok.field-0 c.current_position-start.result
-    c.in-Ok.ensures (rec_type_refused c.in-Ok.field-0 c.in-Err-read_var_u32.e mid c.read_var_u32.new.self c.in-Err-read_var_u32.ensures)
-    c.current_position-start.ensures c.rewind.ensures in
-    (s.0, s.1, (c.in-Ok.field-0, mid, c.in-Ok.ensures, c.in-Err-read_var_u32.ensures.2))
+pub returns-in_err-length-clause-rec_type : goal.returns-in_err-length-clause-rec_type
+returns-in_err-length-clause-rec_type c =
+    let h = c.in_err-length.ensures in
+    λ begins.
+    let first = c.in_ok-read_u8.ensures in
+    let s = then_second IsByte (λ byte text n. (byte ≡ 0x4e) × EncodesUnsigned 32 text n) EndFault (λ byte. U32Fault) byte_prefix_code first
+    (rec_type_refused c.in_ok-read_u8.field-0 (h.1, h.2)) in
+    stays EncodesRecTypeLength RecTypeLengthFault _ c.clone-ahead.ensures c.from_residual-in_err-length.ensures.1
+    (s.0, (c.in_ok-read_u8.field-0, c.read_u8.new.self, first, h.2))

@@ -1,29 +1,34 @@
-use Rattle.std.proofs.Common.{Err, ap, subst}
+use Rattle.std.proofs.Common.{ap, subst, ◌∙◌}
 use Rattle.wasm_below.specs.FromReader.{EncodesReader, ReaderFault}
-use Rattle.wasm_below.specs.Source.{IsByte, EndFault, HasRead, Reads}
-use Rattle.wasm_module.specs.Module.{SectionParts}
+use Rattle.wasm_below.specs.Source.{Reader, IsByte, EndFault, HasRead}
+use Rattle.wasm_module.specs.Ahead.{Fails}
+use Rattle.wasm_module.specs.Module.{SectionParts, EncodesSection, SectionFault}
 use Rattle.wasm_module.proofs.Parts.{byte_prefix_code}
-use Rattle.wasm_module.proofs.Sequences.{both_first, both_read, both_second}
+use Rattle.wasm_module.proofs.Sequences.{both_read, both_first, both_second, stays, advances}
 use Rattle.wasm_module.proofs.section.read_section.Goals as goal
 
-pub returns-in-Err-clause-reads : goal.returns-in-Err-clause-reads
-returns-in-Err-clause-reads c =
-    both_first IsByte (EncodesReader c.args.reader.now.features) EndFault (λ id. ReaderFault) (λ (s : SectionParts). (s.id, s.contents)) c.in-Err.e
-    c.args.reader.now c.read_u8.new.self c.in-Err.ensures
+pub returns-in_err-id-clause-reads : goal.returns-in_err-id-clause-reads
+returns-in_err-id-clause-reads c =
+    let h = c.in_err-id.ensures in
+    let f = c.args.reader.now.features in
+    stays (EncodesSection f) SectionFault _ c.clone-ahead.ensures c.from_residual.ensures.1
+    (both_first IsByte (EncodesReader f) EndFault (λ id. ReaderFault) (λ (s : SectionParts). (s.id, s.contents)) (h.1, h.2))
 
-pub returns-in-Ok-read_reader-clause-reads : goal.returns-in-Ok-read_reader-clause-reads
-returns-in-Ok-read_reader-clause-reads c =
-    let first = c.in-Ok.ensures in
-    let same = ap (λ r. r.features) first.2.moved in
-    both_read IsByte (EncodesReader c.args.reader.now.features) c.args.reader.now c.read_u8.new.self c.read_reader.new.self c.in-Ok.id c.in-Ok-read_reader.contents
-    first
-    (subst (λ f. HasRead (EncodesReader f) c.in-Ok-read_reader.contents c.read_u8.new.self c.read_reader.new.self) same c.in-Ok-read_reader.ensures.reads)
+pub returns-in_err-contents-clause-reads : goal.returns-in_err-contents-clause-reads
+returns-in_err-contents-clause-reads c =
+    let h = c.in_err-contents.ensures.reads in
+    let f = c.args.reader.now.features in
+    let same = ap (λ (r : Reader). r.features) (c.in_ok-id.ensures.2.moved) ∙ ap (λ (r : Reader). r.features) c.clone-ahead.ensures in
+    let mid = c.read_u8.new.self in
+    let second = subst (λ g. Fails (EncodesReader g) ReaderFault c.in_err-contents.field-0.0 mid) same (h.1, h.2) in
+    stays (EncodesSection f) SectionFault _ c.clone-ahead.ensures c.from_residual-in_err-contents.ensures.1
+    (both_second IsByte (EncodesReader f) EndFault (λ id. ReaderFault) (λ (s : SectionParts). (s.id, s.contents)) byte_prefix_code c.in_ok-id.ensures second)
 
-pub returns-in-Err-read_reader-clause-reads : goal.returns-in-Err-read_reader-clause-reads
-returns-in-Err-read_reader-clause-reads c =
-    let first = c.in-Ok.ensures in
-    let same = ap (λ r. r.features) first.2.moved in
-    both_second IsByte (EncodesReader c.args.reader.now.features) EndFault (λ id. ReaderFault) (λ (s : SectionParts). (s.id, s.contents)) byte_prefix_code
-    c.in-Err-read_reader.e c.args.reader.now c.read_u8.new.self c.read_reader.new.self c.rewind.new.self c.in-Ok.id c.current_position-start.result first
-    (subst (λ f. Reads (EncodesReader f) ReaderFault (Err c.in-Err-read_reader.e) c.read_u8.new.self c.read_reader.new.self) same c.in-Err-read_reader.ensures.reads)
-    c.current_position-start.ensures c.rewind.ensures
+pub returns-clause-reads : goal.returns-clause-reads
+returns-clause-reads c =
+    let f = c.args.reader.now.features in
+    let same = ap (λ (r : Reader). r.features) (c.in_ok-id.ensures.2.moved) ∙ ap (λ (r : Reader). r.features) c.clone-ahead.ensures in
+    let mid = c.read_u8.new.self in
+    let second = subst (λ g. HasRead (EncodesReader g) c.in_ok-contents.contents mid c.read_reader.new.self) same c.in_ok-contents.ensures.reads in
+    advances (EncodesSection f) {z = record { id = c.in_ok-id.id; contents = c.in_ok-contents.contents }} c.clone-ahead.ensures
+    (both_read IsByte (EncodesReader f) {y = c.in_ok-contents.contents} c.in_ok-id.ensures second)

@@ -1,18 +1,34 @@
-use Rattle.wasm_below.specs.Source.{EndFault, IsByte}
-use Rattle.wasm_module.specs.Imports.{IsBounds, BoundsFault}
+use Rattle.wasm_below.specs.Number.{EncodesUnsigned}
+use Rattle.wasm_below.specs.Source.{EndFault, IsByte, U64Fault}
+use Rattle.wasm_module.specs.Imports.{IsMost, MostFault, IsBounds, BoundsFault, IsLimits, LimitsFault}
 use Rattle.wasm_module.proofs.Parts.{byte_prefix_code}
-use Rattle.wasm_module.proofs.Sequences.{then_read, then_first, then_second}
+use Rattle.wasm_module.proofs.Sequences.{then_read, then_first, then_second, failed}
 use Rattle.wasm_module.proofs.skip.skip_limits.Goals as goal
 
-pub returns-in-Err : goal.returns-in-Err
-returns-in-Err c =
-    then_first IsByte IsBounds EndFault BoundsFault c.in-Err.e c.args.reader.now c.read_u8.new.self c.in-Err.ensures
+pub returns-in_err-flags : goal.returns-in_err-flags
+returns-in_err-flags c =
+    let h = c.in_err-flags.ensures in
+    failed IsLimits LimitsFault _ _ c.from_residual.ensures.1
+    (then_first IsByte IsBounds EndFault BoundsFault (h.1, h.2))
 
-pub returns-in-Ok-skip_bounds : goal.returns-in-Ok-skip_bounds
-returns-in-Ok-skip_bounds c = then_read IsByte IsBounds c.args.reader.now c.read_u8.new.self c.skip_bounds.new.reader c.in-Ok.flags tt c.in-Ok.ensures c.in-Ok-skip_bounds.ensures
+pub returns-in_err-read_var_u64 : goal.returns-in_err-read_var_u64
+returns-in_err-read_var_u64 c =
+    let h = c.in_err-read_var_u64.ensures in
+    let flags = c.in_ok-flags.flags in
+    failed IsLimits LimitsFault _ _ c.from_residual-in_err-read_var_u64.ensures.1
+    (then_second IsByte IsBounds EndFault BoundsFault byte_prefix_code c.in_ok-flags.ensures
+    (then_first (EncodesUnsigned 64) (λ least. IsMost flags) U64Fault (λ least. MostFault flags) (h.1, h.2)))
 
-pub returns-in-Err-skip_bounds : goal.returns-in-Err-skip_bounds
-returns-in-Err-skip_bounds c =
-    then_second IsByte IsBounds EndFault BoundsFault byte_prefix_code c.in-Err-skip_bounds.e c.args.reader.now c.read_u8.new.self c.skip_bounds.new.reader
-    c.rewind.new.self c.in-Ok.flags c.current_position-start.result c.in-Ok.ensures c.in-Err-skip_bounds.ensures
-    c.current_position-start.ensures c.rewind.ensures
+pub returns-in_err-skip_most : goal.returns-in_err-skip_most
+returns-in_err-skip_most c =
+    let h = c.in_err-skip_most.ensures in
+    let flags = c.in_ok-flags.flags in
+    failed IsLimits LimitsFault _ _ c.from_residual-in_err-skip_most.ensures.1
+    (then_second IsByte IsBounds EndFault BoundsFault byte_prefix_code c.in_ok-flags.ensures
+    (then_second (EncodesUnsigned 64) (λ least. IsMost flags) U64Fault (λ least. MostFault flags) (c.unsigned_numbers.ensures 64) c.in_ok-read_var_u64.ensures (h.1, h.2)))
+
+pub returns : goal.returns
+returns c =
+    let flags = c.in_ok-flags.flags in
+    then_read IsByte IsBounds {y = tt} c.in_ok-flags.ensures
+    (then_read (EncodesUnsigned 64) (λ least. IsMost flags) {y = tt} c.in_ok-read_var_u64.ensures c.in_ok-skip_most.ensures)

@@ -1,20 +1,22 @@
 use Rattle.wasm_below.specs.Source.{IsByte, EndFault}
-use Rattle.wasm_module.specs.Types.{EncodesSubAfterByte, SubFaultAfterByte}
+use Rattle.wasm_module.specs.Types.{EncodesSubAfterByte, SubFaultAfterByte, EncodesSubType, SubTypeFault}
 use Rattle.wasm_module.proofs.Parts.{byte_prefix_code}
-use Rattle.wasm_module.proofs.Sequences.{then_first, then_read, then_second}
+use Rattle.wasm_module.proofs.Sequences.{then_read, then_first, then_second, stays, advances}
 use Rattle.wasm_module.proofs.composite.CompositeType.read.Goals as goal
 
-pub returns-in-Err : goal.returns-in-Err
-returns-in-Err c =
-    then_first IsByte EncodesSubAfterByte EndFault SubFaultAfterByte c.in-Err.e c.args.reader.now c.read_u8.new.self c.in-Err.ensures
+pub returns-in_err-kind : goal.returns-in_err-kind
+returns-in_err-kind c =
+    let h = c.in_err-kind.ensures in
+    stays EncodesSubType SubTypeFault _ c.clone-ahead.ensures c.from_residual.ensures.1
+    (then_first IsByte EncodesSubAfterByte EndFault SubFaultAfterByte (h.1, h.2))
 
-pub returns-in-Ok-read_sub_after_byte : goal.returns-in-Ok-read_sub_after_byte
-returns-in-Ok-read_sub_after_byte c =
-    then_read IsByte EncodesSubAfterByte c.args.reader.now c.read_u8.new.self c.read_sub_after_byte.new.reader c.in-Ok.kind c.in-Ok-read_sub_after_byte.ty c.in-Ok.ensures
-    c.in-Ok-read_sub_after_byte.ensures
+pub returns-in_err-ty : goal.returns-in_err-ty
+returns-in_err-ty c =
+    stays EncodesSubType SubTypeFault _ c.clone-ahead.ensures c.from_residual-in_err-ty.ensures.1
+    (then_second IsByte EncodesSubAfterByte EndFault SubFaultAfterByte byte_prefix_code c.in_ok-kind.ensures
+    c.in_err-ty.ensures)
 
-pub returns-in-Err-read_sub_after_byte : goal.returns-in-Err-read_sub_after_byte
-returns-in-Err-read_sub_after_byte c =
-    then_second IsByte EncodesSubAfterByte EndFault SubFaultAfterByte byte_prefix_code c.in-Err-read_sub_after_byte.e c.args.reader.now c.read_u8.new.self
-    c.read_sub_after_byte.new.reader c.rewind.new.self c.in-Ok.kind c.current_position-start.result c.in-Ok.ensures
-    c.in-Err-read_sub_after_byte.ensures c.current_position-start.ensures c.rewind.ensures
+pub returns : goal.returns
+returns c =
+    advances EncodesSubType c.clone-ahead.ensures
+    (then_read IsByte EncodesSubAfterByte c.in_ok-kind.ensures c.in_ok-ty.ensures)

@@ -1,22 +1,34 @@
-use Rattle.wasm_module.specs.Exports.{EncodesExternIndex, ExternIndexFault, ExportParts}
+use Rattle.std.proofs.Common.{ℕ}
+use Rattle.wasm_below.specs.Number.{EncodesUnsigned}
+use Rattle.wasm_below.specs.Source.{IsByte, EndFault, U32Fault}
+use Rattle.wasm_module.specs.Exports.{EncodesExternIndex, ExternIndexFault, ExportParts, EncodesExport, ExportFault}
 use Rattle.wasm_module.specs.Names.{EncodesName, NameFault}
 use Rattle.wasm_module.proofs.Named.{name_code}
-use Rattle.wasm_module.proofs.Sequences.{both_first, both_read, both_second}
+use Rattle.wasm_module.proofs.Parts.{byte_prefix_code}
+use Rattle.wasm_module.proofs.Sequences.{both_read, both_first, both_second, stays, advances}
 use Rattle.wasm_module.proofs.export.Export.read.Goals as goal
 
-pub returns-in-Err : goal.returns-in-Err
-returns-in-Err c =
-    both_first EncodesName EncodesExternIndex NameFault (λ name. ExternIndexFault) (λ (e : ExportParts). (e.name, (e.kind, e.index))) c.in-Err.e
-    c.args.reader.now c.read.new.reader c.in-Err.ensures
+pub returns-in_err-name : goal.returns-in_err-name
+returns-in_err-name c =
+    let h = c.in_err-name.ensures in
+    stays EncodesExport ExportFault _ c.clone-ahead.ensures c.from_residual.ensures.1
+    (both_first EncodesName EncodesExternIndex NameFault (λ name. ExternIndexFault) (λ (e : ExportParts). (e.name, (e.kind, e.index))) (h.1, h.2))
 
-pub returns-in-Ok-read_extern_index : goal.returns-in-Ok-read_extern_index
-returns-in-Ok-read_extern_index c =
-    both_read EncodesName EncodesExternIndex c.args.reader.now c.read.new.reader c.read_extern_index.new.reader c.in-Ok.name
-    (c.in-Ok-read_extern_index.kind, c.in-Ok-read_extern_index.index) c.in-Ok.ensures c.in-Ok-read_extern_index.ensures
+pub returns-in_err-kind : goal.returns-in_err-kind
+returns-in_err-kind c =
+    let h = c.in_err-kind.ensures in
+    stays EncodesExport ExportFault _ c.clone-ahead.ensures c.from_residual-in_err-kind.ensures.1
+    (both_second EncodesName EncodesExternIndex NameFault (λ name. ExternIndexFault) (λ (e : ExportParts). (e.name, (e.kind, e.index))) (name_code (c.unsigned_numbers.ensures 32)) c.in_ok-name.ensures
+    (both_first IsByte (EncodesUnsigned 32) EndFault (λ kind. U32Fault) (λ (p : ℕ × ℕ). p) (h.1, h.2)))
 
-pub returns-in-Err-read_extern_index : goal.returns-in-Err-read_extern_index
-returns-in-Err-read_extern_index c =
-    both_second EncodesName EncodesExternIndex NameFault (λ name. ExternIndexFault) (λ (e : ExportParts). (e.name, (e.kind, e.index)))
-    (name_code (c.unsigned_numbers.ensures 32)) c.in-Err-read_extern_index.e c.args.reader.now c.read.new.reader c.read_extern_index.new.reader
-    c.rewind.new.self c.in-Ok.name c.current_position-start.result c.in-Ok.ensures c.in-Err-read_extern_index.ensures
-    c.current_position-start.ensures c.rewind.ensures
+pub returns-in_err-index : goal.returns-in_err-index
+returns-in_err-index c =
+    let h = c.in_err-index.ensures in
+    stays EncodesExport ExportFault _ c.clone-ahead.ensures c.from_residual-in_err-index.ensures.1
+    (both_second EncodesName EncodesExternIndex NameFault (λ name. ExternIndexFault) (λ (e : ExportParts). (e.name, (e.kind, e.index))) (name_code (c.unsigned_numbers.ensures 32)) c.in_ok-name.ensures
+    (both_second IsByte (EncodesUnsigned 32) EndFault (λ kind. U32Fault) (λ (p : ℕ × ℕ). p) byte_prefix_code c.in_ok-kind.ensures (h.1, h.2)))
+
+pub returns : goal.returns
+returns c =
+    advances EncodesExport c.clone-ahead.ensures
+    (both_read EncodesName EncodesExternIndex c.in_ok-name.ensures (both_read IsByte (EncodesUnsigned 32) c.in_ok-kind.ensures c.in_ok-index.ensures))

@@ -1,21 +1,23 @@
 use Rattle.wasm_below.specs.Number.{EncodesUnsigned}
 use Rattle.wasm_below.specs.Source.{U32Fault}
-use Rattle.wasm_module.specs.Names.{EncodesName, NameFault, NameParts}
-use Rattle.wasm_module.proofs.Sequences.{both_first, both_read, both_second}
+use Rattle.wasm_module.specs.Names.{EncodesName, NameFault, NameParts, EncodesNameAssociation, NameAssociationFault}
+use Rattle.wasm_module.proofs.Sequences.{both_read, both_first, both_second, stays, advances}
 use Rattle.wasm_module.proofs.name.NameAssociation.read.Goals as goal
 
-pub returns-in-Err : goal.returns-in-Err
-returns-in-Err c =
-    both_first (EncodesUnsigned 32) EncodesName U32Fault (λ index. NameFault) (λ (a : NameParts). (a.index, a.name)) c.in-Err.e c.args.reader.now
-    c.read_var_u32.new.self c.in-Err.ensures
+pub returns-in_err-index : goal.returns-in_err-index
+returns-in_err-index c =
+    let h = c.in_err-index.ensures in
+    stays EncodesNameAssociation NameAssociationFault _ c.clone-ahead.ensures c.from_residual.ensures.1
+    (both_first (EncodesUnsigned 32) EncodesName U32Fault (λ index. NameFault) (λ (a : NameParts). (a.index, a.name)) (h.1, h.2))
 
-pub returns-in-Ok-read : goal.returns-in-Ok-read
-returns-in-Ok-read c =
-    both_read (EncodesUnsigned 32) EncodesName c.args.reader.now c.read_var_u32.new.self c.read.new.reader c.in-Ok.index c.in-Ok-read.name
-    c.in-Ok.ensures c.in-Ok-read.ensures
+pub returns-in_err-name : goal.returns-in_err-name
+returns-in_err-name c =
+    let h = c.in_err-name.ensures in
+    stays EncodesNameAssociation NameAssociationFault _ c.clone-ahead.ensures c.from_residual-in_err-name.ensures.1
+    (both_second (EncodesUnsigned 32) EncodesName U32Fault (λ index. NameFault) (λ (a : NameParts). (a.index, a.name)) (c.unsigned_numbers.ensures 32) c.in_ok-index.ensures
+    (h.1, h.2))
 
-pub returns-in-Err-read : goal.returns-in-Err-read
-returns-in-Err-read c =
-    both_second (EncodesUnsigned 32) EncodesName U32Fault (λ index. NameFault) (λ (a : NameParts). (a.index, a.name)) (c.unsigned_numbers.ensures 32)
-    c.in-Err-read.e c.args.reader.now c.read_var_u32.new.self c.read.new.reader c.rewind.new.self c.in-Ok.index c.current_position-start.result
-    c.in-Ok.ensures c.in-Err-read.ensures c.current_position-start.ensures c.rewind.ensures
+pub returns : goal.returns
+returns c =
+    advances EncodesNameAssociation c.clone-ahead.ensures
+    (both_read (EncodesUnsigned 32) EncodesName c.in_ok-index.ensures c.in_ok-name.ensures)
