@@ -1,4 +1,7 @@
 //! The parts of a module: preamble, sections, types, imports, exports, custom sections and names.
+//!
+//! A call of several parts reads them by a copy of the reader, and stores it back at the end. So on
+//! `Err` the reader is unchanged.
 #![tactic(auto)]
 
 mod composite;
