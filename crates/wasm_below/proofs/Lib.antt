@@ -1,3 +1,4 @@
+pub use Rattle.wasm_below_bytes.proofs.Ahead
 pub use Rattle.wasm_below_bytes.proofs.Blocks
 pub use Rattle.wasm_below_bytes.proofs.DeterminedRefusals
 pub use Rattle.wasm_below_bytes.proofs.Faults

@@ -1,3 +1,4 @@
+pub use Rattle.wasm_below_bytes.specs.Ahead
 pub use Rattle.wasm_below_bytes.specs.Fault
 pub use Rattle.wasm_below_bytes.specs.Features
 pub use Rattle.wasm_below_bytes.specs.FromReader

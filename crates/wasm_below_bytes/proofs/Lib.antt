@@ -1,3 +1,4 @@
+pub mod Ahead
 pub mod Blocks
 pub mod DeterminedRefusals
 pub mod Faults

@@ -1,3 +1,4 @@
+pub mod Ahead
 pub mod Fault
 pub mod Features
 pub mod FromReader

@@ -81,16 +81,12 @@ impl<'a> BinaryReader<'a> {
         ensures reads { Reads (EncodesReader self.old.features) ReaderFault result self.old self.new }
         ensures placed { IfOk result (λ r. end_of r ≡ offset_of self.new) }
     {
-        let start = self.current_position();
-        let size = self.read_var_u32()? as usize;
-        let offset = self.original_position();
-        match self.read_bytes(size) {
-            Ok(bytes) => Ok(self.part(bytes, offset)),
-            Err(e) => {
-                self.rewind(start);
-                Err(e)
-            }
-        }
+        let mut ahead = self.clone();
+        let size = ahead.read_var_u32()? as usize;
+        let offset = ahead.original_position();
+        let bytes = ahead.read_bytes(size)?;
+        *self = ahead;
+        Ok(self.part(bytes, offset))
     }
 
     /// Reads a count like `read_size`, and returns an iterator over that many items.

@@ -4,7 +4,7 @@ ghost use Rattle.wasm_below_bytes.specs.Source.{Reads, BeginsWith, rest};
 ghost use Rattle.wasm_below.specs.TypeEncoding.{heap_type_byte, ref_byte, LeadsShort, LeadsRefType, LedBy, EncodesShort, EncodesConcrete, EncodesExact, EncodesHeapType, EncodesShortRef, EncodesLongRef, EncodesRefType, EncodesNumberType, EncodesValType, ShortFault, ByteFault, ExactFault, ConcreteFault, HeapTypeFault, RefTypeFault, ValTypeFault};
 
 use super::{AbstractHeapType, HeapType, MAX_TYPE_INDEX, RefType, ValType};
-use wasm_below_bytes::{BinaryReader, Message, Result, TypeName};
+use wasm_below_bytes::{BinaryReader, Error, Message, Result, TypeName};
 
 const SHARED: u8 = 0x65;
 
@@ -62,23 +62,24 @@ impl HeapType {
     fn read_short(reader: &mut BinaryReader<'_>, name: TypeName) -> Result<HeapType>
         ensures { Reads EncodesShort (ShortFault name) result reader.old reader.new }
     {
-        let start = reader.current_position();
-        let byte = reader.read_u8()?;
+        let mut ahead = reader.clone();
+        let byte = ahead.read_u8()?;
         if byte != SHARED {
             return match AbstractHeapType::from_byte(byte) {
-                Some(ty) => Ok(HeapType::Abstract { shared: false, ty }),
-                None => Err(reader.refuse(start, Message::InvalidType(name))),
+                Some(ty) => {
+                    *reader = ahead;
+                    Ok(HeapType::Abstract { shared: false, ty })
+                }
+                None => Err(Error::new(Message::InvalidType(name), reader.original_position())),
             };
         }
-        match reader.read_u8() {
-            Ok(code) => match AbstractHeapType::from_byte(code) {
-                Some(ty) => Ok(HeapType::Abstract { shared: true, ty }),
-                None => Err(reader.refuse(start, Message::InvalidType(name))),
-            },
-            Err(e) => {
-                reader.rewind(start);
-                Err(e)
+        let code = ahead.read_u8()?;
+        match AbstractHeapType::from_byte(code) {
+            Some(ty) => {
+                *reader = ahead;
+                Ok(HeapType::Abstract { shared: true, ty })
             }
+            None => Err(Error::new(Message::InvalidType(name), reader.original_position())),
         }
     }
 
@@ -97,20 +98,17 @@ impl HeapType {
         requires { BeginsWith 0x62 (rest reader.old) }
         ensures { Reads EncodesExact ExactFault result reader.old reader.new }
     {
-        let start = reader.current_position();
-        reader.advance();
-        match reader.read_var_u32() {
-            Ok(index) => {
-                if index > MAX_TYPE_INDEX {
-                    return Err(reader.refuse(start, Message::InvalidType(TypeName::HeapType)));
-                }
-                Ok(HeapType::Exact(index))
-            }
-            Err(e) => {
-                reader.rewind(start);
-                Err(e)
-            }
+        let mut ahead = reader.clone();
+        ahead.advance();
+        let index = ahead.read_var_u32()?;
+        if index > MAX_TYPE_INDEX {
+            return Err(Error::new(
+                Message::InvalidType(TypeName::HeapType),
+                reader.original_position(),
+            ));
         }
+        *reader = ahead;
+        Ok(HeapType::Exact(index))
     }
 }
 
@@ -145,15 +143,11 @@ impl RefType {
         requires { BeginsWith (ref_byte nullable) (rest reader.old) }
         ensures { Reads EncodesLongRef RefTypeFault result reader.old reader.new }
     {
-        let start = reader.current_position();
-        reader.advance();
-        match HeapType::read(reader) {
-            Ok(heap_type) => Ok(RefType::of(nullable, heap_type)),
-            Err(e) => {
-                reader.rewind(start);
-                Err(e)
-            }
-        }
+        let mut ahead = reader.clone();
+        ahead.advance();
+        let heap_type = HeapType::read(&mut ahead)?;
+        *reader = ahead;
+        Ok(RefType::of(nullable, heap_type))
     }
 }
 

@@ -1,6 +1,5 @@
 use Rattle.std.proofs.Common.{◌≡◌, ◌≤◌, length, subst, ap}
 use Rattle.std.proofs.lemmas.Result.{err_from_is_err_and}
-use Rattle.wasm_below_bytes.specs.Number.{EncodesUnsigned}
 use Rattle.wasm_below_bytes.specs.Source.{Reader}
 use Rattle.wasm_below_bytes.proofs.Blocks.{size_refused, count_refused}
 use Rattle.wasm_below_bytes.proofs.binary_reader.BinaryReader.read_size.Goals as goal
