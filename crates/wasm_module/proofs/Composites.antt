@@ -5,7 +5,7 @@ use Rattle.wasm_below.specs.Number.{EncodesUnsigned}
 use Rattle.wasm_below.specs.Sequence.{PrefixCode}
 use Rattle.wasm_below.specs.Source.{Reader, rest, BeginsWith, IsByte, EndFault, U32Fault, HasRead}
 use Rattle.wasm_below.specs.TypeEncoding.{EncodesValType, ValTypeFault}
-use Rattle.wasm_module.specs.Ahead.{Fails, ReadsAhead}
+use Rattle.wasm_below.specs.Ahead.{Fails, ReadsAhead}
 use Rattle.wasm_module.specs.Types.{EncodesValueTypes, ValueTypesFault, EncodesSignature, SignatureFault, IsField, FieldFault, EncodesFields, FieldsFault, EncodesAfterByte, FaultAfterByte, EncodesComposite, CompositeFault, NamesSupertypes, EncodesIndices, IndicesFault, EncodesWithSupertypes, WithSupertypesFault, EncodesSubAfterByte, SubFaultAfterByte, EncodesSubType, SubTypeFault, EncodesRecTypeLength, RecTypeLengthFault}
 use Rattle.wasm_module.specs.declared.composite.CompositeType.{CompositeType}
 use Rattle.wasm_module.specs.declared.composite.CompositeType.TheVariants as composite

@@ -6,7 +6,7 @@ use Rattle.wasm_below.specs.Fault.{ManyFault, DeterminesRefusal}
 use Rattle.wasm_below.specs.Number.{EncodesUnsigned}
 use Rattle.wasm_below.specs.Sequence.{PrefixCode}
 use Rattle.wasm_below.specs.Source.{Reader, at_position, Takes, IsRefusal, HasRead, U32Fault}
-use Rattle.wasm_module.specs.Ahead.{Fails}
+use Rattle.wasm_below.specs.Ahead.{Fails}
 use Rattle.wasm_module.specs.Types.{IsMany, EncodesCounted, EncodesLength, LengthFault}
 use Rattle.wasm_module.proofs.Parts.{refused_now, then_determines}
 use Rattle.wasm_module.proofs.Sequences.{then_read, then_none, then_refused, then_code, refused_as}

@@ -4,7 +4,7 @@ use Rattle.wasm_below.specs.Fault.{DeterminesRefusal}
 use Rattle.wasm_below.specs.Number.{EncodesUnsigned}
 use Rattle.wasm_below.specs.Sequence.{PrefixCode}
 use Rattle.wasm_below.specs.Source.{Reader, IsByte, IsBlock, EndFault, EndsWithin, U32Fault}
-use Rattle.wasm_module.specs.Ahead.{Fails}
+use Rattle.wasm_below.specs.Ahead.{Fails}
 use Rattle.wasm_module.specs.Exports.{ExportParts, EncodesExternIndex, ExternIndexFault, EncodesExport, ExportFault}
 use Rattle.wasm_module.specs.Names.{IsBytes, EncodesName, NameFault, NameParts, EncodesNameAssociation, NameAssociationFault}
 use Rattle.wasm_module.proofs.Parts.{then_determines, byte_prefix_code, short_determines, end_determines}

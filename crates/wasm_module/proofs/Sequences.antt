@@ -7,7 +7,7 @@ use Rattle.wasm_below.specs.bytes.message.Message.{Message}
 use Rattle.wasm_below.specs.Fault.{ThenFault}
 use Rattle.wasm_below.specs.Sequence.{Then, PrefixCode}
 use Rattle.wasm_below.specs.Source.{Reader, rest, end_of, IsRefusal, HasRead, Reads}
-use Rattle.wasm_module.specs.Ahead.{Fails, ReadsAhead}
+use Rattle.wasm_below.specs.Ahead.{Fails, ReadsAhead}
 use Rattle.wasm_module.specs.Both.{Both}
 use Rattle.wasm_module.specs.Imports.{SomeOf}
 use Rattle.wasm_module.proofs.Parts.{takes_both, refused_now}

@@ -1,4 +1,3 @@
-pub mod Ahead
 pub mod Both
 pub mod Exports
 pub mod Imports

@@ -1,6 +1,6 @@
 ghost use Rattle.std.specs.Prelude.{◌≡◌, ◌↔◌, IsTrue, Ok, IfErr};
 ghost use Rattle.wasm_below.specs.Source.{Reads, BeginsWith, rest};
-ghost use Rattle.wasm_module.specs.Ahead.{ReadsAhead};
+ghost use Rattle.wasm_below.specs.Ahead.{ReadsAhead};
 ghost use Rattle.wasm_module.specs.Types.{EncodesSignature, SignatureFault, EncodesAfterByte, FaultAfterByte, EncodesWithSupertypes, WithSupertypesFault, EncodesSubAfterByte, SubFaultAfterByte, EncodesSubType, SubTypeFault, EncodesRecTypeLength, RecTypeLengthFault};
 
 use crate::field::Field;

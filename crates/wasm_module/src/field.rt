@@ -2,7 +2,7 @@ ghost use Rattle.std.specs.Prelude.{◌↔◌, IsTrue};
 ghost use Rattle.wasm_below.specs.Sequence.{PrefixCode};
 ghost use Rattle.wasm_below.specs.Source.{Reads, rest};
 ghost use Rattle.wasm_below.specs.TypeEncoding.{LedBy, ValTypeFault};
-ghost use Rattle.wasm_module.specs.Ahead.{ReadsAhead};
+ghost use Rattle.wasm_below.specs.Ahead.{ReadsAhead};
 ghost use Rattle.wasm_module.specs.Types.{IsPackedByte, IsStorage, IsField, FieldFault};
 
 use crate::list::Item;

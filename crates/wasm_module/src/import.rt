@@ -4,7 +4,7 @@ ghost use Rattle.wasm_below.specs.Fault.{DeterminesRefusal};
 ghost use Rattle.wasm_below.specs.FromReader.{ReadsValue};
 ghost use Rattle.wasm_below.specs.Sequence.{PrefixCode};
 ghost use Rattle.wasm_below.specs.Source.{Reads};
-ghost use Rattle.wasm_module.specs.Ahead.{ReadsAhead};
+ghost use Rattle.wasm_below.specs.Ahead.{ReadsAhead};
 ghost use Rattle.wasm_module.specs.Imports.{IsExternTypeAfterByte, ExternTypeFaultAfterByte, EncodesExternType, ExternTypeFault, EncodesImport, ImportFault};
 
 use crate::module_laws::imports;

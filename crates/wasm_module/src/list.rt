@@ -5,7 +5,7 @@ ghost use Rattle.wasm_below.specs.Number.{EncodesUnsigned};
 ghost use Rattle.wasm_below.specs.Sequence.{PrefixCode};
 ghost use Rattle.wasm_below.specs.Source.{Reader, U32Fault};
 ghost use Rattle.wasm_below.specs.TypeEncoding.{EncodesValType, ValTypeFault};
-ghost use Rattle.wasm_module.specs.Ahead.{ReadsAhead};
+ghost use Rattle.wasm_below.specs.Ahead.{ReadsAhead};
 ghost use Rattle.wasm_module.specs.Types.{EncodesLength, LengthFault};
 
 use wasm_below::byte_laws::unsigned_numbers;

@@ -2,7 +2,7 @@
 //!
 //! If one of these calls fails, the reader may have moved.
 ghost use Rattle.wasm_below.specs.Source.{Reads};
-ghost use Rattle.wasm_module.specs.Ahead.{ReadsAhead};
+ghost use Rattle.wasm_below.specs.Ahead.{ReadsAhead};
 ghost use Rattle.wasm_module.specs.Imports.{IsMost, MostFault, IsLimits, LimitsFault, IsTable, TableFault, IsGlobal, GlobalFault, IsTag, TagFault};
 
 use wasm_below::byte_laws::unsigned_numbers;

@@ -1,7 +1,7 @@
 use Rattle.std.proofs.Common.{ap, subst, ◌∙◌}
 use Rattle.wasm_below.specs.FromReader.{EncodesReader, ReaderFault}
 use Rattle.wasm_below.specs.Source.{Reader, IsByte, EndFault, HasRead}
-use Rattle.wasm_module.specs.Ahead.{Fails}
+use Rattle.wasm_below.specs.Ahead.{Fails}
 use Rattle.wasm_module.specs.Module.{SectionParts, EncodesSection, SectionFault}
 use Rattle.wasm_module.proofs.Parts.{byte_prefix_code}
 use Rattle.wasm_module.proofs.Sequences.{both_read, both_first, both_second, stays, advances}
