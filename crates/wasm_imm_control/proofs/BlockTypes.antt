@@ -1,25 +1,25 @@
-use Rattle.std.proofs.Common.{◌≡◌, ℕ, ◌+◌, ◌-◌, ◌≤◌, List, [], ◌∷◌, ◌++◌, length, Err, inl, inr, ℤ, pos, refl, sym, subst, ap, ◌∙◌, append_assoc, length-append, length-drop, arith, negsuc, Fits, w32, false, ◌<◌}
+use Rattle.std.proofs.Common.{◌≡◌, ℕ, ◌+◌, ◌-◌, ◌≤◌, List, [], ◌∷◌, ◌++◌, length, inl, inr, ℤ, pos, refl, sym, subst, ap, ◌∙◌, append_assoc, length-append, length-drop, arith, negsuc, Fits, w32, false, ◌<◌}
 use Rattle.std.proofs.lemmas.Bool.{lt-ltb}
 use Rattle.std.proofs.lemmas.Int.{ints}
 use Rattle.std.proofs.Math.Dec.{T}
 use lib.Signed.{non_neg, lt_z}
 use lib.IntN.{nat_abs}
+use Rattle.wasm_below.specs.Ahead.{Fails}
 use Rattle.wasm_below.specs.bytes.error.Error.{Error}
 use Rattle.wasm_below.specs.declared.types.ValType.{ValType}
 use Rattle.wasm_below.specs.declared.types.ValType.TheVariants as value
 use Rattle.wasm_below.specs.Number.{EncodesSigned, FitsWidth, with_sign}
 use Rattle.wasm_below.specs.Refusal.{IsReadFault}
 use Rattle.wasm_below.specs.Sequence.{PrefixCode}
-use Rattle.wasm_below.specs.Source.{Reader, rest, offset_of, at_position, NoPrefix, HasRead, Reads, S33Fault}
+use Rattle.wasm_below.specs.Source.{Reader, rest, offset_of, NoPrefix, HasRead, S33Fault}
 use Rattle.wasm_below.specs.TypeEncoding.{EncodesValType}
 use Rattle.wasm_below.proofs.PrefixCode.{signed_prefix_code, signed_some}
-use Rattle.wasm_below.proofs.TakesLemmas.{back}
 use Rattle.wasm_below.proofs.TypeEncodings.{index_leads, ref_leads, value_empty}
 use Rattle.wasm_below.proofs.TypePrefixCodes.{value_prefix_code}
 use Rattle.wasm_imm_control.specs.declared.block_type.BlockType.{BlockType}
 use Rattle.wasm_imm_control.specs.declared.block_type.BlockType.TheVariants as block
 use Rattle.wasm_below.proofs.Blocks.{refused_now}
-use Rattle.wasm_below.proofs.Steps.{missing_as}
+use Rattle.wasm_below.proofs.Ahead.{fails_as}
 use Rattle.wasm_imm_control.specs.BlockTypes.{EncodesBlockType, EncodesFunctionType}
 use Rattle.wasm_imm_control.specs.BlockTypeFaults.{NegativeFault, FunctionTypeFault}
 
@@ -61,16 +61,14 @@ no_function text after more n p over t2 more2 (block.Value v) q e = q
 no_function text after more n p over t2 more2 (block.FuncType i) q e =
     over i (signed_prefix_code text t2 33 (after ++ more) more2 n (pos i) p q (sym (append_assoc text after more) ∙ e)).1
 
-pub negative_refused : (e : Error) (old mid new : Reader) (n : ℤ) (position : ℕ) → HasRead (EncodesSigned 33) n old mid → ((i : ℕ) → n ≡ pos i → ⊥) →
-    position ≡ old.position → new ≡ at_position mid position → e.offset ≡ offset_of mid → NegativeFault n e.message mid e.offset →
-    Reads EncodesFunctionType FunctionTypeFault (Err e) old new
-negative_refused e old mid new n position (text, p, t) over at went offset fault =
+pub negative_fails : (old mid : Reader) (n : ℤ) → HasRead (EncodesSigned 33) n old mid → ((i : ℕ) → n ≡ pos i → ⊥) → {e : Error} → e.offset ≡ offset_of mid →
+    NegativeFault n e.message mid e.offset → Fails EncodesFunctionType FunctionTypeFault e old
+negative_fails old mid n (text, p, t) over {e} offset fault =
     let some = signed_some text 33 n p in
     let left : length old.buffer - old.position ≡ length text + length (rest mid) = sym (length-drop old.position old.buffer) ∙ ap length t.parts ∙
     length-append text (rest mid) in
     let starts : mid.start ≡ old.start = ap (λ (r : Reader). r.start) t.moved in
     let position_is : mid.position ≡ old.position + length text = ap (λ (r : Reader). r.position) t.moved in (
-      back old mid new text position t at went,
       record {
         refuses = λ more _. subst (λ z. NoPrefix EncodesFunctionType (z ++ more)) (sym t.parts) (no_function text (rest mid) more n p over);
         fault = subst IsReadFault (sym fault.1) tt;
@@ -84,11 +82,9 @@ function_number text block.Empty p = absurd p
 function_number text (block.Value v) p = absurd p
 function_number text (block.FuncType i) p = (pos i, p)
 
-pub index_missing : (e : Error) (old new : Reader) → Reads (EncodesSigned 33) S33Fault (Err e) old new →
-    Reads EncodesFunctionType FunctionTypeFault (Err e) old new
-index_missing e old new h =
-    missing_as (EncodesSigned 33) EncodesFunctionType S33Fault FunctionTypeFault e old new function_number
-    (λ m offset f. inl (refused_now (EncodesSigned 33) e old h.1, f)) h
+pub index_fails : {e : Error} {old : Reader} → Fails (EncodesSigned 33) S33Fault e old → Fails EncodesFunctionType FunctionTypeFault e old
+index_fails {e} {old} h =
+    fails_as (EncodesSigned 33) EncodesFunctionType S33Fault FunctionTypeFault function_number (λ f. inl (refused_now (EncodesSigned 33) e old h.0, f)) h
 
 pub block_prefix_code : PrefixCode EncodesBlockType
 block_prefix_code [] b x y m n p q e = absurd (block_empty m p)

@@ -1,12 +1,13 @@
 use Rattle.std.proofs.Common.{◌≡◌, ℕ, suc, ◌+◌, ◌-◌, ◌*◌, ◌<◌, ◌≤◌, List, [], ◌∷◌, ◌++◌, length, inl, inr, refl, sym, subst, ap, ◌∙◌, append_assoc, arith, true}
 use Rattle.std.specs.Prelude.{map, take, Result, Ok, Err, nat_eq}
 use Rattle.std.proofs.Math.Seq.{take-append_seam}
+use Rattle.wasm_below.specs.Ahead.{Fails}
 use Rattle.wasm_below.specs.bytes.error.Error.{Error}
 use Rattle.wasm_below.specs.Number.{EncodesUnsigned, EncodesSize}
-use Rattle.wasm_below.specs.Source.{Reader, rest, at_position, Takes, IsRefusal, HasRead, Reads, U32Fault, CountFault}
+use Rattle.wasm_below.specs.Source.{Reader, rest, Takes, HasRead, Reads, U32Fault, CountFault}
 use Rattle.wasm_below.specs.Sequence.{Then, PrefixCode}
 use Rattle.wasm_below.proofs.PrefixCode.{unsigned_prefix_code, size_prefix_code}
-use Rattle.wasm_below.proofs.TakesLemmas.{takes_then, same_rest, back}
+use Rattle.wasm_below.proofs.TakesLemmas.{takes_then, same_rest}
 use Rattle.wasm_below.proofs.Blocks.{refused_now}
 use Rattle.wasm_below.proofs.Sequences.{then_first, then_second, refuses_by}
 use Rattle.wasm_below.specs.bytes.message.SizeName.TheVariants as size_name
@@ -80,20 +81,16 @@ Chain = Then (EncodesSize max_targets) after_count
 to_chain : (text : List ℕ) (t : BranchTable) → EncodesBranchTable text t → Chain text t
 to_chain text t (count, default, e, pc, pt, pd) = (count, t.targets ++ default, t.count, e, pc, (t.targets, default, length t.targets, refl, (refl, pt), pd))
 
-pub count_missing : (e : Error) (old new : Reader) → Reads (EncodesSize max_targets) (CountFault size_name.BrTable max_targets) (Err e) old new →
-    Reads EncodesBranchTable BranchTableFault (Err e) old new
-count_missing e old new (same, h, f) = (
-  same,
+pub count_fails : {e : Error} {old : Reader} → Fails (EncodesSize max_targets) (CountFault size_name.BrTable max_targets) e old →
+    Fails EncodesBranchTable BranchTableFault e old
+count_fails {e} {old} (h, f) = (
   refuses_by Chain EncodesBranchTable e old (λ text t s. (t, to_chain text t s)) (then_first (EncodesSize max_targets) after_count e old h),
   inl (refused_now (EncodesSize max_targets) e old h, f),
 )
 
 module _ (old mid : Reader) (count : ℕ) (counted : HasRead (EncodesSize max_targets) count old mid) where
-  chain_refused : (e : Error) (now new : Reader) (text : List ℕ) (position : ℕ) → Takes old now text → position ≡ old.position →
-      new ≡ at_position now position → IsRefusal (after_count count) e mid → ManyFault (EncodesUnsigned 32) U32Fault (suc count) e.message mid e.offset →
-      Reads EncodesBranchTable BranchTableFault (Err e) old new
-  chain_refused e now new text position t at went h fault = (
-    back old now new text position t at went,
+  chain_fails : {e : Error} → Fails (after_count count) (ManyFault (EncodesUnsigned 32) U32Fault (suc count)) e mid → Fails EncodesBranchTable BranchTableFault e old
+  chain_fails {e} (h, fault) = (
     refuses_by Chain EncodesBranchTable e old (λ text t s. (
       t,
       to_chain text t s,
@@ -101,25 +98,22 @@ module _ (old mid : Reader) (count : ℕ) (counted : HasRead (EncodesSize max_ta
     inr (count, mid, counted, fault),
   )
 
-  pub targets_refused : (e : Error) (mid2 new : Reader) (position : ℕ) →
-      Reads (EncodesTargets count) (ManyFault (EncodesUnsigned 32) U32Fault count) (Err e) mid mid2 → position ≡ old.position →
-      new ≡ at_position mid2 position → Reads EncodesBranchTable BranchTableFault (Err e) old new
-  targets_refused e mid2 new position (same, h, f) at went =
-      chain_refused e mid new counted.0 position counted.2 at (went ∙ ap (λ (r : Reader). at_position r position) same)
-      (then_first (EncodesTargets count) (default_of count) e mid h) (many_wider (EncodesUnsigned 32) U32Fault count e.message mid e.offset f)
+  pub targets_fail : {e : Error} → Fails (EncodesTargets count) (ManyFault (EncodesUnsigned 32) U32Fault count) e mid →
+      Fails EncodesBranchTable BranchTableFault e old
+  targets_fail {e} (h, f) =
+      chain_fails (then_first (EncodesTargets count) (default_of count) e mid h, many_wider (EncodesUnsigned 32) U32Fault count e.message mid e.offset f)
 
-  pub default_refused : (e : Error) (now now2 new : Reader) (size position : ℕ) → HasRead (EncodesTargets count) size mid now →
-      Reads (EncodesUnsigned 32) U32Fault (Err e) now now2 → position ≡ old.position → new ≡ at_position now2 position →
-      Reads EncodesBranchTable BranchTableFault (Err e) old new
-  default_refused e now now2 new size position rt (same, h, f) at went =
+  pub default_fails : (now : Reader) (size : ℕ) → HasRead (EncodesTargets count) size mid now → {e : Error} → Fails (EncodesUnsigned 32) U32Fault e now →
+      Fails EncodesBranchTable BranchTableFault e old
+  default_fails now size rt {e} (h, f) =
       let third = refuses_by (EncodesUnsigned 32) (default_of count size) e now (λ text t s. (t.default, s)) h in
       let numbers = rt.1.1 in
       let few : length numbers.0 < suc count = omega (arith, numbers.1.0) in
-      chain_refused e now new (counted.0 ++ rt.0) position (takes_then old mid now counted.0 rt.0 counted.2 rt.2) at (went ∙
-      ap (λ (r : Reader). at_position r position) same)
-      (then_second (EncodesTargets count) (default_of count) e mid now size (targets_prefix_code count) rt third)
-      (many_fault (EncodesUnsigned 32) U32Fault (suc count) numbers.0 rt.0 mid now e.message e.offset few numbers.1.1 rt.2
-      (refused_now (EncodesUnsigned 32) e now h) f)
+      chain_fails (
+        then_second (EncodesTargets count) (default_of count) e mid now size (targets_prefix_code count) rt third,
+        many_fault (EncodesUnsigned 32) U32Fault (suc count) numbers.0 rt.0 mid now e.message e.offset few numbers.1.1 rt.2
+            (refused_now (EncodesUnsigned 32) e now h) f,
+      )
 
   pub targets_taken : (now : Reader) (size : ℕ) (bytes : List ℕ) → bytes ≡ rest mid → (rt : HasRead (EncodesTargets count) size mid now) →
       take size bytes ≡ rt.0
@@ -156,13 +150,11 @@ table_prefix_code a b x y s t (c1, d1, ea, pc, (m, pm), pd) (c2, d2, eb, qc, (n,
     three : (p q r z : List ℕ) → (p ++ (q ++ r)) ++ z ≡ p ++ (q ++ (r ++ z))
     three p q r z = append_assoc p (q ++ r) z ∙ ap (λ w. p ++ w) (append_assoc q r z)
 
-pub target_refused : (e : Error) (old now now2 new : Reader) (text : List ℕ) (done : List ℕ) (read count position : ℕ) →
-    EncodesMany (EncodesUnsigned 32) read text done → read < count → Takes old now text → Reads (EncodesUnsigned 32) U32Fault (Err e) now now2 →
-    position ≡ old.position → new ≡ at_position now2 position →
-    Reads (EncodesTargets count) (ManyFault (EncodesUnsigned 32) U32Fault count) (Err e) old new
-target_refused e old now now2 new text done read count position d l t (same, h, f) at went =
+pub target_fails : (old now : Reader) (text done : List ℕ) (read count : ℕ) → EncodesMany (EncodesUnsigned 32) read text done → read < count →
+    Takes old now text → {e : Error} → Fails (EncodesUnsigned 32) U32Fault e now →
+    Fails (EncodesTargets count) (ManyFault (EncodesUnsigned 32) U32Fault count) e old
+target_fails old now text done read count d l t {e} (h, f) =
     let few : length done < count = omega (arith, d.0, l) in (
-      back old now new text position t at (went ∙ ap (λ (r : Reader). at_position r position) same),
       refuses_by (EncodesMany (EncodesUnsigned 32) count) (EncodesTargets count) e old (λ text n s. s.1)
           (many_refused (EncodesUnsigned 32) e old now text done read count (λ a b x y m n p q e. (number_prefix_code 32 a b x y m n p q e).0) d l t h),
       many_fault (EncodesUnsigned 32) U32Fault count done text old now e.message e.offset few d.1 t (refused_now (EncodesUnsigned 32) e now h) f,

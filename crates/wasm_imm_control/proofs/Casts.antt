@@ -1,12 +1,15 @@
-use Rattle.std.proofs.Common.{◌≡◌, ℕ, zero, suc, ◌≤◌, ◌/◌, ◌%◌, Bool, true, false, List, [], ◌∷◌, ◌++◌, Err, inl, inr, refl, sym, ap, ◌∙◌, arith}
+use Rattle.std.proofs.Common.{◌≡◌, ℕ, zero, suc, ◌≤◌, ◌<◌, ◌/◌, ◌%◌, Bool, true, false, List, [], ◌∷◌, ◌++◌, length, inl, inr, refl, sym, subst, ap, ◌∙◌, arith}
 use Rattle.std.specs.Prelude.{◌==◌}
+use Rattle.wasm_below.specs.Ahead.{Fails}
 use Rattle.wasm_below.specs.bytes.error.Error.{Error}
+use Rattle.wasm_below.specs.bytes.message.Message.TheVariants as message
+use Rattle.wasm_below.specs.Refusal.{IsReadFault}
 use Rattle.wasm_below.specs.Number.{EncodesUnsigned}
 use Rattle.wasm_below.specs.Reference.{Reference}
 use Rattle.wasm_below.specs.Sequence.{Then, PrefixCode}
-use Rattle.wasm_below.specs.Source.{Reader, offset_of, at_position, Takes, IsRefusal, HasRead, Reads, IsByte, U32Fault}
+use Rattle.wasm_below.specs.Source.{Reader, offset_of, HasRead, IsByte, EndFault, U32Fault}
 use Rattle.wasm_below.proofs.Sequences.{then_first, then_second, then_prefix_code, refuses_by}
-use Rattle.wasm_below.proofs.TakesLemmas.{back, takes_then}
+use Rattle.wasm_below.proofs.TakesLemmas.{takes_then}
 use Rattle.wasm_below.proofs.TypePrefixCodes.{heap_prefix_code, same_reference}
 use Rattle.wasm_imm_control.specs.declared.cast.Cast.{Cast}
 use Rattle.wasm_below.specs.Fault.{ThenFault}
@@ -16,7 +19,7 @@ use Rattle.wasm_imm_control.proofs.Faults.{no_heap_type, heap_type_read}
 use Rattle.wasm_imm_control.specs.CastFaults.{CastTypesFault, CastFault}
 use Rattle.wasm_imm_control.specs.Casts.{cast_flags, EncodesCast, EncodesReference}
 use Rattle.wasm_below.proofs.PrefixCode.{byte_prefix_code}
-use Rattle.wasm_below.proofs.Steps.{number_prefix_code}
+use Rattle.wasm_below.proofs.Steps.{number_prefix_code, first_rules_out}
 
 pub reference_prefix_code : (nullable : Bool) → PrefixCode (EncodesReference nullable)
 reference_prefix_code nullable a b x y r s p q e = let o = heap_prefix_code a b x y r.heap_type s.heap_type p.1 q.1 e in
@@ -113,13 +116,23 @@ cast_prefix_code a b x y c d p q e = parts a b x y c d (to_parts a c p) (to_part
     parts : PrefixCode Parts
     parts = then_prefix_code IsByte First byte_prefix_code first
 
+pub flags_fail : {e : Error} {old : Reader} → Fails IsByte EndFault e old → Fails EncodesCast CastFault e old
+flags_fail {e} {old} (h, f) =
+    (refuses_by Parts EncodesCast e old (λ text c s. (c, to_parts text c s)) (then_first IsByte First e old h), inl (refused_now IsByte e old h, f))
+
 module _ (old mid : Reader) (flags : ℕ) (flagged : HasRead IsByte flags old mid) where
-  parts_refused : (e : Error) (now new : Reader) (text : List ℕ) (position : ℕ) → Takes old now text → position ≡ old.position →
-      new ≡ at_position now position → IsRefusal (Then (EncodesUnsigned 32) (Second flags)) e mid →
-      ThenFault (EncodesUnsigned 32) U32Fault (λ label. CastTypesFault (offset_of old) flags) e.message mid e.offset →
-      Reads EncodesCast CastFault (Err e) old new
-  parts_refused e now new text position t at went h fault = (
-    back old now new text position t at went,
+  pub flags_over : 3 < flags → (now : Reader) (depth : ℕ) → HasRead (EncodesUnsigned 32) depth mid now → {e : Error} →
+      e.message ≡ message.InvalidCastFlags flags → e.offset ≡ offset_of old → Fails EncodesCast CastFault e old
+  flags_over over now depth rd {e} is at =
+      let none : (text : List ℕ) (c : Cast) → First flags text c → ⊥ = λ text c s. let low = s.0 in omega (arith, low, over) in
+      let some : (text : List ℕ) → IsByte text flags → 0 < length text = λ text p. let one : length text ≡ 1 = ap length p.0 in omega (arith, one) in
+      let read_fault = subst IsReadFault (sym is) tt in
+      let h = first_rules_out IsByte First e old mid old flags byte_prefix_code some flagged none refl at read_fault in
+      (refuses_by Parts EncodesCast e old (λ text c s. (c, to_parts text c s)) h.1, inr (flags, mid, flagged, inr (depth, now, rd, inl (over, is, at))))
+
+  parts_fail : {e : Error} → Fails (Then (EncodesUnsigned 32) (Second flags)) (ThenFault (EncodesUnsigned 32) U32Fault (λ label. CastTypesFault (offset_of old) flags)) e mid →
+      Fails EncodesCast CastFault e old
+  parts_fail {e} (h, fault) = (
     refuses_by Parts EncodesCast e old (λ text c s. (
       c,
       to_parts text c s,
@@ -128,33 +141,28 @@ module _ (old mid : Reader) (flags : ℕ) (flagged : HasRead IsByte flags old mi
     inr (flags, mid, flagged, fault),
   )
 
-  pub label_refused : (e : Error) (mid2 new : Reader) (position : ℕ) → Reads (EncodesUnsigned 32) U32Fault (Err e) mid mid2 → position ≡ old.position →
-      new ≡ at_position mid2 position → Reads EncodesCast CastFault (Err e) old new
-  label_refused e mid2 new position (same, h, f) at went =
-      parts_refused e mid new flagged.0 position flagged.2 at (went ∙ ap (λ (r : Reader). at_position r position) same)
-      (then_first (EncodesUnsigned 32) (Second flags) e mid h) (inl (refused_now (EncodesUnsigned 32) e mid h, f))
+  pub label_fails : {e : Error} → Fails (EncodesUnsigned 32) U32Fault e mid → Fails EncodesCast CastFault e old
+  label_fails {e} (h, f) = parts_fail (then_first (EncodesUnsigned 32) (Second flags) e mid h, inl (refused_now (EncodesUnsigned 32) e mid h, f))
 
-  pub first_refused : (e : Error) (now now2 new : Reader) (depth position : ℕ) → flags ≤ 3 → HasRead (EncodesUnsigned 32) depth mid now →
-      Reads (EncodesReference (first_null flags)) HeapTypeFault (Err e) now now2 → position ≡ old.position → new ≡ at_position now2 position →
-      Reads EncodesCast CastFault (Err e) old new
-  first_refused e now now2 new depth position low rd (same, h, f) at went =
-      parts_refused e now new (flagged.0 ++ rd.0) position (takes_then old mid now flagged.0 rd.0 flagged.2 rd.2) at (went ∙
-      ap (λ (r : Reader). at_position r position) same)
-      (then_second (EncodesUnsigned 32) (Second flags) e mid now depth (number_prefix_code 32) rd
-      (then_first (EncodesReference (first_null flags)) (Third flags depth) e now h))
-      (inr (depth, now, rd, inr (low, inl (no_heap_type (first_null flags) e now h, f))))
+  pub from_fails : (now : Reader) (depth : ℕ) → flags ≤ 3 → HasRead (EncodesUnsigned 32) depth mid now → {e : Error} →
+      Fails (EncodesReference (first_null flags)) HeapTypeFault e now → Fails EncodesCast CastFault e old
+  from_fails now depth low rd {e} (h, f) =
+      parts_fail (
+        then_second (EncodesUnsigned 32) (Second flags) e mid now depth (number_prefix_code 32) rd
+            (then_first (EncodesReference (first_null flags)) (Third flags depth) e now h),
+        inr (depth, now, rd, inr (low, inl (no_heap_type (first_null flags) e now h, f))),
+      )
 
-  pub second_refused : (e : Error) (now last last2 new : Reader) (depth : ℕ) (from : Reference) (position : ℕ) → flags ≤ 3 →
-      HasRead (EncodesUnsigned 32) depth mid now → HasRead (EncodesReference (first_null flags)) from now last →
-      Reads (EncodesReference (second_null flags)) HeapTypeFault (Err e) last last2 → position ≡ old.position → new ≡ at_position last2 position →
-      Reads EncodesCast CastFault (Err e) old new
-  second_refused e now last last2 new depth from position low rd rf (same, h, f) at went =
-      let taken = takes_then old now last (flagged.0 ++ rd.0) rf.0 (takes_then old mid now flagged.0 rd.0 flagged.2 rd.2) rf.2 in
+  pub to_fails : (now last : Reader) (depth : ℕ) (from : Reference) → flags ≤ 3 → HasRead (EncodesUnsigned 32) depth mid now →
+      HasRead (EncodesReference (first_null flags)) from now last → {e : Error} → Fails (EncodesReference (second_null flags)) HeapTypeFault e last →
+      Fails EncodesCast CastFault e old
+  to_fails now last depth from low rd rf {e} (h, f) =
       let third = refuses_by (EncodesReference (second_null flags)) (Third flags depth from) e last (λ text c s. (c.to, s.0)) h in
-      parts_refused e last new ((flagged.0 ++ rd.0) ++ rf.0) position taken at (went ∙ ap (λ (r : Reader). at_position r position) same)
-      (then_second (EncodesUnsigned 32) (Second flags) e mid now depth (number_prefix_code 32) rd
-      (then_second (EncodesReference (first_null flags)) (Third flags depth) e now last from (reference_prefix_code (first_null flags)) rf third))
-      (inr (depth, now, rd, inr (low, inr (from.heap_type, last, heap_type_read (first_null flags) from now last rf, f))))
+      parts_fail (
+        then_second (EncodesUnsigned 32) (Second flags) e mid now depth (number_prefix_code 32) rd
+            (then_second (EncodesReference (first_null flags)) (Third flags depth) e now last from (reference_prefix_code (first_null flags)) rf third),
+        inr (depth, now, rd, inr (low, inr (from.heap_type, last, heap_type_read (first_null flags) from now last rf, f))),
+      )
 
   pub cast_read : (now last new : Reader) (depth : ℕ) (from to : Reference) → flags ≤ 3 → HasRead (EncodesUnsigned 32) depth mid now →
       HasRead (EncodesReference (first_null flags)) from now last → HasRead (EncodesReference (second_null flags)) to last new →

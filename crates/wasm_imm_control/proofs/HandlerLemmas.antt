@@ -1,9 +1,15 @@
-use Rattle.std.proofs.Common.{◌≡◌, ℕ, ◌≤◌, List, [], ◌∷◌, ◌++◌, Err, inl, refl, sym, ap, ◌∙◌, append_assoc, arith}
+use Rattle.std.proofs.Common.{◌≡◌, ℕ, ◌≤◌, ◌<◌, List, [], ◌∷◌, ◌++◌, inl, inr, refl, sym, ap, ◌∙◌, append_assoc, arith}
+use Rattle.wasm_below.specs.Ahead.{Fails}
 use Rattle.wasm_below.specs.bytes.error.Error.{Error}
+use Rattle.wasm_below.specs.bytes.message.LeadingByteName.{LeadingByteName}
+use Rattle.wasm_below.specs.bytes.message.Message.{Message}
+use Rattle.wasm_below.specs.Fault.{ThenFault}
 use Rattle.wasm_below.specs.Number.{EncodesUnsigned}
 use Rattle.wasm_below.specs.Sequence.{Then, PrefixCode}
-use Rattle.wasm_below.specs.Source.{Reader, at_position, HasRead, Reads, IsByte, U32Fault, EndFault}
-use Rattle.wasm_below.proofs.PrefixCode.{unsigned_prefix_code}
+use Rattle.wasm_below.specs.Source.{Reader, HasRead, IsByte, U32Fault, EndFault}
+use Rattle.wasm_below.proofs.Ahead.{first_fails, second_fails, fails_as}
+use Rattle.wasm_below.proofs.PrefixCode.{byte_prefix_code, unsigned_prefix_code}
+use Rattle.wasm_below.proofs.Sequences.{then_second, refuses_by}
 use Rattle.wasm_below.proofs.TakesLemmas.{same_rest, takes_then}
 use Rattle.wasm_imm_control.specs.declared.handlers.Catch.{Catch}
 use Rattle.wasm_imm_control.specs.declared.handlers.Catch.TheVariants as clause
@@ -11,9 +17,9 @@ use Rattle.wasm_imm_control.specs.declared.handlers.Handle.{Handle}
 use Rattle.wasm_imm_control.specs.declared.handlers.Handle.TheVariants as handle
 use Rattle.wasm_imm_control.specs.Handlers.{EncodesPair, catch_byte, EncodesCatchIndices, EncodesCatch, handle_byte, EncodesHandleIndices, EncodesHandle, IsCatchAfterByte, IsHandleAfterByte}
 use Rattle.wasm_below.proofs.Prefixes.{end_refused}
-use Rattle.wasm_below.proofs.Steps.{number_prefix_code, first_missing, second_missing, missing_as}
+use Rattle.wasm_below.proofs.Steps.{number_prefix_code}
 use Rattle.wasm_below.specs.bytes.message.LeadingByteName.TheVariants as leading_name
-use Rattle.wasm_imm_control.specs.HandlerFaults.{PairFault, CatchFault, HandleFault}
+use Rattle.wasm_imm_control.specs.HandlerFaults.{IsLeading, LeadingFault, PairFault, IndicesFault, CatchFault, HandleFault}
 use Rattle.wasm_imm_control.proofs.Faults.{leading_ended}
 
 pub pair_prefix_code : PrefixCode EncodesPair
@@ -26,21 +32,18 @@ pair_prefix_code a b x y m n (a1, a2, ea, pa, qa) (b1, b2, eb, pb, qb) e =
 abbrev second_of : ℕ → List ℕ → ℕ × ℕ → Type 0
 second_of first text p = EncodesUnsigned 32 text p.1
 
-pair_as : (e : Error) (old new : Reader) → Reads (Then (EncodesUnsigned 32) second_of) PairFault (Err e) old new → Reads EncodesPair PairFault (Err e) old new
-pair_as e old new =
-    missing_as (Then (EncodesUnsigned 32) second_of) EncodesPair PairFault PairFault e old new (λ text p (a, b, ab, pa, pb). (p, (a, b, p.0, ab, pa, pb)))
-    (λ m offset h. h)
+pair_as : {e : Error} {old : Reader} → Fails (Then (EncodesUnsigned 32) second_of) PairFault e old → Fails EncodesPair PairFault e old
+pair_as =
+    fails_as (Then (EncodesUnsigned 32) second_of) EncodesPair PairFault PairFault (λ text p (a, b, ab, pa, pb). (p, (a, b, p.0, ab, pa, pb))) (λ f. f)
 
-pub pair_missing : (e : Error) (old new : Reader) → Reads (EncodesUnsigned 32) U32Fault (Err e) old new → Reads EncodesPair PairFault (Err e) old new
-pair_missing e old new h = pair_as e old new (first_missing (EncodesUnsigned 32) second_of U32Fault (λ tag. U32Fault) e old new h)
+pub pair_first : {e : Error} {old : Reader} → Fails (EncodesUnsigned 32) U32Fault e old → Fails EncodesPair PairFault e old
+pair_first h = pair_as (first_fails (EncodesUnsigned 32) second_of U32Fault (λ tag. U32Fault) h)
 
-pub pair_refused : (e : Error) (old mid mid2 new : Reader) (first position : ℕ) → HasRead (EncodesUnsigned 32) first old mid →
-    Reads (EncodesUnsigned 32) U32Fault (Err e) mid mid2 → position ≡ old.position → new ≡ at_position mid2 position →
-    Reads EncodesPair PairFault (Err e) old new
-pair_refused e old mid mid2 new first position r h at went =
-    let second = missing_as (EncodesUnsigned 32) (second_of first) U32Fault U32Fault e mid mid2 (λ text p q. (p.1, q)) (λ m offset f. f) h in
-    pair_as e old new (second_missing (EncodesUnsigned 32) second_of U32Fault (λ tag. U32Fault) e old mid mid2 new first position (number_prefix_code 32) r
-    second at went)
+pub pair_second : (old mid : Reader) (first : ℕ) → HasRead (EncodesUnsigned 32) first old mid → {e : Error} → Fails (EncodesUnsigned 32) U32Fault e mid →
+    Fails EncodesPair PairFault e old
+pair_second old mid first r h =
+    pair_as (second_fails (EncodesUnsigned 32) second_of U32Fault (λ tag. U32Fault) (number_prefix_code 32) r
+    (fails_as (EncodesUnsigned 32) (second_of first) U32Fault U32Fault (λ text p q. (p.1, q)) (λ f. f) h))
 
 pub pair_read : (old mid new : Reader) (first second : ℕ) → HasRead (EncodesUnsigned 32) first old mid → HasRead (EncodesUnsigned 32) second mid new →
     HasRead EncodesPair (first, second) old new
@@ -101,17 +104,52 @@ pub handle_pair : (byte : ℕ) → byte ≡ 0 → (text : List ℕ) (h : Handle)
 handle_pair byte none text (handle.OnLabel tag label) h = ((tag, label), h.1)
 handle_pair byte none text (handle.OnSwitch tag) h = absurd (omega (arith, h.0))
 
--- the data ends at the first byte
-pub catch_missing : (e : Error) (old new : Reader) → Reads IsByte EndFault (Err e) old new → Reads EncodesCatch CatchFault (Err e) old new
-catch_missing e old new (same, h, f) = (
-  same,
-  end_refused EncodesCatch e old (λ c p. let none : [] ≡ catch_byte c ∷ p.0 = p.1 in cc none) f,
-  inl (leading_ended leading_name.Catch 3 e old h f),
-)
+catch_low : (c : Catch) → catch_byte c ≤ 3
+catch_low (clause.One tag label) = omega arith
+catch_low (clause.OneRef tag label) = omega arith
+catch_low (clause.All label) = omega arith
+catch_low (clause.AllRef label) = omega arith
 
-pub handle_missing : (e : Error) (old new : Reader) → Reads IsByte EndFault (Err e) old new → Reads EncodesHandle HandleFault (Err e) old new
-handle_missing e old new (same, h, f) = (
-  same,
-  end_refused EncodesHandle e old (λ c p. let none : [] ≡ handle_byte c ∷ p.0 = p.1 in cc none) f,
-  inl (leading_ended leading_name.OnClause 1 e old h f),
-)
+handle_low : (h : Handle) → handle_byte h ≤ 1
+handle_low (handle.OnLabel tag label) = omega arith
+handle_low (handle.OnSwitch tag) = omega arith
+
+-- Indices after a leading byte of at most `highest`.
+module _ {X : Type 0} (highest last : ℕ) (few : highest < 256) (name : LeadingByteName) (byte_of : X → ℕ) (low : (x : X) → byte_of x ≤ highest)
+    (Indices : List ℕ → X → Type 0) where
+  abbrev Led : List ℕ → X → Type 0
+  Led text x = (after : List ℕ) × (text ≡ byte_of x ∷ after) × Indices after x
+
+  abbrev LedFault : Message → Reader → ℕ → Type 0
+  LedFault = ThenFault (IsLeading highest) (LeadingFault name highest) (IndicesFault last)
+
+  abbrev AfterByte : ℕ → List ℕ → X → Type 0
+  AfterByte byte text x = (byte ≡ byte_of x) × Indices text x
+
+  parts_of : (text : List ℕ) (x : X) → Led text x → Then IsByte AfterByte text x
+  parts_of text x (after, is, p) = let most = low x in (byte_of x ∷ [], after, byte_of x, is, (refl, omega (arith, most, few)), (refl, p))
+
+  byte_fails : {e : Error} {old : Reader} → Fails IsByte EndFault e old → Fails Led LedFault e old
+  byte_fails {e} {old} (h, f) =
+      (end_refused Led e old (λ x p. let none : [] ≡ byte_of x ∷ p.0 = p.1 in cc none) f, inl (leading_ended name highest e old h f))
+
+  indices_fail : (old mid : Reader) (byte : ℕ) → HasRead IsByte byte old mid → byte ≤ highest → {e : Error} → Fails (AfterByte byte) (IndicesFault last byte) e mid →
+      Fails Led LedFault e old
+  indices_fail old mid byte read most {e} (h, f) = (
+    refuses_by (Then IsByte AfterByte) Led e old (λ text x s. (x, parts_of text x s)) (then_second IsByte AfterByte e old mid byte byte_prefix_code read h),
+    inr (byte, mid, (read.0, (read.1, most), read.2), f),
+  )
+
+pub catch_byte_fails : {e : Error} {old : Reader} → Fails IsByte EndFault e old → Fails EncodesCatch CatchFault e old
+catch_byte_fails = byte_fails 3 1 (omega arith) leading_name.Catch catch_byte catch_low EncodesCatchIndices
+
+pub catch_indices_fail : (old mid : Reader) (byte : ℕ) → HasRead IsByte byte old mid → byte ≤ 3 → {e : Error} →
+    Fails (IsCatchAfterByte byte) (IndicesFault 1 byte) e mid → Fails EncodesCatch CatchFault e old
+catch_indices_fail = indices_fail 3 1 (omega arith) leading_name.Catch catch_byte catch_low EncodesCatchIndices
+
+pub handle_byte_fails : {e : Error} {old : Reader} → Fails IsByte EndFault e old → Fails EncodesHandle HandleFault e old
+handle_byte_fails = byte_fails 1 0 (omega arith) leading_name.OnClause handle_byte handle_low EncodesHandleIndices
+
+pub handle_indices_fail : (old mid : Reader) (byte : ℕ) → HasRead IsByte byte old mid → byte ≤ 1 → {e : Error} →
+    Fails (IsHandleAfterByte byte) (IndicesFault 0 byte) e mid → Fails EncodesHandle HandleFault e old
+handle_indices_fail = indices_fail 1 0 (omega arith) leading_name.OnClause handle_byte handle_low EncodesHandleIndices

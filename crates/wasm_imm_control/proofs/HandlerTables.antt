@@ -1,11 +1,13 @@
-use Rattle.std.proofs.Common.{◌≡◌, ◌≢◌, ℕ, ◌+◌, ◌<◌, inl, true, List, [], ◌∷◌, ◌++◌, length, Err, refl, sym, subst, ap, ◌∙◌, append_assoc, arith}
+use Rattle.std.proofs.Common.{◌≡◌, ◌≢◌, ℕ, ◌+◌, ◌<◌, inl, List, [], ◌∷◌, ◌++◌, length, Err, refl, sym, subst, ap, ◌∙◌, append_assoc, arith}
 use Rattle.std.specs.Prelude.{⊤}
 use Rattle.wasm_below.specs.bytes.error.Error.{Error}
 use Rattle.wasm_below.specs.declared.types.ValType.{ValType}
-use Rattle.wasm_below.specs.FromReader.{ReadsValue}
+use Rattle.wasm_below.specs.Ahead.{Fails}
+use Rattle.wasm_below.specs.FromReader.{IsRefused, ReadsValue}
 use Rattle.wasm_below.specs.bytes.message.SizeName.TheVariants as size_name
 use Rattle.wasm_below.specs.Fault.{ManyFault}
 use Rattle.wasm_below.specs.Number.{EncodesSize}
+use Rattle.wasm_below.proofs.Ahead.{first_fails, second_fails}
 use Rattle.wasm_below.proofs.Blocks.{refused_now}
 use Rattle.wasm_imm_control.specs.BlockTypeFaults.{BlockTypeFault}
 use Rattle.wasm_imm_control.specs.HandlerFaults.{CatchFault}
@@ -32,7 +34,7 @@ use Rattle.wasm_imm_control.proofs.BlockTypes.{block_prefix_code, block_empty}
 use Rattle.wasm_imm_control.proofs.HandlerLemmas.{catch_prefix_code, handle_prefix_code}
 use Rattle.wasm_imm_control.proofs.ListLemmas.{list_prefix_code}
 use Rattle.wasm_imm_control.proofs.ListRefusals.{begun_refused, refused_by, as_refused, some_read, some_then}
-use Rattle.wasm_below.proofs.Steps.{unsigned_some, first_missing, second_missing}
+use Rattle.wasm_below.proofs.Steps.{unsigned_some, first_missing}
 
 resume_of : List Handle → ResumeTable
 resume_of handlers = record { handlers = handlers }
@@ -110,16 +112,18 @@ select_prefix_code a b x y (select.Multi ts) (select.One u) p q e = let o =
 select_prefix_code a b x y (select.Multi ts) (select.Multi us) p q e = let o =
     list_prefix_code max_select_types EncodesValType value_prefix_code a b x y ts us p.0 q.0 e in (o.0, ap select.Multi o.1)
 
-pub count_missing : (e : Error) (old new : Reader) → Reads (EncodesSize max_select_types) (CountFault size_name.SelectTypes max_select_types) (Err e) old new →
-    ReadsValue EncodesSelect SelectFault SelectAllocates (Err e) old new
-count_missing e old new h =
-    let s = first_missing (EncodesSize max_select_types) (EncodesMany EncodesValType) (CountFault size_name.SelectTypes max_select_types)
-    (ManyFault EncodesValType ValTypeFault) e old new h in (
-      s.0,
-      refused_by (EncodesList max_select_types EncodesValType) EncodesSelect SelectFault SelectFault SelectAllocates SelectAllocates e old
-          (λ text t p. (types_of t, select_types text t p)) (λ m offset x. x) (λ x. x)
-          (as_refused (EncodesList max_select_types EncodesValType) SelectFault SelectAllocates e old s.1 s.2),
-    )
+select_fails : {e : Error} {old : Reader} → Fails (EncodesList max_select_types EncodesValType) SelectFault e old →
+    IsRefused EncodesSelect SelectFault SelectAllocates e old
+select_fails {e} {old} (h, f) =
+    refused_by (EncodesList max_select_types EncodesValType) EncodesSelect SelectFault SelectFault SelectAllocates SelectAllocates e old
+    (λ text t p. (types_of t, select_types text t p)) (λ m offset x. x) (λ x. x)
+    (as_refused (EncodesList max_select_types EncodesValType) SelectFault SelectAllocates e old h f)
+
+pub count_fails : {e : Error} {old : Reader} → Fails (EncodesSize max_select_types) (CountFault size_name.SelectTypes max_select_types) e old →
+    IsRefused EncodesSelect SelectFault SelectAllocates e old
+count_fails h =
+    select_fails (first_fails (EncodesSize max_select_types) (EncodesMany EncodesValType) (CountFault size_name.SelectTypes max_select_types)
+    (ManyFault EncodesValType ValTypeFault) h)
 
 pub not_one : (old mid : Reader) (count : ℕ) → HasRead (EncodesSize max_select_types) count old mid → count ≢ 1 → NoPrefix EncodesOne (rest old)
 not_one old mid count (text, p, t) other first after n q eq =
@@ -138,23 +142,17 @@ types_refused e f old mid mid2 new count position r other h at went begun =
           (λ text t p. (types_of t, select_types text t p)) (λ m offset x. x) (λ x. x) s.1,
     )
 
-pub type_refused : (e : Error) (old mid mid2 new : Reader) (count position : ℕ) → count ≡ 1 → HasRead (EncodesSize max_select_types) count old mid →
-    Reads EncodesValType ValTypeFault (Err e) mid mid2 → position ≡ old.position → new ≡ at_position mid2 position →
-    ReadsValue EncodesSelect SelectFault SelectAllocates (Err e) old new
-type_refused e old mid mid2 new count position one r (same, h, f) at went =
+pub type_fails : (old mid : Reader) (count : ℕ) → count ≡ 1 → HasRead (EncodesSize max_select_types) count old mid → {e : Error} →
+    Fails EncodesValType ValTypeFault e mid → IsRefused EncodesSelect SelectFault SelectAllocates e old
+type_fails old mid count one r {e} (h, f) =
     let later : IsRefusal (EncodesMany EncodesValType count) e mid = record {
       refuses = λ more follow text after tys p eq. lone (rest mid ++ more) text after tys p.0 p.1 (h.refuses more follow) eq;
       fault = h.fault;
       ahead = h.ahead;
     } in
     let fault = subst (λ n. ManyFault EncodesValType ValTypeFault n e.message mid e.offset) (sym one) (inl (refused_now EncodesValType e mid h, f)) in
-    let s = second_missing (EncodesSize max_select_types) (EncodesMany EncodesValType) (CountFault size_name.SelectTypes max_select_types)
-    (ManyFault EncodesValType ValTypeFault) e old mid mid2 new count position (size_prefix_code max_select_types) r (same, later, fault) at went in (
-      s.0,
-      refused_by (EncodesList max_select_types EncodesValType) EncodesSelect SelectFault SelectFault SelectAllocates SelectAllocates e old
-          (λ text t p. (types_of t, select_types text t p)) (λ m offset x. x) (λ x. x)
-          (as_refused (EncodesList max_select_types EncodesValType) SelectFault SelectAllocates e old s.1 s.2),
-    )
+    select_fails (second_fails (EncodesSize max_select_types) (EncodesMany EncodesValType) (CountFault size_name.SelectTypes max_select_types)
+    (ManyFault EncodesValType ValTypeFault) (size_prefix_code max_select_types) r (later, fault))
   where
     lone : (bytes text after : List ℕ) (tys : List ValType) → length tys ≡ count → EncodesEach EncodesValType text tys → NoPrefix EncodesValType bytes →
         bytes ≡ text ++ after → ⊥

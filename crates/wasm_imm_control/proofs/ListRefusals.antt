@@ -1,5 +1,5 @@
-use Rattle.std.proofs.Common.{◌≡◌, ◌≢◌, ℕ, ◌+◌, ◌<◌, ◌≤◌, ◌⊎◌, inl, inr, List, ◌++◌, length, Err, refl, sym, subst, ap, ◌∙◌, append_assoc, arith}
-use Rattle.std.specs.Prelude.{⊤}
+use Rattle.std.proofs.Common.{◌≡◌, ◌≢◌, ℕ, ◌+◌, ◌<◌, ◌≤◌, ◌⊎◌, inl, inr, List, ◌++◌, length, Result, Ok, Err, refl, sym, subst, ap, ◌∙◌, append_assoc, arith}
+use Rattle.std.specs.Prelude.{⊤, IsErrAnd}
 use Rattle.wasm_below.specs.bytes.error.Error.{Error}
 use Rattle.wasm_below.specs.bytes.message.Message.{Message}
 use Rattle.wasm_below.specs.bytes.message.Message.TheVariants as message
@@ -63,20 +63,24 @@ begun_refused P Q F G M N e f old mid mid2 new x position prefix_code some (text
     begun (inl s) m here = s.1 ∙ here
     begun (inr s) m here = absurd (s.0 (sym kept ∙ m))
 
-pub member_refused : {X : Type 0} (P : List ℕ → X → Type 0) (F : Message → Reader → ℕ → Type 0) (M : Reader → Type 0)
-    (e : Error) (old now now2 new : Reader) (text : List ℕ) (done : List X) (read count position : ℕ) → ((r : Reader) → M r → ⊥) → PrefixAlone P →
-    EncodesMany P read text done → read < count → Takes old now text → ReadsValue P F M (Err e) now now2 → position ≡ old.position →
-    new ≡ at_position now2 position → ReadsValue (EncodesMany P count) (ManyFault P F count) (λ r. ⊤) (Err e) old new
-member_refused P F M e old now now2 new text done read count position lean prefix_code d l t (same, h) at went =
-    let few : length done < count = omega (arith, d.0, l) in (
-      back old now new text position t at (went ∙ ap (λ (r : Reader). at_position r position) same),
-      record {
-        refuses = λ more follow. many_none P old now text done read count prefix_code d l t more (h.refuses more follow);
-        ahead = ahead_before old now text e.offset t h.ahead;
-        fault = λ some. many_fault P F count done text old now e.message e.offset few d.1 t (none_here P e.message now some h.refuses) (h.fault some);
-        memory = λ m. absurd (lean now (h.memory m).0);
-      },
-    )
+pub member_refused : {X : Type 0} (P : List ℕ → X → Type 0) (F : Message → Reader → ℕ → Type 0) (M : Reader → Type 0) (e : Error) (old now : Reader)
+    (text : List ℕ) (done : List X) (read count : ℕ) → ((r : Reader) → M r → ⊥) → PrefixAlone P → EncodesMany P read text done → read < count →
+    Takes old now text → IsRefused P F M e now → IsRefused (EncodesMany P count) (ManyFault P F count) (λ r. ⊤) e old
+member_refused P F M e old now text done read count lean prefix_code d l t h =
+    let few : length done < count = omega (arith, d.0, l) in
+    record {
+      refuses = λ more follow. many_none P old now text done read count prefix_code d l t more (h.refuses more follow);
+      ahead = ahead_before old now text e.offset t h.ahead;
+      fault = λ some. many_fault P F count done text old now e.message e.offset few d.1 t (none_here P e.message now some h.refuses) (h.fault some);
+      memory = λ m. absurd (lean now (h.memory m).0);
+    }
+
+-- A `?` returns the error as it is, and the reader stays.
+pub stays_refused : {X : Type 0} (P : List ℕ → X → Type 0) (F : Message → Reader → ℕ → Type 0) (M : Reader → Type 0) (r : Result X Error) {e : Error}
+    {copy old : Reader} → copy ≡ old → IsErrAnd r (λ y. y ≡ e) → IsRefused P F M e copy → ReadsValue P F M r old old
+stays_refused P F M (Ok x) same is h = absurd is
+stays_refused P F M (Err y) {e} {copy} {old} same is h =
+    (refl, subst (λ z. IsRefused P F M y z) same (subst (λ z. IsRefused P F M z copy) (sym is) h))
 
 -- a call that does not allocate reports no allocation failure
 pub not_memory : {X : Type 0} (P : List ℕ → X → Type 0) (e : Error) (old : Reader) → IsRefusal P e old → e.message ≡ message.OutOfMemory → ⊥

@@ -93,12 +93,11 @@ fn read_other(reader: &mut BinaryReader<'_>) -> Result<BlockType>
 fn read_function_type(reader: &mut BinaryReader<'_>) -> Result<BlockType>
     ensures { Reads EncodesFunctionType FunctionTypeFault result reader.old reader.new }
 {
-    let start = reader.current_position();
-    let index = reader.read_var_s33()?;
+    let mut ahead = reader.clone();
+    let index = ahead.read_var_s33()?;
     if index < 0 {
-        let after = reader.original_position();
-        reader.rewind(start);
-        return Err(Error::new(Message::InvalidFunctionType, after));
+        return Err(Error::new(Message::InvalidFunctionType, ahead.original_position()));
     }
+    *reader = ahead;
     Ok(BlockType::FuncType(index as u32))
 }

@@ -1,6 +1,7 @@
 ghost use Rattle.std.specs.Prelude.{◌≡◌, ◌↔◌, ◌+◌, ◌≤◌, ℕ, List, map, length, IsTrue, IfSome, Ok};
 ghost use Rattle.std.specs.Iterator.{YieldsFirst, at_most, UpTo};
 ghost use Rattle.std.specs.Iterator.SizeHint.{IsWithinCount};
+ghost use Rattle.wasm_below.specs.Ahead.{ReadsAhead};
 ghost use Rattle.wasm_below.specs.Fault.{ManyFault};
 ghost use Rattle.wasm_below.specs.Source.{Reads};
 ghost use Rattle.wasm_below.specs.Number.{EncodesUnsigned};
@@ -43,27 +44,17 @@ impl<'a> BrTable<'a> {
     pub fn read(reader: &mut BinaryReader<'a>) -> Result<BrTable<'a>>
         ensures { Reads EncodesBranchTable BranchTableFault result reader.old reader.new }
     {
-        let start = reader.current_position();
-        let count = reader.read_size(MAX_TARGETS, SizeName::BrTable)?;
-        let bytes = reader.remaining_buffer();
-        let size = match read_targets(reader, count) {
-            Ok(size) => size,
-            Err(e) => {
-                reader.rewind(start);
-                return Err(e);
-            }
-        };
-        match reader.read_var_u32() {
-            Ok(default) => Ok(BrTable {
-                count: count as u32,
-                default,
-                targets: &bytes[..size],
-            }),
-            Err(e) => {
-                reader.rewind(start);
-                Err(e)
-            }
-        }
+        let mut ahead = reader.clone();
+        let count = ahead.read_size(MAX_TARGETS, SizeName::BrTable)?;
+        let bytes = ahead.remaining_buffer();
+        let size = read_targets(&mut ahead, count)?;
+        let default = ahead.read_var_u32()?;
+        *reader = ahead;
+        Ok(BrTable {
+            count: count as u32,
+            default,
+            targets: &bytes[..size],
+        })
     }
 
     pub fn len(&self) -> u32
@@ -97,19 +88,13 @@ impl<'a> BrTable<'a> {
 
 #[inline(always)]
 fn read_targets(reader: &mut BinaryReader<'_>, count: usize) -> Result<usize>
-    ensures { Reads (EncodesTargets count) (ManyFault (EncodesUnsigned 32) U32Fault count) result reader.old reader.new }
+    ensures { ReadsAhead (EncodesTargets count) (ManyFault (EncodesUnsigned 32) U32Fault count) result reader.old reader.new }
 {
     let start = reader.current_position();
     let passed = pass_targets(reader.remaining_buffer(), count);
     reader.read_bytes(passed.position)?;
     for _target in passed.targets..count {
-        match reader.read_var_u32() {
-            Ok(_) => {}
-            Err(e) => {
-                reader.rewind(start);
-                return Err(e);
-            }
-        }
+        reader.read_var_u32()?;
     }
     Ok(reader.current_position() - start)
 }

@@ -3,7 +3,7 @@ ghost use Rattle.wasm_below.specs.TypeEncoding.{HeapTypeFault};
 ghost use Rattle.wasm_imm_control.specs.CastFaults.{CastFault};
 ghost use Rattle.wasm_imm_control.specs.Casts.{EncodesCast, EncodesReference};
 
-use wasm_below::{BinaryReader, HeapType, Message, RefType, Result};
+use wasm_below::{BinaryReader, Error, HeapType, Message, RefType, Result};
 
 /// The immediates of `br_on_cast` and its variants.
 #[derive(Clone, Copy, Debug, PartialEq, Eq)]
@@ -24,39 +24,20 @@ impl Cast {
     pub fn read(reader: &mut BinaryReader<'_>) -> Result<Cast>
         ensures { Reads EncodesCast CastFault result reader.old reader.new }
     {
-        let start = reader.current_position();
-        let flags = match reader.read_u8() {
-            Ok(flags) => flags,
-            Err(e) => return Err(e),
-        };
-        let relative_depth = match reader.read_var_u32() {
-            Ok(relative_depth) => relative_depth,
-            Err(e) => {
-                reader.rewind(start);
-                return Err(e);
-            }
-        };
+        let mut ahead = reader.clone();
+        let flags = ahead.read_u8()?;
+        let relative_depth = ahead.read_var_u32()?;
         if flags > 3 {
-            return Err(reader.refuse(start, Message::InvalidCastFlags(flags)));
+            return Err(Error::new(Message::InvalidCastFlags(flags), reader.original_position()));
         }
-        let from = match read_reference(reader, flags % 2 == 1) {
-            Ok(from) => from,
-            Err(e) => {
-                reader.rewind(start);
-                return Err(e);
-            }
-        };
-        match read_reference(reader, flags / 2 == 1) {
-            Ok(to) => Ok(Cast {
-                relative_depth,
-                from,
-                to,
-            }),
-            Err(e) => {
-                reader.rewind(start);
-                Err(e)
-            }
-        }
+        let from = read_reference(&mut ahead, flags % 2 == 1)?;
+        let to = read_reference(&mut ahead, flags / 2 == 1)?;
+        *reader = ahead;
+        Ok(Cast {
+            relative_depth,
+            from,
+            to,
+        })
     }
 }
 

@@ -1,11 +1,12 @@
 ghost use Rattle.std.specs.Prelude.{◌<◌, ◌≤◌};
+ghost use Rattle.wasm_below.specs.Ahead.{ReadsAhead};
 ghost use Rattle.wasm_below.specs.Source.{Reads};
 ghost use Rattle.wasm_imm_control.specs.HandlerFaults.{PairFault, IndicesFault, CatchFault, HandleFault};
 ghost use Rattle.wasm_imm_control.specs.Handlers.{EncodesPair, EncodesCatch, EncodesHandle, IsCatchAfterByte, IsHandleAfterByte};
 
 use std::alloc::Global;
 use wasm_below::{
-    BinaryReader, FromReader, LeadingByteName, MemoryUse, Message, Never, Result, UsesMemory,
+    BinaryReader, Error, FromReader, LeadingByteName, MemoryUse, Message, Never, Result, UsesMemory,
 };
 
 #[derive(Clone, Copy, Debug, PartialEq, Eq)]
@@ -29,30 +30,23 @@ impl Catch {
     pub fn read(reader: &mut BinaryReader<'_>) -> Result<Catch>
         ensures { Reads EncodesCatch CatchFault result reader.old reader.new }
     {
-        let start = reader.current_position();
-        let byte = match reader.read_u8() {
-            Ok(byte) => byte,
-            Err(e) => return Err(e),
-        };
+        let mut ahead = reader.clone();
+        let byte = ahead.read_u8()?;
         if byte > 3 {
-            return Err(reader.refuse(
-                start,
+            return Err(Error::new(
                 Message::InvalidLeadingByte(byte, LeadingByteName::Catch),
+                reader.original_position(),
             ));
         }
-        match Catch::read_after_byte(reader, byte) {
-            Ok(catch) => Ok(catch),
-            Err(e) => {
-                reader.rewind(start);
-                Err(e)
-            }
-        }
+        let catch = Catch::read_after_byte(&mut ahead, byte)?;
+        *reader = ahead;
+        Ok(catch)
     }
 
     #[inline(always)]
     fn read_after_byte(reader: &mut BinaryReader<'_>, byte: u8) -> Result<Catch>
         requires { byte ≤ 3 }
-        ensures { Reads (IsCatchAfterByte byte) (IndicesFault 1 byte) result reader.old reader.new }
+        ensures { ReadsAhead (IsCatchAfterByte byte) (IndicesFault 1 byte) result reader.old reader.new }
     {
         if byte <= 1 {
             return match read_pair(reader) {
@@ -111,30 +105,23 @@ impl Handle {
     pub fn read(reader: &mut BinaryReader<'_>) -> Result<Handle>
         ensures { Reads EncodesHandle HandleFault result reader.old reader.new }
     {
-        let start = reader.current_position();
-        let byte = match reader.read_u8() {
-            Ok(byte) => byte,
-            Err(e) => return Err(e),
-        };
+        let mut ahead = reader.clone();
+        let byte = ahead.read_u8()?;
         if byte > 1 {
-            return Err(reader.refuse(
-                start,
+            return Err(Error::new(
                 Message::InvalidLeadingByte(byte, LeadingByteName::OnClause),
+                reader.original_position(),
             ));
         }
-        match Handle::read_after_byte(reader, byte) {
-            Ok(handle) => Ok(handle),
-            Err(e) => {
-                reader.rewind(start);
-                Err(e)
-            }
-        }
+        let handle = Handle::read_after_byte(&mut ahead, byte)?;
+        *reader = ahead;
+        Ok(handle)
     }
 
     #[inline(always)]
     fn read_after_byte(reader: &mut BinaryReader<'_>, byte: u8) -> Result<Handle>
         requires { byte ≤ 1 }
-        ensures { Reads (IsHandleAfterByte byte) (IndicesFault 0 byte) result reader.old reader.new }
+        ensures { ReadsAhead (IsHandleAfterByte byte) (IndicesFault 0 byte) result reader.old reader.new }
     {
         if byte == 0 {
             return match read_pair(reader) {
@@ -169,18 +156,9 @@ impl<'a> FromReader<'a> for Handle {
 
 #[inline(always)]
 fn read_pair(reader: &mut BinaryReader<'_>) -> Result<(u32, u32)>
-    ensures { Reads EncodesPair PairFault result reader.old reader.new }
+    ensures { ReadsAhead EncodesPair PairFault result reader.old reader.new }
 {
-    let start = reader.current_position();
-    let first = match reader.read_var_u32() {
-        Ok(first) => first,
-        Err(e) => return Err(e),
-    };
-    match reader.read_var_u32() {
-        Ok(second) => Ok((first, second)),
-        Err(e) => {
-            reader.rewind(start);
-            Err(e)
-        }
-    }
+    let first = reader.read_var_u32()?;
+    let second = reader.read_var_u32()?;
+    Ok((first, second))
 }

@@ -46,20 +46,16 @@ pub fn read_members<'a, T: FromReader<'a>>(
         (ManyFault (T.encodes reader.old.features) T.fault count) (λ old. ⊤) result reader.old reader.new }
 {
     T::is_prefix_code();
-    let start = reader.current_position();
+    let mut ahead = reader.clone();
     let mut items = match Vec::with_capacity(alloc, count) {
         Ok(items) => items,
         Err(_) => return Err(Error::new(Message::OutOfMemory, reader.original_position())),
     };
     for _member in 0..count {
-        match T::from_reader(alloc, reader) {
-            Ok(item) => items.push(item).unwrap(),
-            Err(e) => {
-                reader.rewind(start);
-                return Err(e);
-            }
-        }
+        let item = T::from_reader(alloc, &mut ahead)?;
+        items.push(item).unwrap();
     }
+    *reader = ahead;
     Ok(Members::from_vec(items))
 }
 

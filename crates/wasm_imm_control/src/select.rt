@@ -27,22 +27,19 @@ impl Select {
         ensures { ReadsValue EncodesSelect SelectFault SelectAllocates result reader.old reader.new }
     {
         let start = reader.current_position();
-        let count = match reader.read_size(MAX_SELECT_TYPES, SizeName::SelectTypes) {
-            Ok(count) => count,
-            Err(e) => return Err(e),
-        };
+        let mut ahead = reader.clone();
+        let count = ahead.read_size(MAX_SELECT_TYPES, SizeName::SelectTypes)?;
         if count == 1 {
-            return match ValType::read(reader) {
-                Ok(ty) => Ok(Select::One { ty }),
-                Err(e) => {
-                    reader.rewind(start);
-                    Err(e)
-                }
-            };
+            let ty = ValType::read(&mut ahead)?;
+            *reader = ahead;
+            return Ok(Select::One { ty });
         }
-        match read_members::<ValType>(alloc, reader, count) {
-            Ok(tys) => Ok(Select::Multi { tys }),
-            Err(e) => Err(refuse_from(reader, start, e)),
+        match read_members::<ValType>(alloc, &mut ahead, count) {
+            Ok(tys) => {
+                *reader = ahead;
+                Ok(Select::Multi { tys })
+            }
+            Err(e) => Err(refuse_from(&mut ahead, start, e)),
         }
     }
 }

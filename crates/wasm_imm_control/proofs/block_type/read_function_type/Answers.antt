@@ -1,12 +1,15 @@
-use Rattle.std.proofs.Common.{◌≡◌, ◌∙◌, ℕ, ℤ, pos, false, Fits, w32, sym, ap, subst, arith, rules, w64, ◌<ℤ◌}
+use Rattle.std.proofs.Common.{◌≡◌, ◌∙◌, ℕ, ℤ, pos, false, Fits, w32, refl, sym, ap, subst, arith, rules, w64, ◌<ℤ◌}
 use Rattle.std.proofs.Math.Dec.{T}
 use Rattle.std.proofs.lemmas.Int.{ints, to_z-of_z}
-use Rattle.std.proofs.lemmas.Result.{err_from_is_err_and}
 use lib.IntN.{nat_abs}
 use lib.Signed.{non_neg, lt_z}
 use mir.Val.{SFits}
+use Rattle.wasm_below.specs.Number.{EncodesSigned}
+use Rattle.wasm_below.proofs.Ahead.{stays, advances}
 use Rattle.wasm_below.proofs.SignedNumbers.{signed_fits}
-use Rattle.wasm_imm_control.proofs.BlockTypes.{cast_fits, index_missing, negative_refused}
+use Rattle.wasm_imm_control.specs.BlockTypeFaults.{FunctionTypeFault}
+use Rattle.wasm_imm_control.specs.BlockTypes.{EncodesFunctionType}
+use Rattle.wasm_imm_control.proofs.BlockTypes.{cast_fits, index_fails, negative_fails}
 use Rattle.wasm_imm_control.proofs.block_type.read_function_type.Goals as goal
 
 pub overflow_cast-result : goal.overflow_cast-result
@@ -24,11 +27,12 @@ returns-then-index-lt0 c =
     let same = to_z-of_z w64 c.in_ok-index.index fits in
     let over : (i : ℕ) → c.in_ok-index.index ≡ pos i → ⊥ = λ i e. absurd (omega (arith, ints, c.if-index-lt0.true, same, e)) in
     let under : c.in_ok-index.index <ℤ pos 0 = omega (arith, ints, c.if-index-lt0.true, same) in
-    let offset = c.new.ensures.offset ∙ c.original_position-after.ensures in
-    negative_refused c.new.result c.args.reader.now c.read_var_s33.new.self c.rewind.new.self c.in_ok-index.index c.current_position-start.result
-    c.in_ok-index.ensures over c.current_position-start.ensures c.rewind.ensures offset (under, c.new.ensures.message, offset)
+    let offset = c.new.ensures.offset ∙ c.original_position.ensures in
+    let read = advances (EncodesSigned 33) c.clone-ahead.ensures c.in_ok-index.ensures in
+    let k = negative_fails _ _ c.in_ok-index.index read over offset (under, c.new.ensures.message, offset) in
+    (refl, k.0, k.1)
 
 pub returns-in_err-index : goal.returns-in_err-index
 returns-in_err-index c =
-    let p = err_from_is_err_and c.from_residual.result c.from_residual.ensures.1 in
-    rw (p.1, p.2) (index_missing c.in_err-index.field-0.0 c.args.reader.now c.read_var_s33.new.self c.in_err-index.ensures)
+    let h = c.in_err-index.ensures in
+    stays EncodesFunctionType FunctionTypeFault _ c.clone-ahead.ensures c.from_residual.ensures.1 (index_fails (h.1, h.2))

@@ -1,30 +1,45 @@
-use Rattle.std.proofs.Common.{◌≤◌, arith}
-use Rattle.wasm_imm_control.proofs.Casts.{label_refused, first_refused, second_refused, cast_read}
+use Rattle.std.proofs.Common.{◌≤◌, ◌∙◌, refl, arith}
+use Rattle.wasm_below.specs.Source.{IsByte}
+use Rattle.wasm_below.proofs.Ahead.{stays, advances}
+use Rattle.wasm_imm_control.specs.CastFaults.{CastFault}
+use Rattle.wasm_imm_control.specs.Casts.{EncodesCast}
+use Rattle.wasm_imm_control.proofs.Casts.{flags_fail, flags_over, label_fails, from_fails, to_fails, cast_read}
 use Rattle.wasm_imm_control.proofs.cast.Cast.read.Goals as goal
 
-pub returns-in-Err-read_var_u32 : goal.returns-in-Err-read_var_u32
-returns-in-Err-read_var_u32 c =
-    label_refused c.args.reader.now c.read_u8.new.self c.in-Ok.flags c.in-Ok.ensures c.in-Err-read_var_u32.e c.read_var_u32.new.self c.rewind.new.self
-    c.current_position-start.result c.in-Err-read_var_u32.ensures c.current_position-start.ensures c.rewind.ensures
+pub returns-in_err-flags : goal.returns-in_err-flags
+returns-in_err-flags c =
+    let h = c.in_err-flags.ensures in
+    stays EncodesCast CastFault _ c.clone-ahead.ensures c.from_residual.ensures.1 (flags_fail (h.1, h.2))
 
-pub returns-in-Err-read_reference : goal.returns-in-Err-read_reference
-returns-in-Err-read_reference c =
-    let low : c.in-Ok.flags ≤ 3 = omega arith in
-    first_refused c.args.reader.now c.read_u8.new.self c.in-Ok.flags c.in-Ok.ensures c.in-Err-read_reference.e c.read_var_u32.new.self
-    c.read_reference.new.reader c.rewind-in-Err-read_reference.new.self c.in-Ok-read_var_u32.relative_depth c.current_position-start.result low
-    c.in-Ok-read_var_u32.ensures c.in-Err-read_reference.ensures c.current_position-start.ensures c.rewind-in-Err-read_reference.ensures
+pub returns-in_err-relative_depth : goal.returns-in_err-relative_depth
+returns-in_err-relative_depth c =
+    let h = c.in_err-relative_depth.ensures in
+    stays EncodesCast CastFault _ c.clone-ahead.ensures c.from_residual-in_err-relative_depth.ensures.1
+    (label_fails _ _ _ c.in_ok-flags.ensures (h.1, h.2))
 
-pub returns-in-Err-read_reference-2 : goal.returns-in-Err-read_reference-2
-returns-in-Err-read_reference-2 c =
-    let low : c.in-Ok.flags ≤ 3 = omega arith in
-    second_refused c.args.reader.now c.read_u8.new.self c.in-Ok.flags c.in-Ok.ensures c.in-Err-read_reference-2.e c.read_var_u32.new.self
-    c.read_reference.new.reader c.read_reference-2.new.reader c.rewind-in-Err-read_reference-2.new.self c.in-Ok-read_var_u32.relative_depth
-    c.in-Ok-read_reference.from c.current_position-start.result low c.in-Ok-read_var_u32.ensures c.in-Ok-read_reference.ensures
-    c.in-Err-read_reference-2.ensures c.current_position-start.ensures c.rewind-in-Err-read_reference-2.ensures
+pub returns-then-flags-gt3 : goal.returns-then-flags-gt3
+returns-then-flags-gt3 c =
+    let flagged = advances IsByte c.clone-ahead.ensures c.in_ok-flags.ensures in
+    let k =
+    flags_over _ _ _ flagged c.if-flags-gt3.true _ _ c.in_ok-relative_depth.ensures c.new.ensures.message (c.new.ensures.offset ∙ c.original_position.ensures) in
+    (refl, k.0, k.1)
 
-pub returns-in-Ok-read_reference-2 : goal.returns-in-Ok-read_reference-2
-returns-in-Ok-read_reference-2 c =
-    let le : c.in-Ok.flags ≤ 3 = omega arith in
-    cast_read c.args.reader.now c.read_u8.new.self c.in-Ok.flags c.in-Ok.ensures c.read_var_u32.new.self c.read_reference.new.reader
-    c.read_reference-2.new.reader c.in-Ok-read_var_u32.relative_depth c.in-Ok-read_reference.from c.in-Ok-read_reference-2.to le
-    c.in-Ok-read_var_u32.ensures c.in-Ok-read_reference.ensures c.in-Ok-read_reference-2.ensures
+pub returns-in_err-from : goal.returns-in_err-from
+returns-in_err-from c =
+    let h = c.in_err-from.ensures in
+    let low : c.in_ok-flags.flags ≤ 3 = omega arith in
+    stays EncodesCast CastFault _ c.clone-ahead.ensures c.from_residual-in_err-from.ensures.1
+    (from_fails _ _ _ c.in_ok-flags.ensures _ _ low c.in_ok-relative_depth.ensures (h.1, h.2))
+
+pub returns-in_err-to : goal.returns-in_err-to
+returns-in_err-to c =
+    let h = c.in_err-to.ensures in
+    let low : c.in_ok-flags.flags ≤ 3 = omega arith in
+    stays EncodesCast CastFault _ c.clone-ahead.ensures c.from_residual-in_err-to.ensures.1
+    (to_fails _ _ _ c.in_ok-flags.ensures _ _ _ _ low c.in_ok-relative_depth.ensures c.in_ok-from.ensures (h.1, h.2))
+
+pub returns : goal.returns
+returns c =
+    let low : c.in_ok-flags.flags ≤ 3 = omega arith in
+    advances EncodesCast c.clone-ahead.ensures
+    (cast_read _ _ _ c.in_ok-flags.ensures _ _ _ _ _ _ low c.in_ok-relative_depth.ensures c.in_ok-from.ensures c.in_ok-to.ensures)

@@ -1,5 +1,5 @@
 use Rattle.std.proofs.Common.{◌≤◌, inl, arith}
-use Rattle.wasm_below.proofs.Steps.{missing_as}
+use Rattle.wasm_below.proofs.Ahead.{fails_as}
 use Rattle.wasm_imm_control.specs.HandlerFaults.{PairFault, IndicesFault}
 use Rattle.wasm_imm_control.specs.Handlers.{EncodesPair, IsHandleAfterByte}
 use Rattle.wasm_imm_control.proofs.HandlerLemmas.{handle_pair}
@@ -9,5 +9,4 @@ pub returns-in-Err : goal.returns-in-Err
 returns-in-Err c =
     let byte = c.args.byte in
     let low : byte ≤ 0 = omega (arith, c.if-byte-eq0.true) in
-    missing_as EncodesPair (IsHandleAfterByte byte) PairFault (IndicesFault 0 byte) c.in-Err.e c.args.reader.now c.read_pair.new.reader
-    (handle_pair byte c.if-byte-eq0.true) (λ m offset h. inl (low, h)) c.in-Err.ensures
+    fails_as EncodesPair (IsHandleAfterByte byte) PairFault (IndicesFault 0 byte) (handle_pair byte c.if-byte-eq0.true) (λ f. inl (low, f)) c.in-Err.ensures

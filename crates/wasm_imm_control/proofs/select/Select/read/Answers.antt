@@ -1,32 +1,44 @@
 use Rattle.std.proofs.Common.{◌++◌, refl, sym, ◌∙◌}
+use Rattle.wasm_below.specs.Number.{EncodesSize}
+use Rattle.wasm_below.proofs.Ahead.{advances}
 use Rattle.wasm_below.proofs.TakesLemmas.{takes_then}
-use Rattle.wasm_imm_control.proofs.HandlerTables.{one_read, count_missing, type_refused, types_refused}
+use Rattle.wasm_imm_control.specs.declared.select.Select.TheVariants as select
+use Rattle.wasm_imm_control.specs.HandlerTables.{max_select_types, EncodesSelect, SelectAllocates}
+use Rattle.wasm_imm_control.specs.ListFaults.{SelectFault}
+use Rattle.wasm_imm_control.proofs.HandlerTables.{one_read, count_fails, type_fails, types_refused}
+use Rattle.wasm_imm_control.proofs.ListRefusals.{stays_refused}
 use Rattle.wasm_imm_control.proofs.select.Select.read.Goals as goal
 
-pub returns-in-Err : goal.returns-in-Err
-returns-in-Err c = count_missing c.in-Err.e c.args.reader.now c.read_size.new.self c.in-Err.ensures
+pub returns-in_err-count : goal.returns-in_err-count
+returns-in_err-count c =
+    let h = c.in_err-count.ensures in
+    stays_refused EncodesSelect SelectFault SelectAllocates _ c.clone-ahead.ensures c.from_residual.ensures.1
+    (count_fails (h.1, h.2))
 
-pub returns-in-Ok-read : goal.returns-in-Ok-read
-returns-in-Ok-read c =
-    one_read c.args.reader.now c.read_size.new.self c.read.new.reader c.in-Ok.count c.in-Ok-read.ty c.if-count-eq1.true c.in-Ok.ensures
-    c.in-Ok-read.ensures
+pub returns-in_err-ty : goal.returns-in_err-ty
+returns-in_err-ty c =
+    let h = c.in_err-ty.ensures in
+    stays_refused EncodesSelect SelectFault SelectAllocates _ c.clone-ahead.ensures c.from_residual-in_err-ty.ensures.1
+    (type_fails _ _ _ c.if-count-eq1.true c.in_ok-count.ensures (h.1, h.2))
 
-pub returns-in-Err-read : goal.returns-in-Err-read
-returns-in-Err-read c =
-    type_refused c.in-Err-read.e c.args.reader.now c.read_size.new.self c.read.new.reader c.rewind.new.self c.in-Ok.count c.current_position-start.result
-    c.if-count-eq1.true c.in-Ok.ensures c.in-Err-read.ensures c.current_position-start.ensures c.rewind.ensures
+pub returns-then-count-eq1 : goal.returns-then-count-eq1
+returns-then-count-eq1 c = advances EncodesSelect {x = select.One c.in_ok-ty.ty} c.clone-ahead.ensures (one_read _ _ _ _ _ c.if-count-eq1.true c.in_ok-count.ensures c.in_ok-ty.ensures)
 
-pub returns-in-Ok-read_members : goal.returns-in-Ok-read_members
-returns-in-Ok-read_members c =
-    let s = c.in-Ok.ensures in
-    let m = c.in-Ok-read_members.ensures in (
+pub returns-in-Ok : goal.returns-in-Ok
+returns-in-Ok c =
+    let s = c.in_ok-count.ensures in
+    let m = c.in-Ok.ensures in
+    advances EncodesSelect {x = select.Multi c.in-Ok.tys} c.clone-ahead.ensures (
       s.0 ++ m.0,
-      ((s.0, m.0, c.in-Ok.count, refl, s.1, m.1), λ one. c.if-count-eq1.false (sym m.1.0 ∙ one)),
-      takes_then c.args.reader.now c.read_size.new.self c.read_members.new.reader s.0 m.0 s.2 m.2,
+      ((s.0, m.0, c.in_ok-count.count, refl, s.1, m.1), λ one. c.if-count-eq1.false (sym m.1.0 ∙ one)),
+      takes_then c.clone-ahead.result c.read_size.new.self c.read_members.new.reader s.0 m.0 s.2 m.2,
     )
 
-pub returns-in-Err-read_members : goal.returns-in-Err-read_members
-returns-in-Err-read_members c =
-    types_refused c.in-Err-read_members.e c.refuse_from.result c.args.reader.now c.read_size.new.self c.read_members.new.reader c.refuse_from.new.reader
-    c.in-Ok.count c.current_position-start.result c.in-Ok.ensures c.if-count-eq1.false c.in-Err-read_members.ensures
-    c.current_position-start.ensures c.refuse_from.ensures.back c.refuse_from.ensures.reported
+pub returns-in-Err : goal.returns-in-Err
+returns-in-Err c =
+    let old = c.args.reader.now in
+    let counted = advances (EncodesSize max_select_types) c.clone-ahead.ensures c.in_ok-count.ensures in
+    let gone = types_refused c.in-Err.e c.refuse_from.result old c.read_size.new.self c.read_members.new.reader c.refuse_from.new.reader c.in_ok-count.count
+    c.current_position-start.result counted c.if-count-eq1.false c.in-Err.ensures c.current_position-start.ensures c.refuse_from.ensures.back
+    c.refuse_from.ensures.reported in
+    (refl, gone.1)
