@@ -5,10 +5,10 @@ use Rattle.wasm_imm_control.specs.below.bytes.error.Error.{Error}
 use Rattle.wasm_imm_control.specs.below.Features.{HasFeature, multi_memory, acquire_release_atomics, multibyte_array_access}
 use Rattle.wasm_imm_control.specs.below.Number.{EncodesUnsigned}
 use Rattle.wasm_imm_control.specs.below.Refusal.{IsReadFault}
-use Rattle.wasm_imm_control.specs.below.Source.{Reader, at_position, Takes, IsRefusal, HasRead}
+use Rattle.wasm_imm_control.specs.below.Source.{Reader, offset_of, IsRefusal, HasRead}
 use Rattle.wasm_imm_control.specs.below.Sequence.{Then, PrefixCode}
 use Rattle.wasm_imm_control.proofs.of_below.PrefixCode.{unsigned_prefix_code}
-use Rattle.wasm_imm_control.proofs.of_below.TakesLemmas.{takes_then, takes_none, back}
+use Rattle.wasm_imm_control.proofs.of_below.TakesLemmas.{takes_then, takes_none}
 use Rattle.wasm_imm_control.proofs.of_below.Sequences.{then_first, then_second, then_prefix_code, refuses_by}
 use Rattle.wasm_imm_control.proofs.of_below.Steps.{number_prefix_code, unsigned_some, first_rules_out}
 use Rattle.wasm_imm.specs.declared.memory_argument.MemArg.{MemArg}
@@ -261,49 +261,33 @@ after_ok f k max flags index byte after t o offset ht ho hb nr nb =
     }
 
 module _ (f : WasmFeatures) (k : MemArgKind) (max flags : ℕ) (old mid : Reader) (flagged : HasRead (EncodesUnsigned 32) flags old mid) where
-  pub ruled_out : (e : Error) (now new : Reader) (text : List ℕ) (position : ℕ) → Takes old now text → position ≡ old.position →
-      new ≡ at_position now position → e.offset ≡ now.start + position → IsReadFault e.message → NotAfterFlags f k max flags →
-      (new ≡ old) × IsRefusal (EncodesMemArg f k max) e old
-  ruled_out e now new text position t at went offset fault none =
-      let start : now.start ≡ old.start = ap (λ (r : Reader). r.start) t.moved in
-      first_rules_out (EncodesUnsigned 32) (EncodesAfterFlags f k max) e old mid new flags (number_prefix_code 32) (λ text p. unsigned_some 32 text flags p)
-      flagged none (back old now new text position t at went) (omega (arith, offset, start, at)) fault
+  pub ruled_out : (e : Error) → e.offset ≡ offset_of old → IsReadFault e.message → NotAfterFlags f k max flags → IsRefusal (EncodesMemArg f k max) e old
+  ruled_out e at fault none =
+      (first_rules_out (EncodesUnsigned 32) (EncodesAfterFlags f k max) e old mid old flags (number_prefix_code 32) (λ text p. unsigned_some 32 text flags p)
+      flagged none refl at fault).1
 
-  after_refused : (e : Error) (now new : Reader) (text : List ℕ) (position : ℕ) → Takes old now text → position ≡ old.position →
-      new ≡ at_position now position → IsRefusal (Stages f k max flags) e mid → (new ≡ old) × IsRefusal (EncodesMemArg f k max) e old
-  after_refused e now new text position t at went h = (
-    back old now new text position t at went,
-    then_second (EncodesUnsigned 32) (EncodesAfterFlags f k max) e old mid flags (number_prefix_code 32) flagged
-        (refuses_by (Stages f k max flags) (EncodesAfterFlags f k max flags) e mid (λ text m b. (m, to_stages f k max flags text m b)) h),
-  )
+  after_refused : (e : Error) → IsRefusal (Stages f k max flags) e mid → IsRefusal (EncodesMemArg f k max) e old
+  after_refused e h =
+      then_second (EncodesUnsigned 32) (EncodesAfterFlags f k max) e old mid flags (number_prefix_code 32) flagged
+      (refuses_by (Stages f k max flags) (EncodesAfterFlags f k max flags) e mid (λ text m b. (m, to_stages f k max flags text m b)) h)
 
   abbrev after_target : MemArgTarget → List ℕ → MemArg → Type 0
   after_target t = Then (IsOrdering f k flags) (Last f max flags t)
 
-  pub target_refused : (e : Error) (mid2 new : Reader) (position : ℕ) → (mid2 ≡ mid) × IsRefusal (IsTarget f flags) e mid → position ≡ old.position →
-      new ≡ at_position mid2 position → (new ≡ old) × IsRefusal (EncodesMemArg f k max) e old
-  target_refused e mid2 new position h at went =
-      after_refused e mid new flagged.0 position flagged.2 at (went ∙
-      ap (λ (r : Reader). at_position r position) h.0) (then_first (IsTarget f flags) after_target e mid h.1)
+  pub target_refused : (e : Error) → IsRefusal (IsTarget f flags) e mid → IsRefusal (EncodesMemArg f k max) e old
+  target_refused e h = after_refused e (then_first (IsTarget f flags) after_target e mid h)
 
-  pub ordering_refused : (e : Error) (now now2 new : Reader) (t : MemArgTarget) (position : ℕ) → HasRead (IsTarget f flags) t mid now →
-      (now2 ≡ now) × IsRefusal (IsOrdering f k flags) e now → position ≡ old.position → new ≡ at_position now2 position →
-      (new ≡ old) × IsRefusal (EncodesMemArg f k max) e old
-  ordering_refused e now now2 new t position rt h at went =
-      after_refused e now new (flagged.0 ++ rt.0) position (takes_then old mid now flagged.0 rt.0 flagged.2 rt.2) at (went ∙
-      ap (λ (r : Reader). at_position r position) h.0)
-      (then_second (IsTarget f flags) after_target e mid now t (target_prefix_code f flags) rt
-      (then_first (IsOrdering f k flags) (Last f max flags t) e now h.1))
+  pub ordering_refused : (e : Error) (now : Reader) (t : MemArgTarget) → HasRead (IsTarget f flags) t mid now → IsRefusal (IsOrdering f k flags) e now →
+      IsRefusal (EncodesMemArg f k max) e old
+  ordering_refused e now t rt h =
+      after_refused e (then_second (IsTarget f flags) after_target e mid now t (target_prefix_code f flags) rt
+      (then_first (IsOrdering f k flags) (Last f max flags t) e now h))
 
-  pub offset_refused : (e : Error) (now last last2 new : Reader) (t : MemArgTarget) (o : Option MemArgOrdering) (position : ℕ) →
-      HasRead (IsTarget f flags) t mid now → HasRead (IsOrdering f k flags) o now last → (last2 ≡ last) × IsRefusal (EncodesOffset f) e last →
-      position ≡ old.position → new ≡ at_position last2 position → (new ≡ old) × IsRefusal (EncodesMemArg f k max) e old
-  offset_refused e now last last2 new t o position rt ro h at went =
-      let taken = takes_then old now last (flagged.0 ++ rt.0) ro.0 (takes_then old mid now flagged.0 rt.0 flagged.2 rt.2) ro.2 in
-      let third = refuses_by (EncodesOffset f) (Last f max flags t o) e last (λ text m s. (m.offset, s.0)) h.1 in
-      after_refused e last new ((flagged.0 ++ rt.0) ++ ro.0) position taken at (went ∙
-      ap (λ (r : Reader). at_position r position) h.0)
-      (then_second (IsTarget f flags) after_target e mid now t (target_prefix_code f flags) rt
+  pub offset_refused : (e : Error) (now last : Reader) (t : MemArgTarget) (o : Option MemArgOrdering) → HasRead (IsTarget f flags) t mid now →
+      HasRead (IsOrdering f k flags) o now last → IsRefusal (EncodesOffset f) e last → IsRefusal (EncodesMemArg f k max) e old
+  offset_refused e now last t o rt ro h =
+      let third = refuses_by (EncodesOffset f) (Last f max flags t o) e last (λ text m s. (m.offset, s.0)) h in
+      after_refused e (then_second (IsTarget f flags) after_target e mid now t (target_prefix_code f flags) rt
       (then_second (IsOrdering f k flags) (Last f max flags t) e now last o (ordering_prefix_code f k flags) ro third))
 
   pub all_read : (now last new : Reader) (t : MemArgTarget) (o : Option MemArgOrdering) (offset : ℕ) → HasRead (IsTarget f flags) t mid now →
@@ -331,10 +315,8 @@ module _ (f : WasmFeatures) (k : MemArgKind) (max flags : ℕ) (old mid : Reader
     pub no_ordering : HasRead {X = Option MemArgOrdering} (IsOrdering f k flags) None mid mid
     no_ordering = ([], (none_announced f acquire_release_atomics flags 16 (omega arith), refl), takes_none mid)
 
-    pub short_refused : (e : Error) (mid2 new : Reader) (position : ℕ) → (mid2 ≡ mid) × IsRefusal (EncodesOffset f) e mid → position ≡ old.position →
-        new ≡ at_position mid2 position → (new ≡ old) × IsRefusal (EncodesMemArg f k max) e old
-    short_refused e mid2 new position h at went =
-        offset_refused f k max flags old mid flagged e mid mid mid2 new (target.Memory 0) None position memory_zero no_ordering h at went
+    pub short_refused : (e : Error) → IsRefusal (EncodesOffset f) e mid → IsRefusal (EncodesMemArg f k max) e old
+    short_refused e h = offset_refused f k max flags old mid flagged e mid mid (target.Memory 0) None memory_zero no_ordering h
 
     pub none_reserved : ¬ IsReserved f flags
     none_reserved (inl r) = absurd (omega arith)

@@ -1,4 +1,5 @@
 ghost use Rattle.std.specs.Prelude.{◌≡◌, ◌/◌, ◌%◌, ◌<◌, ◌≤◌, ◌↔◌, IsTrue, IfSome, IfNone, IfErr};
+ghost use Rattle.wasm_imm_control.specs.below.Ahead.{ReadsAhead};
 ghost use Rattle.wasm_imm_control.specs.below.Source.{HasRead, Reads, at_position, offset_of};
 ghost use Rattle.wasm_imm_control.specs.below.Number.{EncodesUnsigned};
 ghost use Rattle.wasm_imm.specs.MemoryArgument.{EncodesMemArg, EncodesOffset, IsOrderingByte};
@@ -135,12 +136,19 @@ fn read_announced(
         (MemArgFault reader.old.features kind) result (at_position reader.old start) reader.new }
 {
     let mut lent = reader.clone();
-    let outcome = read_announced_out_of_line(&mut lent, start, flags, max_align, kind);
-    reader.set_position(lent.current_position());
-    outcome
+    match read_announced_out_of_line(&mut lent, start, flags, max_align, kind) {
+        Ok(argument) => {
+            reader.set_position(lent.current_position());
+            Ok(argument)
+        }
+        Err(e) => {
+            reader.rewind(start);
+            Err(e)
+        }
+    }
 }
 
-/// Reads a memory argument after its flags number. For a memory index alone, `read_rest` is inlined
+/// Reads a memory argument after its flags number, without going back on an error. For a memory index alone, `read_rest` is inlined
 /// here, so that the compiler drops the other checks.
 fn read_announced_out_of_line(
     reader: &mut BinaryReader<'_>,
@@ -152,7 +160,7 @@ fn read_announced_out_of_line(
     requires begun { start ≤ reader.old.position }
     requires flagged { HasRead (EncodesUnsigned 32) flags
         (at_position reader.old start) reader.old }
-    ensures { Reads (EncodesMemArg reader.old.features kind max_align)
+    ensures { ReadsAhead (EncodesMemArg reader.old.features kind max_align)
         (MemArgFault reader.old.features kind) result (at_position reader.old start) reader.new }
 {
     if names_memory_alone(reader.features(), flags) {
@@ -175,7 +183,7 @@ fn read_other(
     requires begun { start ≤ reader.old.position }
     requires flagged { HasRead (EncodesUnsigned 32) flags
         (at_position reader.old start) reader.old }
-    ensures { Reads (EncodesMemArg reader.old.features kind max_align)
+    ensures { ReadsAhead (EncodesMemArg reader.old.features kind max_align)
         (MemArgFault reader.old.features kind) result (at_position reader.old start) reader.new }
 {
     read_rest(reader, start, flags, max_align, kind)
@@ -192,46 +200,29 @@ fn read_rest(
     requires begun { start ≤ reader.old.position }
     requires flagged { HasRead (EncodesUnsigned 32) flags
         (at_position reader.old start) reader.old }
-    ensures { Reads (EncodesMemArg reader.old.features kind max_align)
+    ensures { ReadsAhead (EncodesMemArg reader.old.features kind max_align)
         (MemArgFault reader.old.features kind) result (at_position reader.old start) reader.new }
 {
     let features = reader.features();
     if names_both(features, flags) {
         return Err(reader.refuse(start, Message::MemoryAndArray));
     }
-    let target = match read_target(reader, features, flags) {
-        Ok(target) => target,
-        Err(e) => {
-            reader.rewind(start);
-            return Err(e);
-        }
-    };
+    let target = read_target(reader, features, flags)?;
     if orders_plain(features, kind, flags) {
         return Err(reader.refuse(start, Message::OrderingOnPlain));
     }
-    let ordering = match read_ordering(reader, features, flags, kind) {
-        Ok(ordering) => ordering,
-        Err(e) => {
-            reader.rewind(start);
-            return Err(e);
-        }
-    };
+    let ordering = read_ordering(reader, features, flags, kind)?;
     if is_reserved(features, flags) {
         return Err(reader.refuse(start, Message::ReservedFlags));
     }
-    match read_offset(reader) {
-        Ok(offset) => Ok(MemArg {
-            align: (flags % ORDERING) as u8,
-            max_align,
-            offset,
-            target,
-            ordering,
-        }),
-        Err(e) => {
-            reader.rewind(start);
-            Err(e)
-        }
-    }
+    let offset = read_offset(reader)?;
+    Ok(MemArg {
+        align: (flags % ORDERING) as u8,
+        max_align,
+        offset,
+        target,
+        ordering,
+    })
 }
 
 #[inline(always)]

@@ -47,13 +47,13 @@ impl Ordering {
         {
             return Ordering::read(reader);
         }
-        let position = reader.current_position();
-        match reader.read_u8() {
-            Ok(0x00) => Ok(Ordering::SeqCst),
-            Ok(_) => {
-                reader.rewind(position);
-                Err(Error::new(Message::NonzeroAfterFence, start))
+        let mut ahead = reader.clone();
+        match ahead.read_u8() {
+            Ok(0x00) => {
+                *reader = ahead;
+                Ok(Ordering::SeqCst)
             }
+            Ok(_) => Err(Error::new(Message::NonzeroAfterFence, start)),
             Err(e) => Err(e),
         }
     }

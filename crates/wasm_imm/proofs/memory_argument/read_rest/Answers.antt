@@ -1,10 +1,11 @@
-use Rattle.std.proofs.Common.{◌≡◌, ℕ, ◌+◌, ◌%◌, ◌++◌, ◌∙◌, Bool, true, false, inl, inr, Err, refl, sym, ap, subst, rules}
+use Rattle.std.proofs.Common.{◌≡◌, ℕ, ◌+◌, ◌%◌, ◌∙◌, Bool, true, false, inl, inr, Err, sym, ap, subst, rules}
 use Rattle.wasm_imm_control.specs.below.bytes.features.WasmFeatures.{WasmFeatures}
 use Rattle.wasm_imm_control.specs.below.bytes.error.Error.{Error}
+use Rattle.wasm_imm_control.specs.below.Ahead.{Fails}
 use Rattle.wasm_imm_control.specs.below.Number.{EncodesUnsigned}
 use Rattle.wasm_imm_control.specs.below.Refusal.{IsReadFault}
 use Rattle.wasm_imm_control.specs.below.Source.{Reader, offset_of, at_position, IsRefusal, HasRead, Reads}
-use Rattle.wasm_imm_control.proofs.of_below.TakesLemmas.{takes_then}
+use Rattle.wasm_imm_control.proofs.of_below.Ahead.{failed}
 use Rattle.wasm_imm.specs.declared.memory_argument.MemArgKind.{MemArgKind}
 use Rattle.wasm_imm.specs.MemoryArgument.{EncodesOffset, EncodesMemArg}
 use Rattle.wasm_imm.specs.FlagsNumber.{NamesBoth, OrdersPlain, IsReserved}
@@ -16,12 +17,9 @@ use Rattle.wasm_imm.proofs.memory_argument.read_rest.Goals as goal
 not_false : {b : Bool} → b ≡ true → b ≡ false → ⊥
 not_false p q = cc (p, q)
 
-abbrev Refused : WasmFeatures → MemArgKind → ℕ → Error → Reader → Reader → Type 0
-Refused f k max e old new = Reads (EncodesMemArg f k max) (MemArgFault f k) (Err e) old new
-
-under : (f g : WasmFeatures) (k : MemArgKind) (max flags : ℕ) (e : Error) (old mid new : Reader) → f ≡ g → HasRead (EncodesUnsigned 32) flags old mid →
-    (new ≡ old) × IsRefusal (EncodesMemArg f k max) e old → FlagsFault f k flags (offset_of old) e.message mid e.offset → Refused g k max e old new
-under f g k max flags e old mid new same flagged (went, h) fault = subst (λ z. Refused z k max e old new) same (went, h, inr (flags, mid, flagged, fault))
+under : (f g : WasmFeatures) (k : MemArgKind) (max flags : ℕ) (e : Error) (old mid : Reader) → f ≡ g → HasRead (EncodesUnsigned 32) flags old mid →
+    IsRefusal (EncodesMemArg f k max) e old → FlagsFault f k flags (offset_of old) e.message mid e.offset → Fails (EncodesMemArg g k max) (MemArgFault g k) e old
+under f g k max flags e old mid same flagged h fault = subst (λ z. Fails (EncodesMemArg z k max) (MemArgFault z k) e old) same (h, inr (flags, mid, flagged, fault))
 
 pub returns-then-names_both : goal.returns-then-names_both
 returns-then-names_both c =
@@ -31,22 +29,22 @@ returns-then-names_both c =
     let both : NamesBoth f c.args.flags = search rules in
     let fault : IsReadFault c.refuse.result.message = subst IsReadFault (sym c.refuse.ensures.message) tt in
     let flagged = c.requires.flagged in
-    under f mid.features c.args.kind c.args.max_align c.args.flags c.refuse.result old mid c.refuse.new.self c.features-features.ensures flagged
-    (ruled_out f c.args.kind c.args.max_align c.args.flags old mid flagged c.refuse.result mid c.refuse.new.self flagged.0 c.args.start flagged.2 refl
-    c.refuse.ensures.rewound c.refuse.ensures.offset fault (both_ruled_out f c.args.kind c.args.max_align c.args.flags both))
-    (inl (both, c.refuse.ensures.message, c.refuse.ensures.offset))
+    under f mid.features c.args.kind c.args.max_align c.args.flags c.refuse.result old mid c.features-features.ensures flagged
+    (ruled_out f c.args.kind c.args.max_align c.args.flags old mid flagged c.refuse.result c.refuse.ensures.offset fault
+    (both_ruled_out f c.args.kind c.args.max_align c.args.flags both)) (inl (both, c.refuse.ensures.message, c.refuse.ensures.offset))
 
-pub returns-in-Err : goal.returns-in-Err
-returns-in-Err c =
+pub returns-in_err-target : goal.returns-in_err-target
+returns-in_err-target c =
     let mid = c.args.reader.now in
     let old = at_position mid c.args.start in
     let f = c.features-features.result in
-    let e = c.in-Err.e in
-    let h = c.in-Err.ensures in
+    let e = c.in_err-target.field-0.0 in
+    let h = c.in_err-target.ensures in
     let one = λ (h : NamesBoth f c.args.flags). not_false (c.names_both.ensures.1 h) c.if-names_both.false in
-    under f mid.features c.args.kind c.args.max_align c.args.flags e old mid c.rewind.new.self c.features-features.ensures c.requires.flagged
-    (target_refused f c.args.kind c.args.max_align c.args.flags old mid c.requires.flagged e c.read_target.new.reader c.rewind.new.self c.args.start
-    (h.0, h.1) refl c.rewind.ensures) (target_fault f c.args.kind c.args.flags (offset_of old) mid one e h.1 h.2)
+    failed (EncodesMemArg mid.features c.args.kind c.args.max_align) (MemArgFault mid.features c.args.kind) _ _ c.from_residual.ensures.1
+    (under f mid.features c.args.kind c.args.max_align c.args.flags e old mid c.features-features.ensures c.requires.flagged
+    (target_refused f c.args.kind c.args.max_align c.args.flags old mid c.requires.flagged e h.1)
+    (target_fault f c.args.kind c.args.flags (offset_of old) mid one e h.1 h.2))
 
 pub returns-then-orders_plain : goal.returns-then-orders_plain
 returns-then-orders_plain c =
@@ -57,33 +55,31 @@ returns-then-orders_plain c =
     let plain : OrdersPlain f c.args.kind c.args.flags = search rules in
     let fault : IsReadFault r.result.message = subst IsReadFault (sym r.ensures.message) tt in
     let flagged = c.requires.flagged in
-    let t = c.in-Ok.ensures in
+    let t = c.in_ok-target.ensures in
     let now = c.read_target.new.reader in
     let starts : now.start ≡ mid.start = ap (λ (r : Reader). r.start) t.2.moved in
     let here : r.result.offset ≡ offset_of old = r.ensures.offset ∙ ap (λ n. n + c.args.start) starts in
     let one = λ (h : NamesBoth f c.args.flags). not_false (c.names_both.ensures.1 h) c.if-names_both.false in
-    under f mid.features c.args.kind c.args.max_align c.args.flags r.result old mid r.new.self c.features-features.ensures flagged
-    (ruled_out f c.args.kind c.args.max_align c.args.flags old mid flagged r.result now r.new.self (flagged.0 ++ t.0) c.args.start
-    (takes_then old mid now flagged.0 t.0 flagged.2 t.2) refl r.ensures.rewound r.ensures.offset fault
+    under f mid.features c.args.kind c.args.max_align c.args.flags r.result old mid c.features-features.ensures flagged
+    (ruled_out f c.args.kind c.args.max_align c.args.flags old mid flagged r.result here fault
     (plain_ruled_out f c.args.kind c.args.max_align c.args.flags plain))
-    (plain_fault f c.args.kind c.args.flags (offset_of old) mid one c.in-Ok.target now t r.result.message r.result.offset plain r.ensures.message here)
+    (plain_fault f c.args.kind c.args.flags (offset_of old) mid one c.in_ok-target.target now t r.result.message r.result.offset plain r.ensures.message here)
 
-pub returns-in-Err-read_ordering : goal.returns-in-Err-read_ordering
-returns-in-Err-read_ordering c =
+pub returns-in_err-ordering : goal.returns-in_err-ordering
+returns-in_err-ordering c =
     let mid = c.args.reader.now in
     let old = at_position mid c.args.start in
     let f = c.features-features.result in
-    let e = c.in-Err-read_ordering.e in
-    let h = c.in-Err-read_ordering.ensures in
-    let t = c.in-Ok.ensures in
+    let e = c.in_err-ordering.field-0.0 in
+    let h = c.in_err-ordering.ensures in
+    let t = c.in_ok-target.ensures in
     let now = c.read_target.new.reader in
     let one = λ (h : NamesBoth f c.args.flags). not_false (c.names_both.ensures.1 h) c.if-names_both.false in
     let may = λ (h : OrdersPlain f c.args.kind c.args.flags). not_false (c.orders_plain.ensures.1 h) c.if-orders_plain.false in
-    under f mid.features c.args.kind c.args.max_align c.args.flags e old mid c.rewind-in-Err-read_ordering.new.self c.features-features.ensures
-    c.requires.flagged
-    (ordering_refused f c.args.kind c.args.max_align c.args.flags old mid c.requires.flagged e now c.read_ordering.new.reader
-    c.rewind-in-Err-read_ordering.new.self c.in-Ok.target c.args.start t (h.0, h.1) refl c.rewind-in-Err-read_ordering.ensures)
-    (ordering_fault f c.args.kind c.args.flags (offset_of old) mid one c.in-Ok.target now t may e h.1 h.2)
+    failed (EncodesMemArg mid.features c.args.kind c.args.max_align) (MemArgFault mid.features c.args.kind) _ _ c.from_residual-in_err-ordering.ensures.1
+    (under f mid.features c.args.kind c.args.max_align c.args.flags e old mid c.features-features.ensures c.requires.flagged
+    (ordering_refused f c.args.kind c.args.max_align c.args.flags old mid c.requires.flagged e now c.in_ok-target.target t h.1)
+    (ordering_fault f c.args.kind c.args.flags (offset_of old) mid one c.in_ok-target.target now t may e h.1 h.2))
 
 pub returns-then-is_reserved : goal.returns-then-is_reserved
 returns-then-is_reserved c =
@@ -94,58 +90,56 @@ returns-then-is_reserved c =
     let reserved : IsReserved f c.args.flags = c.is_reserved.ensures.0 c.if-is_reserved.true in
     let fault : IsReadFault r.result.message = subst IsReadFault (sym r.ensures.message) tt in
     let flagged = c.requires.flagged in
-    let t = c.in-Ok.ensures in
-    let o = c.in-Ok-read_ordering.ensures in
+    let t = c.in_ok-target.ensures in
+    let o = c.in_ok-ordering.ensures in
     let now = c.read_target.new.reader in
     let last = c.read_ordering.new.reader in
     let starts : last.start ≡ mid.start = ap (λ (r : Reader). r.start) o.2.moved ∙ ap (λ (r : Reader). r.start) t.2.moved in
     let here : r.result.offset ≡ offset_of old = r.ensures.offset ∙ ap (λ n. n + c.args.start) starts in
     let one = λ (h : NamesBoth f c.args.flags). not_false (c.names_both.ensures.1 h) c.if-names_both.false in
     let may = λ (h : OrdersPlain f c.args.kind c.args.flags). not_false (c.orders_plain.ensures.1 h) c.if-orders_plain.false in
-    under f mid.features c.args.kind c.args.max_align c.args.flags r.result old mid r.new.self c.features-features.ensures flagged
-    (ruled_out f c.args.kind c.args.max_align c.args.flags old mid flagged r.result last r.new.self ((flagged.0 ++ t.0) ++ o.0) c.args.start
-    (takes_then old now last (flagged.0 ++ t.0) o.0 (takes_then old mid now flagged.0 t.0 flagged.2 t.2) o.2) refl r.ensures.rewound r.ensures.offset
-    fault (reserved_ruled_out f c.args.kind c.args.max_align c.args.flags reserved))
-    (reserved_fault f c.args.kind c.args.flags (offset_of old) mid one c.in-Ok.target now t may c.in-Ok-read_ordering.ordering last o r.result.message
+    under f mid.features c.args.kind c.args.max_align c.args.flags r.result old mid c.features-features.ensures flagged
+    (ruled_out f c.args.kind c.args.max_align c.args.flags old mid flagged r.result here fault
+    (reserved_ruled_out f c.args.kind c.args.max_align c.args.flags reserved))
+    (reserved_fault f c.args.kind c.args.flags (offset_of old) mid one c.in_ok-target.target now t may c.in_ok-ordering.ordering last o r.result.message
     r.result.offset reserved r.ensures.message here)
 
-pub returns-in-Err-read_offset : goal.returns-in-Err-read_offset
-returns-in-Err-read_offset c =
+pub returns-in_err-offset : goal.returns-in_err-offset
+returns-in_err-offset c =
     let mid = c.args.reader.now in
     let old = at_position mid c.args.start in
     let f = c.features-features.result in
-    let t = c.in-Ok.ensures in
-    let o = c.in-Ok-read_ordering.ensures in
+    let t = c.in_ok-target.ensures in
+    let o = c.in_ok-ordering.ensures in
     let last = c.read_ordering.new.reader in
     let same : last.features ≡ f = ap (λ (r : Reader). r.features) o.2.moved ∙ ap (λ (r : Reader). r.features) t.2.moved ∙ sym c.features-features.ensures in
-    let e = c.in-Err-read_offset.e in
-    let h = subst (λ (z : WasmFeatures). Reads (EncodesOffset z) (OffsetFault z) (Err e) last c.read_offset.new.reader) same
-    c.in-Err-read_offset.ensures in
+    let e = c.in_err-offset.field-0.0 in
+    let h = subst (λ (z : WasmFeatures). Reads (EncodesOffset z) (OffsetFault z) (Err e) last c.read_offset.new.reader) same c.in_err-offset.ensures in
     let one = λ (h : NamesBoth f c.args.flags). not_false (c.names_both.ensures.1 h) c.if-names_both.false in
     let may = λ (h : OrdersPlain f c.args.kind c.args.flags). not_false (c.orders_plain.ensures.1 h) c.if-orders_plain.false in
     let whole = λ (h : IsReserved f c.args.flags). not_false (c.is_reserved.ensures.1 h) c.if-is_reserved.false in
-    under f mid.features c.args.kind c.args.max_align c.args.flags e old mid c.rewind-in-Err-read_offset.new.self c.features-features.ensures c.requires.flagged
-    (offset_refused f c.args.kind c.args.max_align c.args.flags old mid c.requires.flagged e c.read_target.new.reader last c.read_offset.new.reader
-    c.rewind-in-Err-read_offset.new.self c.in-Ok.target c.in-Ok-read_ordering.ordering c.args.start t o (h.0, h.1) refl
-    c.rewind-in-Err-read_offset.ensures)
-    (offset_fault f c.args.kind c.args.flags (offset_of old) mid one c.in-Ok.target c.read_target.new.reader t may c.in-Ok-read_ordering.ordering last o
-    e.message e.offset whole h.2)
+    failed (EncodesMemArg mid.features c.args.kind c.args.max_align) (MemArgFault mid.features c.args.kind) _ _ c.from_residual-in_err-offset.ensures.1
+    (under f mid.features c.args.kind c.args.max_align c.args.flags e old mid c.features-features.ensures c.requires.flagged
+    (offset_refused f c.args.kind c.args.max_align c.args.flags old mid c.requires.flagged e c.read_target.new.reader last c.in_ok-target.target
+    c.in_ok-ordering.ordering t o h.1)
+    (offset_fault f c.args.kind c.args.flags (offset_of old) mid one c.in_ok-target.target c.read_target.new.reader t may c.in_ok-ordering.ordering last o
+    e.message e.offset whole h.2))
 
-pub returns-in-Ok-read_offset : goal.returns-in-Ok-read_offset
-returns-in-Ok-read_offset c =
+pub returns : goal.returns
+returns c =
     let mid = c.args.reader.now in
     let old = at_position mid c.args.start in
     let f = c.features-features.result in
-    let t = c.in-Ok.ensures in
-    let o = c.in-Ok-read_ordering.ensures in
+    let t = c.in_ok-target.ensures in
+    let o = c.in_ok-ordering.ensures in
     let last = c.read_ordering.new.reader in
     let new = c.read_offset.new.reader in
-    let offset = c.in-Ok-read_offset.offset in
-    let m = argument_of (c.args.flags % 16) c.args.max_align offset c.in-Ok.target c.in-Ok-read_ordering.ordering in
+    let offset = c.in_ok-offset.offset in
+    let m = argument_of (c.args.flags % 16) c.args.max_align offset c.in_ok-target.target c.in_ok-ordering.ordering in
     let same : last.features ≡ f = ap (λ (r : Reader). r.features) o.2.moved ∙ ap (λ (r : Reader). r.features) t.2.moved ∙ sym c.features-features.ensures in
-    let b = subst (λ (z : WasmFeatures). HasRead (EncodesOffset z) offset last new) same c.in-Ok-read_offset.ensures in
+    let b = subst (λ (z : WasmFeatures). HasRead (EncodesOffset z) offset last new) same c.in_ok-offset.ensures in
     let whole : ¬ IsReserved f c.args.flags = λ h. not_false (c.is_reserved.ensures.1 h) c.if-is_reserved.false in
     let one : ¬ NamesBoth f c.args.flags = λ h. not_false (c.names_both.ensures.1 h) c.if-names_both.false in
     subst (λ (z : WasmFeatures). HasRead (EncodesMemArg z c.args.kind c.args.max_align) m old new) c.features-features.ensures
-    (all_read f c.args.kind c.args.max_align c.args.flags old mid c.requires.flagged c.read_target.new.reader last new c.in-Ok.target
-    c.in-Ok-read_ordering.ordering offset t o b whole one)
+    (all_read f c.args.kind c.args.max_align c.args.flags old mid c.requires.flagged c.read_target.new.reader last new c.in_ok-target.target
+    c.in_ok-ordering.ordering offset t o b whole one)

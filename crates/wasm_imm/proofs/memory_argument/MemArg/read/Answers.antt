@@ -1,4 +1,4 @@
-use Rattle.std.proofs.Common.{◌≡◌, inr, Err, refl, ap, subst, arith}
+use Rattle.std.proofs.Common.{◌≡◌, ◌∙◌, inr, Err, refl, ap, subst, arith}
 use Rattle.wasm_imm_control.specs.below.Number.{EncodesUnsigned}
 use Rattle.wasm_imm_control.specs.below.bytes.features.WasmFeatures.{WasmFeatures}
 use Rattle.wasm_imm_control.specs.below.Source.{Reader, offset_of, at_position, HasRead, Reads, U32Fault}
@@ -20,9 +20,11 @@ returns-in-Err-read_offset c =
     let mid = c.read_var_u32.new.self in
     let h = subst (λ (z : WasmFeatures). Reads (EncodesOffset z) (OffsetFault z) (Err e) mid c.read_offset.new.reader) same
     c.in-Err-read_offset.ensures in
-    let s = short_refused f c.args.kind c.args.max_align c.in-Ok.flags old mid r (omega arith) e c.read_offset.new.reader c.rewind.new.self
-    c.current_position-start.result (h.0, h.1) c.current_position-start.ensures c.rewind.ensures in
-    (s.0, s.1, inr (c.in-Ok.flags, mid, r, short_fault f c.args.kind c.in-Ok.flags (offset_of old) old mid r (omega arith) e.message e.offset h.2))
+    let start = c.current_position-start.result in (
+      back old mid c.rewind.new.self r.0 start r.2 c.current_position-start.ensures (c.rewind.ensures ∙ ap (λ (r : Reader). at_position r start) h.0),
+      short_refused f c.args.kind c.args.max_align c.in-Ok.flags old mid r (omega arith) e h.1,
+      inr (c.in-Ok.flags, mid, r, short_fault f c.args.kind c.in-Ok.flags (offset_of old) old mid r (omega arith) e.message e.offset h.2),
+    )
 
 pub returns-in-Ok-read_offset : goal.returns-in-Ok-read_offset
 returns-in-Ok-read_offset c =
