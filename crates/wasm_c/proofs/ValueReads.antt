@@ -54,12 +54,6 @@ part_at_start old new part (text, (first, more, size, split, number, (features, 
 pub constant_at_start : (old new constant : Reader) → HasRead (EncodesConstantReader old.features) constant old new → constant.position ≡ 0
 constant_at_start old new constant (text, ((features, buffer, position, long), encodes), takes) = position
 
--- A reader that went back.
-pub went_back : (old mid same new : Reader) (text : List ℕ) (start : ℕ) → Takes old mid text → same ≡ mid → start ≡ old.position →
-    new ≡ at_position same start → new ≡ old
-went_back old mid same new text start takes unmoved at back =
-    back ∙ ap (λ (r : Reader). at_position r start) unmoved ∙ ap (at_position mid) at ∙ ap (λ (r : Reader). at_position r old.position) takes.moved
-
 -- The bytes that are left in a new reader are all its bytes.
 pub all_remain : (whole part : Reader) (count : ℕ) → part ≡ whole → whole.position ≡ 0 → count ≡ length (rest part) → count ≡ length whole.buffer
 all_remain whole part count same start is =

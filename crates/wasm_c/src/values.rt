@@ -185,22 +185,20 @@ fn read_block_type(reader: &mut BinaryReader<'_>) -> Result<WasmValue>
 fn read_local(reader: &mut BinaryReader<'_>, total: u64) -> Result<WasmValue>
     ensures { ReadsLocal total result reader.old reader.new }
 {
-    let start = reader.current_position();
-    let number = match reader.read_var_u32() {
+    let mut ahead = reader.clone();
+    let number = match ahead.read_var_u32() {
         Ok(number) => number,
         Err(e) => return Err(e),
     };
     if total > u64::from(u32::MAX - number) {
-        let position = reader.original_position();
-        reader.rewind(start);
-        return Err(Error::new(Message::TooManyLocals, position));
+        return Err(Error::new(Message::TooManyLocals, ahead.original_position()));
     }
-    match ValType::read(reader) {
-        Ok(ty) => Ok(WasmValue::of_declaration(number, ty)),
-        Err(e) => {
-            reader.rewind(start);
-            Err(e)
+    match ValType::read(&mut ahead) {
+        Ok(ty) => {
+            *reader = ahead;
+            Ok(WasmValue::of_declaration(number, ty))
         }
+        Err(e) => Err(e),
     }
 }
 

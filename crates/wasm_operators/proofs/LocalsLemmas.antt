@@ -1,12 +1,14 @@
 use Rattle.std.proofs.Common.{◌≡◌, ℕ, ◌+◌, ◌<◌, List, ◌++◌, length, Err, refl, sym, ap, ◌∙◌, append_assoc, arith, inl, inr}
+use Rattle.wasm_operators_readers.specs.below.Ahead.{Fails}
 use Rattle.wasm_operators_readers.specs.below.bytes.error.Error.{Error}
 use Rattle.wasm_operators_readers.specs.below.Number.{EncodesUnsigned}
 use Rattle.wasm_operators_readers.specs.below.Sequence.{Then, PrefixCode}
 use Rattle.wasm_operators_readers.specs.below.Source.{Reader, rest, at_position, Takes, IsRefusal, HasRead, Reads, U32Fault}
 use Rattle.wasm_operators_readers.specs.below.TypeEncoding.{EncodesValType, ValTypeFault}
+use Rattle.wasm_operators_readers.proofs.of_below.Ahead.{first_fails, second_fails, fails_as}
 use Rattle.wasm_operators_readers.proofs.of_below.Blocks.{refused_now}
 use Rattle.wasm_operators_readers.proofs.of_below.Sequences.{then_prefix_code, then_first, then_second}
-use Rattle.wasm_operators_readers.proofs.of_below.Steps.{number_prefix_code, first_missing, second_missing, missing_as}
+use Rattle.wasm_operators_readers.proofs.of_below.Steps.{number_prefix_code, second_missing, missing_as}
 use Rattle.wasm_operators_readers.proofs.of_below.TakesLemmas.{takes_then, same_rest}
 use Rattle.wasm_operators_readers.proofs.of_below.TypePrefixCodes.{value_prefix_code}
 use Rattle.wasm_operators_readers.specs.imm.Lists.{EncodesMany}
@@ -46,11 +48,17 @@ type_refused e old mid mid2 new number position r h at went =
     missing_as (Then (EncodesUnsigned 32) Typed) EncodesDeclaration DeclarationFault DeclarationFault e old new split (λ m offset f. f)
     (second_missing (EncodesUnsigned 32) Typed U32Fault (λ number. ValTypeFault) e old mid mid2 new number position (number_prefix_code 32) r typed at went)
 
-pub number_missing : (e : Error) (old new : Reader) → Reads (EncodesUnsigned 32) U32Fault (Err e) old new →
-    Reads EncodesDeclaration DeclarationFault (Err e) old new
-number_missing e old new h =
-    missing_as (Then (EncodesUnsigned 32) Typed) EncodesDeclaration DeclarationFault DeclarationFault e old new split (λ m offset f. f)
-    (first_missing (EncodesUnsigned 32) Typed U32Fault (λ number. ValTypeFault) e old new h)
+split_fails : {e : Error} {old : Reader} → Fails (Then (EncodesUnsigned 32) Typed) DeclarationFault e old → Fails EncodesDeclaration DeclarationFault e old
+split_fails = fails_as (Then (EncodesUnsigned 32) Typed) EncodesDeclaration DeclarationFault DeclarationFault split (λ f. f)
+
+pub number_fails : {e : Error} {old : Reader} → Fails (EncodesUnsigned 32) U32Fault e old → Fails EncodesDeclaration DeclarationFault e old
+number_fails h = split_fails (first_fails (EncodesUnsigned 32) Typed U32Fault (λ number. ValTypeFault) h)
+
+pub type_fails : (old mid : Reader) (number : ℕ) → HasRead (EncodesUnsigned 32) number old mid → {e : Error} → Fails EncodesValType ValTypeFault e mid →
+    Fails EncodesDeclaration DeclarationFault e old
+type_fails old mid number r h =
+    split_fails (second_fails (EncodesUnsigned 32) Typed U32Fault (λ number. ValTypeFault) (number_prefix_code 32) r
+    (fails_as EncodesValType (Typed number) ValTypeFault ValTypeFault (λ text d p. (d.1, p.1)) (λ f. f) h))
 
 pub declaration_refused : (e : Error) (old mid now : Reader) (count read : ℕ) (text : List ℕ) (done : List Declaration) →
     HasRead (EncodesUnsigned 32) count old mid → EncodesMany EncodesDeclaration read text done → read < count → Takes mid now text →

@@ -8,16 +8,9 @@ use wasm_operators_readers::below::{BinaryReader, Result, ValType};
 pub fn read_declaration(reader: &mut BinaryReader<'_>) -> Result<(u32, ValType)>
     ensures { Reads EncodesDeclaration DeclarationFault result reader.old reader.new }
 {
-    let start = reader.current_position();
-    let number = match reader.read_var_u32() {
-        Ok(number) => number,
-        Err(e) => return Err(e),
-    };
-    match ValType::read(reader) {
-        Ok(ty) => Ok((number, ty)),
-        Err(e) => {
-            reader.rewind(start);
-            Err(e)
-        }
-    }
+    let mut ahead = reader.clone();
+    let number = ahead.read_var_u32()?;
+    let ty = ValType::read(&mut ahead)?;
+    *reader = ahead;
+    Ok((number, ty))
 }
