@@ -20,7 +20,7 @@ use Rattle.wasm_decode_opcodes.specs.Refused.{MayAllocate}
 abbrev pub DecodesOperator : (List ℕ → Operator → Type 0) → (Message → Reader → ℕ → Type 0) → Result Operator Error → Reader → Reader → Type 0
 DecodesOperator Encodes Fault result old new = ReadsValue Encodes Fault (MayAllocate Encodes) result old new
 
--- As `DecodesOperator`, for a call after the opcode of an operator that began at `start`, in a frame of this kind. On `Err` the reader goes back to `start`.
+-- As `DecodesOperator`, after the opcode of an operator that began at `start`, in a frame of this kind. On `Err` the reader goes back to `start`.
 abbrev pub DecodesOperatorAt : FrameKind → ℕ → Result Operator Error → Reader → Reader → Type 0
 DecodesOperatorAt frame start result old new =
     DecodesOperator (EncodesAllowed old.features frame) (OperatorFault old.features frame) result (at_position old start) new
@@ -30,7 +30,7 @@ abbrev pub Decodes : {V A : Type 0} → (V → Operator → A → V → Type 0) 
 Decodes visits Encodes Fault (Ok a) old new v w = (op : Operator) × HasRead Encodes op old new × visits v op a w
 Decodes visits Encodes Fault (Err e) old new v w = (w ≡ v) × DecodesOperator Encodes Fault (Err e) old new
 
--- As `Decodes`, for a call after the opcode, as in `DecodesOperatorAt`.
+-- As `Decodes`, after the opcode, as in `DecodesOperatorAt`.
 abbrev pub DecodesAt : {V A : Type 0} → (V → Operator → A → V → Type 0) → FrameKind → ℕ → Result A Error → Reader → Reader → V → V → Type 0
 DecodesAt visits frame start result old new v w =
     Decodes visits (EncodesAllowed old.features frame) (OperatorFault old.features frame) result (at_position old start) new v w
@@ -66,8 +66,8 @@ pub record IsRefusedKinds (ks : List Kind) (Memory : Reader → Type 0) (start :
   pub fault : HasFault (KindsFault old.features (old.start + start) ks) e old
   pub memory : e.message ≡ message.OutOfMemory → Memory old × (e.offset ≡ old.start + start)
 
--- Unless allocation fails, `Ok` if and only if a prefix of the rest encodes immediates of these kinds, which are taken. The error is that of the first that cannot be
--- read. Then `Left` holds of the reader.
+-- Unless allocation fails, `Ok` if and only if a prefix of the rest encodes immediates of these kinds, which are taken. The error is that of the first in error. Then
+-- `Left` holds of the reader.
 abbrev pub ReadsKinds : {X : Type 0} → List Kind → (X → List Immediate) → (Reader → Type 0) → (ℕ → Reader → Reader → Type 0) → ℕ → Result X Error → Reader → Reader → Type 0
 ReadsKinds ks listed Memory Left start (Ok x) old new = HasRead (EncodesKinds old.features ks) (listed x) old new
 ReadsKinds ks listed Memory Left start (Err e) old new = Left start old new × IsRefusedKinds ks Memory start e old

@@ -27,8 +27,8 @@ EncodesToCount _ = λ text count. ⊥
 abbrev pub EncodesListStart : List ℕ → ℕ → Type 0
 EncodesListStart text count = (byte : ℕ) × (ks : List Kind) × (after : List ℕ) × (entry_at None byte ≡ free ks) × (text ≡ byte ∷ after) × EncodesToCount ks after count
 
--- The next byte is the opcode of an operator that may own a list. A count within the list's limit follows. No prefix of the rest encodes an operator that owns
--- no list.
+-- The next byte is the opcode of an operator that may own a list. A count within the list's limit follows. No prefix of the rest encodes an operator without a
+-- list.
 pub record MayAllocate (Encodes : List ℕ → Operator → Type 0) (old : Reader) : Type 0 where
   pub leads : (byte : ℕ) × LeadsList byte × BeginsWith byte (rest old)
   pub sized : SomePrefix EncodesListStart (rest old)

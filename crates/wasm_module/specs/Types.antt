@@ -20,11 +20,11 @@ IsMany P (suc n) = Then P (λ x. IsMany P n)
 abbrev pub EncodesCounted : {X : Type 0} → (List ℕ → X → Type 0) → ℕ → List ℕ → ℕ → Type 0
 EncodesCounted P count text n = (n ≡ count) × IsMany P count text tt
 
--- A length, and that many encodings of `P`. Only the length is kept.
+-- A length `n`, and `n` encodings of `P`.
 abbrev pub EncodesLength : {X : Type 0} → (List ℕ → X → Type 0) → List ℕ → ℕ → Type 0
 EncodesLength P = Then (EncodesUnsigned 32) (EncodesCounted P)
 
--- The error of the length or of an item.
+-- The length's error, or an item's.
 abbrev pub LengthFault : {X : Type 0} → (List ℕ → X → Type 0) → (Message → Reader → ℕ → Type 0) → Message → Reader → ℕ → Type 0
 LengthFault P Fault = ThenFault (EncodesUnsigned 32) U32Fault (ManyFault P Fault)
 

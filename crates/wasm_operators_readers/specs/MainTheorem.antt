@@ -57,7 +57,7 @@ abbrev pub ClosesFrom : List FrameKind → Source → Placed → Type 0
 ClosesFrom frames s placed = LaidOut s.features s.offset s.bytes placed × (frames_along frames (roles_of (operators placed)) ≡ Some [])
 
 -- Unless allocation fails, `Effect` holds for the longest `Kept` list that the frames allow. `Ok`
--- if and only if all of the bytes encode it and it closes every frame.
+-- if and only if all bytes encode it and it closes every frame.
 abbrev pub ReadsFlat : {X : Type 0} → Decoder → OfPlaced → Result X Error → State → Type 0
 ReadsFlat decoder Effect result old =
     (flat : Placed) → Longest (IsAllowedFrom old.frames (source_of old.reader)) decoder.Kept flat → IsNotOutOfMemory result → Effect flat ×

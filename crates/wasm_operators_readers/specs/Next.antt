@@ -26,7 +26,7 @@ NextMayAllocate Encodes s = FrameMayAllocate s ⊎ ListMayAllocate Encodes s
 abbrev pub simd_if : Allocating → Decoder
 simd_if Allocates = record { Encodes = EncodesAllowed; Fault = OperatorFault; Allocates = Allocates; Kept = IsAny }
 
--- The same, where allocation may fail as `NextMayAllocate` says.
+-- The same, for the states of `NextMayAllocate`.
 abbrev pub simd : Decoder
 simd = simd_if (NextMayAllocate EncodesAllowed)
 
