@@ -5,8 +5,8 @@
 
 It fails on
 
-- a listed crate that another listed crate uses;
-- a listed crate or library of the kit that the crate does not name;
+- a crate that a crate names and does not list, or lists and does not name;
+- a re-export of another crate's name, except in the lists of `wasm_operators` and `wasm_c` for users;
 - a lemma of another crate (`Rattle.OTHER.proofs.`) in a program, a proved caller, the timed library or a test. What
   callers need is a clause or a law. CITED has the exceptions.
 """
@@ -17,23 +17,23 @@ from pathlib import Path
 
 sys.path.insert(0, str(Path(__file__).resolve().parent / "generate"))
 
-from paths import TOP, below, crates
+from paths import TOP, crates
 
 # The crates above the layers. Tests are known by their names.
-OUTSIDE = ("wasm_text", "wasm_lines", "wasm_module", "wasm_functions", "wasm_bodies", "wasm_disassembly", "wasm_module_listing", "wasm_objdump", "wasm_c", "wasm_c_exports", "wasm_listing", "wasm_dump", "wasm_bench", "uses", "uses_steps")
+OUTSIDE = ("wasm_text", "wasm_module", "wasm_disassembly", "wasm_objdump", "wasm_c", "wasm_c_exports", "wasm_listing", "wasm_dump", "wasm_bench", "uses")
 # The exceptions: crate, library and file of the lemmas, their names, and why.
 CODES = "encodings are a prefix code, which is also a law, and not empty, which no law says"
 REFUSED = "what an error implies for the bytes"
-BENCH = "wasm_bench", "wasm_operators_readers.proofs"
+BENCH = "wasm_bench",
 CITED = [
-    (*BENCH, "of_below.Blocks", "refused_now", REFUSED),
-    (*BENCH, "of_below.PrefixCode", "byte_prefix_code signed_prefix_code signed_some", CODES),
-    (*BENCH, "of_below.Steps", "number_prefix_code unsigned_some", CODES),
-    (*BENCH, "of_below.TakesLemmas", "takes_then same_rest", "two calls in sequence"),
-    (*BENCH, "of_imm.BlockTypes", "block_prefix_code block_empty", CODES),
-    (*BENCH, "of_imm.BranchTables", "table_prefix_code", CODES),
-    (*BENCH, "of_imm.FlagsNumber", "memarg_prefix_code", CODES),
-    (*BENCH, "of_imm.ListLemmas", "each_more", "a longer list of texts"),
+    (*BENCH, "wasm_below.proofs", "Blocks", "refused_now", REFUSED),
+    (*BENCH, "wasm_below.proofs", "PrefixCode", "byte_prefix_code signed_prefix_code signed_some", CODES),
+    (*BENCH, "wasm_below.proofs", "Steps", "number_prefix_code unsigned_some", CODES),
+    (*BENCH, "wasm_below.proofs", "TakesLemmas", "takes_then same_rest", "two calls in sequence"),
+    (*BENCH, "wasm_imm.proofs", "BlockTypes", "block_prefix_code block_empty", CODES),
+    (*BENCH, "wasm_imm.proofs", "BranchTables", "table_prefix_code", CODES),
+    (*BENCH, "wasm_imm.proofs", "FlagsNumber", "memarg_prefix_code", CODES),
+    (*BENCH, "wasm_imm.proofs", "ListLemmas", "each_more", "a longer list of texts"),
 ]
 
 
@@ -52,14 +52,33 @@ def files_of(name, top=TOP):
     return {path: path.read_text(encoding="utf-8") for path in sorted(found)}
 
 
-def needless(listed, texts):
+# The crates that list names of others for users.
+LISTS = ("wasm_operators", "wasm_c")
+
+
+def named(text):
+    """Returns the crates and libraries that a crate's files may name."""
+    text = re.sub(r"^\s*(?://|--).*$", "", text, flags=re.M)
+    return set(re.findall(r"\bRattle\.(\w+)\.", text)) | set(re.findall(r"(?<![\w:.])(\w+)::", text)) | set(re.findall(r"\buse (\w+);", text))
+
+
+def unlisted(listed, texts):
     for name, those in listed.items():
+        words = named(texts[name])
         for one in those:
-            through = [other for other in those if other != one and one in below(listed, other)]
-            if one in listed and through:
-                yield f"crates.txt: {name} lists {one}, which it reaches through {through[0]}"
-            elif not re.search(rf"\b{one}\b", texts[name]):
+            if one not in words and not re.search(rf"\b{one}\b", texts[name]):
                 yield f"crates.txt: {name} lists {one}, which none of its files names"
+        for one in sorted(words & listed.keys() - {name, *those}):
+            yield f"crates.txt: {name} does not list {one}, which it names"
+
+
+def passed_on(listed, texts):
+    """Yields what a crate re-exports of another."""
+    for name, text in texts.items():
+        if name not in LISTS:
+            found = re.findall(r"^ *pub use (?:Rattle\.)?(\w+)\b", text, re.M)
+            for one in sorted(set(found) & listed.keys() - {name}):
+                yield f"{name} re-exports names of {one}: name them by {one}"
 
 
 def cited(text, crate, listed):
@@ -88,7 +107,8 @@ def main():
         sys.exit(sys.argv[1:] not in (["--help"], ["-h"]))
     listed, may = crates(), allowed()
     found = citations(listed)
-    wrong = list(needless(listed, {name: "\n".join(files_of(name).values()) for name in listed}))
+    texts = {name: "\n".join(files_of(name).values()) for name in listed}
+    wrong = [*unlisted(listed, texts), *passed_on(listed, texts)]
     for (crate, lemma), files in sorted(found.items()):
         if (crate, lemma) in may:
             print(f"allowed: {crate} cites {lemma}: {may[crate, lemma]}")

@@ -15,7 +15,6 @@ from pathlib import Path
 TOP = Path(__file__).resolve().parent.parent
 sys.path.insert(0, str(TOP / "tools" / "generate"))
 
-import paths
 from layout import laid_out
 
 LIBRARY = TOP / "crates/wasm_c/src/lib.rt"
@@ -51,7 +50,7 @@ def exports_of(library):
     types = ", ".join(sorted({name for call in found for name in TYPE.findall(call[2])}))
     uses = f"use std::alloc::Global;\nuse wasm_c::{{{types}}};\n"
     calls = "".join(export_of(*call.groups()) for call in found)
-    return paths.rewritten(paths.crates(), "wasm_c_exports", f"{HEAD}\n{ghosts}\n{uses}{calls}")
+    return f"{HEAD}\n{ghosts}\n{uses}{calls}"
 
 
 def main():

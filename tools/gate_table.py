@@ -39,7 +39,7 @@ wasm_decode_groups""".split()
 MADE_OF = """
 - A proof takes {each} seconds per function. The lists over the 628 operators ({names}) take {lists} minutes of proofs.
 - About {again} of the minutes of edits are the proofs that serve as bases. Each edit takes {edit} seconds beyond that.
-- Proofs and tests of the test crates, `uses`, `uses_steps` and `wasm_bench` take {callers} minutes.
+- Proofs and tests of the test crates, `uses` and `wasm_bench` take {callers} minutes.
 """
 
 OUTSIDE = """

@@ -27,7 +27,7 @@ from header import header_files
 from layout import laid_out
 from original import differences
 from own_visits import own_visit_files
-from paths import by_listed
+from paths import by_defined
 from plain import plain_files, unshaped
 from printed_fields import printed_field_files
 from proposals import proposal_files
@@ -70,7 +70,7 @@ def files(ops):
     out |= own_visit_files(ops)
     out |= header_files(ops)
     out |= cargo_files(ops)
-    return laid_out(by_listed(out))
+    return laid_out(by_defined(out))
 
 
 def stale(wanted, top=TOP):

@@ -179,7 +179,7 @@ def proof(part, path, lines):
     return with_uses(
         "arm_files/proof_of_part.antt",
         lines,
-        folder=next((it.part for it in ENUMS if it.group == enum), ""),
+        crate=next((it.crate for it in ENUMS if it.group == enum), ""),
         module=enum.lower(),
         enum=enum,
         words=", ".join(ROW_WORDS),

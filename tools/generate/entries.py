@@ -46,7 +46,7 @@ def entries_agree(ops):
         low = enum.module
         of_enums.append(f"{low}_agrees : (op : {enum.type}) → entry_at {prefix} ({enum.opcode} op) ≡ free (map kind_of ({low}_immediates op))")
         of_enums += [*by_cases(f"{low}_agrees", those[0], low, "refl"), ""]
-        enum_uses += [*inner_uses(enum), f"use Rattle.wasm_instr.specs.{enum.group}.{{{enum.opcode}, {low}_immediates}}"]
+        enum_uses += [*inner_uses(enum), f"use Rattle.{enum.crate}.specs.{enum.group}.{{{enum.opcode}, {low}_immediates}}"]
     prefixed = [enum for enum in held() if enum.prefix]
     return filled_file(
         "entries/EntriesAgree.antt",

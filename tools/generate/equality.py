@@ -32,9 +32,8 @@ def chain(terms):
     return [line.rstrip() for line in lines]
 
 
-def imports(below, terms, extra=()):
-    """Returns the `use` lines. `below` is the crate through which, and the path to its own proofs."""
-    crate, own = below
+def imports(terms, extra=()):
+    """Returns the `use` lines."""
     words = {word for term in terms for word in term.split()} | set(extra)
     out = []
     for home, names in homes().items():
@@ -42,11 +41,11 @@ def imports(below, terms, extra=()):
         if used and home.startswith("lemmas"):
             out.append(f"use Rattle.std.proofs.{home}.{{{', '.join(used)}}}")
         elif used:
-            place = home if home.startswith("of_below") else f"{own}{home}"
-            out.append(f"use Rattle.{crate}.proofs.{place}.{{{', '.join(used)}}}")
+            place = home if "." in home else f"wasm_imm.proofs.{home}"
+            out.append(f"use Rattle.{place}.{{{', '.join(used)}}}")
     helpers = [word for word in ("enum_exact", "bare_exact", "◌▸◌", *COUNTS) if word in words or word == "◌▸◌" and terms]
-    out.append(f"use Rattle.{crate}.proofs.of_below.EnumEquality.{{{', '.join(helpers)}}}")
-    return [f"use Rattle.{crate}.specs.below.Equality.{{IsExact}}", *out]
+    out.append(f"use Rattle.wasm_below.proofs.EnumEquality.{{{', '.join(helpers)}}}")
+    return [f"use Rattle.wasm_below.specs.Equality.{{IsExact}}", *out]
 
 
 def contracts(crate, module, name, word):
@@ -66,24 +65,23 @@ def bracketed(lines):
 def enum_equality(enum, ops):
     low = enum.module
     shape = Shape(ops)
-    below = ("wasm_imm", "")
     if shape.is_plain:
         body = [f"pub {low}_exact : IsExact {low}_eq.ghosts.eq", f"{low}_exact = bare_exact {low}_type.the_type tt"]
-        return page(enum, imports(below, [], ["bare_exact"]) + contracts(enum.crate, low, enum.type, low), body)
+        return page(enum, imports([], ["bare_exact"]) + contracts(enum.crate, low, enum.type, low), body)
     if shape.by_fields:
-        return by_fields_equality(enum, ops, below)
+        return by_fields_equality(enum, ops)
     terms = [variant_exact([ty for _, ty in op.fields]) for op in ops]
-    return page(enum, imports(below, terms, ["enum_exact"]) + contracts(enum.crate, low, enum.type, low), exact(f"{low}_exact", low, terms))
+    return page(enum, imports(terms, ["enum_exact"]) + contracts(enum.crate, low, enum.type, low), exact(f"{low}_exact", low, terms))
 
 
-def by_fields_equality(enum, ops, below):
+def by_fields_equality(enum, ops):
     low = enum.module
     found = shapes(ops)
     terms = [variant_exact([ty for _, ty in those[0].fields]) for those in found.values()] + ["none"]
     uses = [
         "use Rattle.std.proofs.Common.{◌==◌, ap}",
         "use Rattle.std.proofs.lemmas.Bool.Decides.{Decides-and, Decides-like}",
-        *imports(below, terms, ["enum_exact", "Decides-eqb"]),
+        *imports(terms, ["enum_exact", "Decides-eqb"]),
         *contracts(enum.crate, low, f"{enum.group}Fields", f"{low}_fields"),
         f"use Rattle.{enum.crate}.specs.contracts.{low}.{enum.type}PartialEq.TheImpl as {low}_eq",
         f"use Rattle.{enum.crate}.specs.{enum.group}.{{{enum.opcode}, {low}_fields}}",
@@ -104,7 +102,7 @@ def page(enum, uses, body):
 def operator_equality(ops):
     inner = {enum.group: f"{enum.module}_exact" for enum in held()}
     terms = [variant_exact([ty for _, ty in op.fields]) for op in ops] + [f"one _ {name}" for name in inner.values()]
-    uses = ["use denote.Signature.{static_lft}", *imports(("wasm_instr_ops", "of_imm."), terms, ["enum_exact"])]
+    uses = ["use denote.Signature.{static_lft}", *imports(terms, ["enum_exact"])]
     uses += [f"use Rattle.{enum.crate}.proofs.{enum.group}Equality.{{{enum.module}_exact}}" for enum in held()]
     uses += contracts("wasm_instr", "operator", "Operator", "operator")
     return "\n".join([f"-- {HEAD}", *uses, "", *exact("operator_exact", "operator", terms, "static_lft"), ""])

@@ -32,7 +32,7 @@ class FieldType:
 
 
 DECIDES = "lemmas.Bool.Decides"
-TYPE_EQUALITY = "of_below.TypeEquality"
+TYPE_EQUALITY = "wasm_below.proofs.TypeEquality"
 # By name, in the order in which proofs import the files of the lemmas.
 TYPES = {
     ty.name: ty

@@ -1,31 +1,16 @@
-"""Rewrites paths to go through the crates that a file's crate lists.
+"""The crates of crates.txt, and how a generated file names what they define.
 
-A crate lists only its direct dependencies, which re-export lower layers under short names (`pub use wasm_below as below`
-in src/lib.rt). The generators name each item by the crate that defines it; `by_listed` rewrites that by crates.txt.
+The generators may import a type of operators from `wasm_instr`, and name a crate in its own files. `by_defined` rewrites
+both: a name is imported from the crate that defines it, which is `crate` in that crate's files.
 """
 
 import re
 from pathlib import Path
 
 TOP = Path(__file__).resolve().parent.parent.parent
-
-# The short names.
-SHORT = {
-    "wasm_below": "below",
-    "wasm_imm": "imm",
-    "wasm_grammar": "grammar",
-    "wasm_instr_ops": "instr_ops",
-    "wasm_instr": "instr",
-    "wasm_decode_opcodes": "opcodes",
-    "wasm_visit_groups": "groups",
-    "wasm_decode_groups": "decode",
-    "wasm_visit": "visitors",
-    "wasm_decode": "decoder",
-    "wasm_operators_readers": "readers",
-    "wasm_operators": "operators",
-    "wasm_view": "view",
-    "wasm_text": "text",
-}
+# A re-export of a root file, and an import of names from the root of a crate.
+EXPORT = re.compile(r"^pub use (\w+)::(?:\w+::)*(?:\{([^}]*)\}|(\w+));", re.M)
+IMPORT = re.compile(r"^use (wasm_\w+)::\{?([\w\s,]+?),?\s*\}?;", re.M)
 
 
 def crates():
@@ -47,37 +32,39 @@ def below(listed, name):
     return found
 
 
-def way(listed, crate, name):
-    """Returns the listed crate through which another is reached, or `None` if that is listed."""
-    if name == crate or name in listed.get(crate, []):
-        return None
-    for one in listed.get(crate, []):
-        if name in below(listed, one):
-            return one
-    raise ValueError(f"{crate} does not depend on {name}")
+def exports(text, listed):
+    """Returns the names that a root file gives to its crate's own items."""
+    found = [(of[1], of[2] or of[3]) for of in EXPORT.finditer(text)]
+    return {name for first, names in found if first not in listed for name in re.findall(r"\w+", names)}
 
 
-def rewritten(listed, crate, text):
+def homes(listed, top=TOP):
+    """Returns the crate that defines each public name, of those below `wasm_operators`."""
+    roots = {name: top / "crates" / name / "src/lib.rt" for name in below(listed, "wasm_operators")}
+    found = {name: exports(path.read_text(encoding="utf-8"), listed) for name, path in roots.items() if path.exists()}
+    return {item: name for name, items in sorted(found.items()) for item in items}
 
-    def of_code(found):
-        if found[1] == crate:
-            return "crate::"
-        by = way(listed, crate, found[1])
-        return f"{by}::{SHORT[found[1]]}::" if by else found[0]
 
-    def of_proof(found):
-        by = way(listed, crate, found[1])
-        return f"Rattle.{by}.{found[2]}.{'of_' if found[2] == 'proofs' else ''}{SHORT[found[1]]}." if by else found[0]
+def defined(crate, text, home):
+
+    lower = set(home.values())
+
+    def of_import(found):
+        if found[1] not in lower:
+            return found[0]
+        by = {}
+        for name in re.findall(r"\w+", found[2]):
+            by.setdefault(home.get(name, found[1]), []).append(name)
+        uses = [(of, names[0] if len(names) == 1 else f"{{{', '.join(names)}}}") for of, names in sorted(by.items())]
+        return "\n".join(f"use {of}::{names};" for of, names in uses)
 
     def of_line(line):
-        if line.lstrip().startswith(("//", "--")):
-            return line
-        line = re.sub(r"\bRattle\.(wasm_\w+)\.(specs|proofs)\.", of_proof, line)
-        return re.sub(r"(?<![\w:])(wasm_\w+)::", of_code, line)
+        return line if line.lstrip().startswith(("//", "--")) else re.sub(rf"(?<![\w:]){crate}::", "crate::", line)
 
-    return "\n".join(of_line(line) for line in text.split("\n"))
+    return "\n".join(of_line(line) for line in IMPORT.sub(of_import, text).split("\n"))
 
 
-def by_listed(files):
+def by_defined(files):
     listed = crates()
-    return {name: rewritten(listed, name.split("/")[1], text) for name, text in files.items()}
+    home = homes(listed)
+    return {name: defined(name.split("/")[1], text, home) if name.endswith(".rt") else text for name, text in files.items()}

@@ -25,7 +25,7 @@ def opcodes_source(ops):
     own = [op for op in ops if op.group == "Own"]
     lines = filled(
         "plain/opcodes.rt",
-        enum_uses=[f"ghost use Rattle.wasm_instr.specs.{enum.group}.{{{enum.opcode}}};" for enum in ENUMS],
+        enum_uses=[f"ghost use Rattle.{enum.crate}.specs.{enum.group}.{{{enum.opcode}}};" for enum in ENUMS],
         types=", ".join(sorted(enum.type for enum in ENUMS)),
         arms=opcode_arms(own, "Operator") + [f"Operator::{enum.group}(op) => {enum.opcode}(*op)," for enum in held()],
     )
@@ -68,7 +68,7 @@ def views_source(ops):
     enums = [enum for enum in held() if enum.group != "Numeric"]
     lines = filled(
         "plain/views.rt",
-        enum_uses=[f"ghost use Rattle.wasm_instr.specs.{enum.group}.{{{enum.module}_immediates}};" for enum in enums],
+        enum_uses=[f"ghost use Rattle.{enum.crate}.specs.{enum.group}.{{{enum.module}_immediates}};" for enum in enums],
         types=", ".join(sorted(enum.type for enum in enums)),
         arms=shape_arms(own, "Operator", True),
         enum_arms=[f"Operator::{enum.group}(op) => {enum.module}(offset, opcode, *op)," for enum in enums],

@@ -147,7 +147,6 @@ class Enum:
         self.type = "Operator" if group == "Own" else f"{group}Operator"
         self.opcode = f"{module}_opcode" if group == "Numeric" else f"{module}_subopcode"
         self.prefix = prefix_of(group)
-        self.part = crate.removeprefix("wasm_instr_")
 
 
 ENUMS = [

@@ -9,7 +9,7 @@ CRATE = "crates/wasm_text"
 
 
 def inner_uses(enum):
-    path = f"Rattle.wasm_instr.specs.{enum.part}.{enum.module}.{enum.type}"
+    path = f"Rattle.{enum.crate}.specs.declared.{enum.module}.{enum.type}"
     return [f"use {path}.{{{enum.type}}}", f"use {path}.TheVariants as {enum.module}"]
 
 
@@ -75,7 +75,7 @@ def enum_operands(enum, ops):
         "texts/enum.rt",
         module=low,
         type=enum.type,
-        immediates=[] if has_writers else [f"ghost use Rattle.wasm_instr.specs.{enum.group}.{{{low}_immediates}};"],
+        immediates=[] if has_writers else [f"ghost use Rattle.{enum.crate}.specs.{enum.group}.{{{low}_immediates}};"],
         written=f"{low}_operands" if has_writers else "immediates_text",
         of="op.now" if has_writers else f"({low}_immediates op.now)",
         arms=operand_arms(ops, enum.type),

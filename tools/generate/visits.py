@@ -111,7 +111,7 @@ def group_trait(ops, group):
     section = group.section if group.section.startswith("Proposal") else f"Specification: {group.section}"
     return filled_file(
         "visits/trait.rt",
-        ghost_uses=[f"ghost use Rattle.wasm_instr.specs.{it.part}.{it.module}.{it.type}.{{{it.type}}};" for it in held() if it.group == group.enum],
+        ghost_uses=[f"ghost use Rattle.{it.crate}.specs.declared.{it.module}.{it.type}.{{{it.type}}};" for it in held() if it.group == group.enum],
         uses=uses(those),
         types=braced(sorted({"Operator", type_name(group)})),
         doc=doc(f"Visits of {group.title}. {section} By default they call `visit_any`. A visitor that overrides visits names `Own{group.mark}` in its `Visits`."),

@@ -2,28 +2,28 @@
 
 import re
 
-READERS = "wasm_operators_readers/{} "
+READERS = "wasm_operators/{} "
 EXPRESSIONS = ("Expression", "Flat", "Openings", "Visiting")
 READS = ("Reading", "Next", "MainTheorem", "Guarded", "Iterating")
 # The groups: title, and crates or files. A file is in the group that names it or else its crate.
 GROUPS = [
-    ("Bytes and types", "wasm_below_bytes wasm_below"),
-    ("Immediates", "wasm_imm_control wasm_imm"),
+    ("Bytes and types", "wasm_below"),
+    ("Immediates", "wasm_imm"),
     ("Trees", "wasm_grammar"),
     ("All operators", "wasm_instr_ops wasm_instr_simd wasm_instr wasm_visit_groups"),
     ("From the opcode to the visit", "wasm_decode_opcodes wasm_decode_groups wasm_decode"),
     ("The stack of open frames", READERS.format("Stack") + READERS.format("Step")),
     ("Expressions of operators", "".join(map(READERS.format, EXPRESSIONS))),
-    ("Reads and visits", "".join(map(READERS.format, READS)) + "wasm_operators_readers"),
+    ("Reads and visits", "".join(map(READERS.format, READS)) + "wasm_operators/Collecting wasm_operators/Laws"),
     ("Bodies, constant expressions and sections", "wasm_operators/Locals wasm_operators"),
-    ("The listing and the operator counts of a body", "wasm_listing"),
+    ("Listing and counts of a body", "wasm_listing"),
     ("The text of an operator", "wasm_text"),
-    ("Lines of a disassembly", "wasm_lines"),
+    ("Lines of a disassembly", "wasm_text/Lines wasm_text/Rows"),
     ("The parts of a module", "wasm_module"),
-    ("The functions of a module", "wasm_functions"),
-    ("The bodies of a module", "wasm_bodies"),
+    ("The functions of a module", "wasm_module/Items wasm_module/ModuleFunctions wasm_module/FunctionNames wasm_module/Parameters wasm_module/Refusals wasm_module/Sections"),
+    ("The bodies of a module", "wasm_module/Bodies"),
     ("The text of a function", "wasm_disassembly"),
-    ("The listing and the operator counts of a module", "wasm_module_listing"),
+    ("Listing and counts of a module", "wasm_disassembly/CountTable wasm_disassembly/Cut wasm_disassembly/Escapes wasm_disassembly/Headers wasm_disassembly/Listing wasm_disassembly/ModuleCensus"),
     ("Operators as C structs", "wasm_view"),
     ("The library for C", "wasm_c"),
 ]

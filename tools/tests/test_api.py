@@ -35,8 +35,8 @@ class Api(unittest.TestCase):
         self.assertEqual(api.public_items(WASMPARSER), found)
 
     def test_a_function_that_no_crate_has(self):
-        self.assertTrue(api.exists("wasm_below_bytes::read_u8"))
-        self.assertFalse(api.exists("wasm_below_bytes::read_u9"))
+        self.assertTrue(api.exists("wasm_below::read_u8"))
+        self.assertFalse(api.exists("wasm_below::read_u9"))
 
     def test_an_item_that_the_crate_does_not_have(self):
         row = {"type": "BinaryReader", "item": "read_u9"}
@@ -44,8 +44,8 @@ class Api(unittest.TestCase):
         self.assertTrue(api.is_here({**row, "item": "read_u8"}, "pub struct BinaryReader; fn read_u8()"))
 
     def test_a_proved_function_with_the_name_of_the_item(self):
-        row = {"item": "read_u8", "proved": "wasm_below_bytes::read_u8"}
-        self.assertEqual(api.proved(row), "wasm_below_bytes::")
+        row = {"item": "read_u8", "proved": "wasm_below::read_u8"}
+        self.assertEqual(api.proved(row), "wasm_below::")
         self.assertEqual(api.proved({**row, "item": "read_f32"}), row["proved"])
 
     def test_the_page_has_every_item(self):

@@ -91,11 +91,11 @@ class Specs(unittest.TestCase):
 
     def test_files_of_the_repository(self):
         found = specs.files_of(TOP)
-        self.assertEqual(found["wasm_below_bytes", "Number"].section, "Binary Format, Values, Integers")
+        self.assertEqual(found["wasm_below", "Number"].section, "Binary Format, Values, Integers")
         names = specs.names_of(TOP)
-        self.assertEqual(specs.file_at(names, "wasm_operators", ["below", "Source"]), ("wasm_below_bytes", "Source"))
-        self.assertEqual(specs.file_at(names, "wasm_operators", ["Stack"]), ("wasm_operators_readers", "Stack"))
-        self.assertIsNone(specs.file_at(names, "wasm_operators", ["below", "bytes", "error", "Error"]))
+        self.assertEqual(specs.file_at(names, "wasm_operators", ["below", "Source"]), ("wasm_below", "Source"))
+        self.assertEqual(specs.file_at(names, "wasm_operators", ["Stack"]), ("wasm_operators", "Stack"))
+        self.assertIsNone(specs.file_at(names, "wasm_operators", ["below", "declared", "error", "Error"]))
         self.assertIsNone(specs.file_at(names, "std", ["Prelude"]))
 
 
@@ -187,8 +187,8 @@ class Page(unittest.TestCase):
 
     def test_order(self):
         low = [("ListFaults", ""), ("Lists", ""), ("Above", "use Rattle.wasm_below.specs.Lists.{List}\n")]
-        files = [file(text, "wasm_below", name) for name, text in low] + [file("", "wasm_below_bytes", "Zero")]
-        self.assertEqual([it.name for it in definitions_page.in_order(files)], ["Zero", "Lists", "Above", "ListFaults"])
+        files = [file(text, "wasm_below", name) for name, text in low] + [file("", "wasm_grammar", "Zero")]
+        self.assertEqual([it.name for it in definitions_page.in_order(files)], ["Lists", "Above", "ListFaults", "Zero"])
         self.assertIsNone(definitions_page.group_of(file()))
 
     def test_page(self):

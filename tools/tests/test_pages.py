@@ -17,16 +17,14 @@ def section(page, heading):
     return re.search(rf"^## {re.escape(heading)}\n(.*?)(?=^## |\Z)", text, re.DOTALL | re.MULTILINE)[1].splitlines()
 
 
-def edges(lines):
-    """Returns each crate with those it lists: one above with less indentation, and some after `+`."""
+def parents(lines):
+    """Returns each crate with the one above it that has less indentation, if any."""
     out, above = {}, []
     for line in lines:
         indent = len(line) - len(line.lstrip())
-        name, *about = re.split(" {2,}", line.strip())
-        more = "".join(part[2:] for part in about if part.startswith("+ "))
         above = [one for one in above if one[0] < indent]
-        out[name] = {one for _, one in above[-1:]} | set(more.split())
-        above.append((indent, name))
+        out[line.split()[0]] = above[-1][1] if above else None
+        above.append((indent, line.split()[0]))
     return out
 
 
@@ -43,12 +41,15 @@ def is_defined(function, text):
 class Architecture(unittest.TestCase):
     page = "docs/ARCHITECTURE.md"
 
-    def test_the_graph_has_the_edges_of_the_crates(self):
+    def test_the_tree_has_the_crates_below_what_they_list(self):
         lines = section(self.page, "Crates")
         first = lines.index("```text")
         shown = lines[first + 1 : lines.index("```", first + 1)]
-        self.assertEqual(edges(shown), {name: set(listed) for name, listed in crates().items()})
-        self.assertEqual(len(edges(shown)), len(shown))
+        found, listed = parents(shown), crates()
+        self.assertEqual((sorted(found), len(found)), (sorted(listed), len(shown)))
+        for name, above in found.items():
+            self.assertEqual(above is None, not set(listed[name]) & listed.keys(), name)
+            self.assertTrue(above is None or above in listed[name], name)
 
     def test_the_functions_of_the_trace_exist(self):
         lines = section(self.page, "One body, function by function")
@@ -83,9 +84,9 @@ class Architecture(unittest.TestCase):
         self.assertFalse(is_defined("ControlStack::read", text))
         self.assertFalse(is_defined("read_all", text))
 
-    def test_an_edge_is_its_indentation(self):
-        shown = ["a    bytes  + z", "  b", "    c  + a z", "  d", "e"]
-        self.assertEqual(edges(shown), {"a": {"z"}, "b": {"a"}, "c": {"b", "a", "z"}, "d": {"a"}, "e": set()})
+    def test_a_parent_has_less_indentation(self):
+        shown = ["a    bytes", "  b", "    c  of b", "  d", "e"]
+        self.assertEqual(parents(shown), {"a": None, "b": "a", "c": "b", "d": "a", "e": None})
 
 
 class Columns(unittest.TestCase):

@@ -143,48 +143,49 @@ class Paths(unittest.TestCase):
         "wasm_below": [], "wasm_imm": ["wasm_below"], "wasm_instr_ops": ["wasm_imm"], "wasm_instr": ["wasm_instr_ops"],
         "wasm_grammar": [],
     }
+    HOMES = {"Error": "wasm_below", "GcOperator": "wasm_instr_ops", "Operator": "wasm_instr"}
 
-    def rewritten(self, crate, text):
-        return paths.rewritten(self.LISTED, crate, text)
+    def defined(self, crate, text):
+        return paths.defined(crate, text, self.HOMES)
 
-    def test_way(self):
+    def test_below(self):
         self.assertEqual(paths.below(self.LISTED, "wasm_instr_ops"), {"wasm_imm", "wasm_below"})
-        self.assertIsNone(paths.way(self.LISTED, "wasm_imm", "wasm_below"))
-        self.assertIsNone(paths.way(self.LISTED, "wasm_imm", "wasm_imm"))
-        self.assertEqual(paths.way(self.LISTED, "wasm_instr", "wasm_below"), "wasm_instr_ops")
-        with self.assertRaises(ValueError):
-            paths.way(self.LISTED, "wasm_imm", "wasm_grammar")
+
+    def test_exports(self):
+        root = "pub use error::{Error, Result};\npub use gc::GcOperator;\npub use wasm_below::Offset;\nuse gc::Other;\n"
+        self.assertEqual(paths.exports(root, self.LISTED), {"Error", "Result", "GcOperator"})
 
     def test_code(self):
-        self.assertEqual(self.rewritten("wasm_imm", "use wasm_below::Error;"), "use wasm_below::Error;")
-        self.assertEqual(self.rewritten("wasm_instr", "use wasm_below::Error;"), "use wasm_instr_ops::below::Error;")
-        self.assertEqual(self.rewritten("wasm_instr", "use wasm_instr::Operator;"), "use crate::Operator;")
-
-    def test_definitions_and_lemmas(self):
-        text = "use Rattle.wasm_below.specs.Source.{Source}"
-        self.assertEqual(self.rewritten("wasm_imm", text), text)
-        self.assertEqual(self.rewritten("wasm_instr", text), "use Rattle.wasm_instr_ops.specs.below.Source.{Source}")
-        lemma = self.rewritten("wasm_instr", "use Rattle.wasm_imm.proofs.Kinds.{kind}")
-        self.assertEqual(lemma, "use Rattle.wasm_instr_ops.proofs.of_imm.Kinds.{kind}")
-        self.assertEqual(self.rewritten("wasm_instr", "use Rattle.wasm_instr.specs.Row"), "use Rattle.wasm_instr.specs.Row")
+        self.assertEqual(self.defined("wasm_imm", "use wasm_below::Error;"), "use wasm_below::Error;")
+        self.assertEqual(self.defined("wasm_instr", "use wasm_instr::Operator;"), "use crate::Operator;")
+        both = "use wasm_instr::Operator;\nuse wasm_instr_ops::GcOperator;"
+        self.assertEqual(self.defined("wasm_visit", "use wasm_instr::{GcOperator, Operator};"), both)
+        self.assertEqual(self.defined("wasm_visit", "use wasm_instr::{Unknown};"), "use wasm_instr::Unknown;")
+        self.assertEqual(self.defined("uses", "use wasm_operators::{GcOperator};"), "use wasm_operators::{GcOperator};")
 
     def test_comments_stay(self):
-        for text in ("// of wasm_below::Error", "    -- Rattle.wasm_below.specs.Source"):
-            self.assertEqual(self.rewritten("wasm_instr", text), text)
+        text = "// of wasm_instr::Operator"
+        self.assertEqual(self.defined("wasm_instr", text), text)
 
     def test_files_of_the_repository(self):
-        listed = paths.crates()
-        for name, short in paths.SHORT.items():
-            self.assertIn(name, listed)
-            self.assertNotIn(short, listed)
+        home = paths.homes(paths.crates())
+        self.assertEqual([home[name] for name in ("Error", "SimdOperator", "Operator")], ["wasm_below", "wasm_instr_simd", "wasm_instr"])
 
 
 class Edges(unittest.TestCase):
-    def test_needless(self):
-        texts = {"low": "kit", "middle": "low", "high": "middle low", "tests": ""}
-        self.assertEqual(list(edges.needless(LISTED, texts)), [
-            "crates.txt: high lists low, which it reaches through middle",
-            "crates.txt: tests lists high, which none of its files names",
+    def test_unlisted(self):
+        texts = {"low": "use kit::It;", "middle": "use low::It;", "high": "// kit::It\nuse Rattle.low.specs.It\n", "tests": "use high::It;"}
+        listed = {"low": ["kit"], "middle": ["low"], "high": ["middle"], "tests": ["high"]}
+        self.assertEqual(list(edges.unlisted(listed, texts)), [
+            "crates.txt: high lists middle, which none of its files names",
+            "crates.txt: high does not list low, which it names",
+        ])
+
+    def test_passed_on(self):
+        texts = {"low": "pub use own::It;\n", "middle": "pub use low::It;\n", "high": "pub use Rattle.low.specs as low\n", "wasm_c": "pub use low::It;\n"}
+        self.assertEqual(list(edges.passed_on(dict.fromkeys(texts, []), texts)), [
+            "middle re-exports names of low: name them by low",
+            "high re-exports names of low: name them by low",
         ])
 
     def test_cited(self):
@@ -406,13 +407,12 @@ class Run(unittest.TestCase):
 class Touches(unittest.TestCase):
     def test_names_it(self):
         touches = tool("touches")
-        source = touches.names_it(cases.TOP / "crates" / "wasm_below_bytes" / "specs" / "Source.antt", "wasm_below_bytes")
-        for line in ("use Rattle.wasm_below_bytes.specs.Source.{rest}", "use Rattle.wasm_below.specs.Source.{rest}",
-                     "ghost use Rattle.wasm_decode.specs.below.Source.{rest};"):
+        source = touches.names_it(cases.TOP / "crates" / "wasm_below" / "specs" / "Source.antt", "wasm_below")
+        for line in ("use Rattle.wasm_below.specs.Source.{rest}", "ghost use Rattle.wasm_operators.specs.below.Source.{rest};"):
             self.assertTrue(source.search(line), line)
-        self.assertIsNone(source.search("use Rattle.wasm_decode.specs.imm.Source.{rest}"))
-        steps = touches.names_it(cases.TOP / "crates" / "wasm_below_bytes" / "proofs" / "Steps.antt", "wasm_below_bytes")
-        self.assertTrue(steps.search("use Rattle.wasm_imm.proofs.of_below.Steps.{unsigned_some}"))
+        self.assertIsNone(source.search("use Rattle.wasm_imm.specs.Sources.{rest}"))
+        steps = touches.names_it(cases.TOP / "crates" / "wasm_below" / "proofs" / "Steps.antt", "wasm_below")
+        self.assertTrue(steps.search("use Rattle.wasm_below.proofs.Steps.{unsigned_some}"))
 
     def test_lowest_first(self):
         touches = tool("touches")

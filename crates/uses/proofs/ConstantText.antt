@@ -1,5 +1,5 @@
 use Rattle.std.proofs.Common.{◌≡◌, ℕ, ℤ, ◌+◌, List, length, drop, Option, ap, subst, ◌∙◌, arith}
-use Rattle.wasm_operators.specs.below.bytes.features.WasmFeatures.{WasmFeatures}
+use Rattle.wasm_operators.specs.below.declared.features.WasmFeatures.{WasmFeatures}
 use Rattle.wasm_operators.specs.below.FromReader.{IsReaderOf}
 use Rattle.wasm_operators.specs.below.Source.{Source, Reader, offset_of, source_of, Takes}
 use Rattle.wasm_operators.specs.Constant.{EncodesConstant, EncodesConstantReader}

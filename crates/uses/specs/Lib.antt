@@ -5,3 +5,12 @@ pub mod Heights
 pub mod Input
 pub mod Module
 pub mod Trees
+pub mod Begun
+pub mod Bodies
+pub mod Complaints
+pub mod Immediates
+pub mod Iterated
+pub mod Paths
+pub mod Places
+pub mod Rest
+pub mod Tallies

@@ -4,8 +4,8 @@ use Rattle.std.specs.List.{slice_get}
 use Rattle.std.specs.Option.{option_map}
 use Rattle.wasm_operators.specs.below.declared.types.ValType.TheVariants as value
 use Rattle.wasm_operators.specs.grammar.declared.frame_kind.FrameKind.{FrameKind}
-use Rattle.wasm_operators.specs.imm.control.block_type.BlockType.{BlockType}
-use Rattle.wasm_operators.specs.imm.control.block_type.BlockType.TheVariants as block
+use Rattle.wasm_operators.specs.imm.declared.block_type.BlockType.{BlockType}
+use Rattle.wasm_operators.specs.imm.declared.block_type.BlockType.TheVariants as block
 use Rattle.wasm_operators.specs.instr.ModuleFacts.{ModuleFacts}
 use Rattle.uses.specs.declared.module.BlockArity.{BlockArity}
 use Rattle.uses.specs.declared.module.BlockArity.TheVariants as arity

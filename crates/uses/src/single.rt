@@ -1,5 +1,5 @@
 ghost use Rattle.std.specs.Prelude.{◌≡◌, ◌≢◌, ℕ, List, ◌++◌, IfOk, IfErr};
-ghost use Rattle.wasm_operators.specs.below.bytes.message.Message.{Message};
+ghost use Rattle.wasm_operators.specs.below.declared.message.Message.{Message};
 ghost use Rattle.wasm_operators.specs.below.Source.{rest};
 ghost use Rattle.wasm_operators.specs.instr.declared.operator.Operator.{Operator};
 ghost use Rattle.wasm_operators.specs.instr.Encoding.{EncodesOperator};

@@ -1,15 +1,13 @@
 use Rattle.std.proofs.Common.{◌≡◌, ℕ, inl, inr, List, refl, sym, ap, ◌∙◌, arith}
-use Rattle.wasm_below_bytes.specs.declared.message.Message.TheVariants as message
-use Rattle.wasm_below_bytes.specs.declared.message.TypeName.{TypeName}
-use Rattle.wasm_below_bytes.specs.declared.message.TypeName.TheVariants as type_name
-use Rattle.wasm_below_bytes.specs.Fault.{DeterminesRefusal}
-use Rattle.wasm_below_bytes.specs.Number.{EncodesUnsigned, EncodesSigned}
-use Rattle.wasm_below_bytes.specs.Source.{Reader, rest, BeginsWith, U32Fault, S33Fault}
+use Rattle.wasm_below.specs.declared.message.Message.TheVariants as message
+use Rattle.wasm_below.specs.declared.message.TypeName.{TypeName}
+use Rattle.wasm_below.specs.declared.message.TypeName.TheVariants as type_name
+use Rattle.wasm_below.specs.Fault.{DeterminesRefusal}
+use Rattle.wasm_below.specs.Number.{EncodesUnsigned, EncodesSigned}
+use Rattle.wasm_below.specs.Source.{Reader, rest, BeginsWith, U32Fault, S33Fault}
 use Rattle.wasm_below.specs.TypeEncoding.{LeadsShort, LedBy, ShortFault, ByteFault, NoIndex, HeapTypeFault, RefTypeFault, ValTypeFault, after_byte}
-use Rattle.wasm_below_bytes.proofs.PrefixCode.{unsigned_prefix_code, signed_prefix_code}
-use Rattle.wasm_below_bytes.proofs.DeterminedRefusals.{u32_determines}
-use Rattle.wasm_below_bytes.proofs.DeterminedRefusals.{s33_determines}
-use Rattle.wasm_below_bytes.proofs.DeterminedRefusals.{then_determines}
+use Rattle.wasm_below.proofs.PrefixCode.{unsigned_prefix_code, signed_prefix_code}
+use Rattle.wasm_below.proofs.DeterminedRefusals.{u32_determines, s33_determines, then_determines}
 
 index_determines : (begin : Reader) → DeterminesRefusal (NoIndex begin)
 index_determines begin m k r a b h q = (h.0 ∙ sym q.0, h.1 ∙ sym q.1)

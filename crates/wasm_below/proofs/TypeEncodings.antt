@@ -8,13 +8,13 @@ use Rattle.wasm_below.specs.declared.types.HeapType.{HeapType}
 use Rattle.wasm_below.specs.declared.types.HeapType.TheVariants as heap
 use Rattle.wasm_below.specs.declared.types.ValType.{ValType}
 use Rattle.wasm_below.specs.declared.types.ValType.TheVariants as value
-use Rattle.wasm_below_bytes.specs.Number.{EncodesUnsigned, EncodesSigned, last_value, with_sign}
+use Rattle.wasm_below.specs.Number.{EncodesUnsigned, EncodesSigned, last_value, with_sign}
 use Rattle.wasm_below.specs.Reference.{Reference, max_type_index}
-use Rattle.wasm_below_bytes.specs.declared.message.Message.{Message}
-use Rattle.wasm_below_bytes.specs.declared.message.TypeName.TheVariants as type_name
-use Rattle.wasm_below_bytes.specs.Source.{Reader, rest, NoPrefix, BeginsWith}
+use Rattle.wasm_below.specs.declared.message.Message.{Message}
+use Rattle.wasm_below.specs.declared.message.TypeName.TheVariants as type_name
+use Rattle.wasm_below.specs.Source.{Reader, rest, NoPrefix, BeginsWith}
 use Rattle.wasm_below.specs.TypeEncoding.{ShortFault, ByteFault, RefTypeFault, ValTypeFault, heap_type_byte, ref_byte, LeadsShort, LeadsRefType, EncodesShort, EncodesConcrete, EncodesExact, EncodesHeapType, EncodesShortRef, EncodesLongRef, EncodesRefType, EncodesNumberType, EncodesValType}
-use Rattle.wasm_below_bytes.proofs.PrefixCode.{unsigned_prefix_code, signed_prefix_code}
+use Rattle.wasm_below.proofs.PrefixCode.{unsigned_prefix_code, signed_prefix_code}
 
 pub heap_byte_within : (t : AbstractHeapType) → (104 ≤ heap_type_byte t) × (heap_type_byte t ≤ 117)
 heap_byte_within ty.NoCont = (lit≤ tt, lit≤ tt)

@@ -1,15 +1,15 @@
 use Rattle.std.proofs.Common.{◌≡◌, ◌≢◌, ℕ, ◌+◌, inl, inr, List, [], ◌∷◌, Err, sym, subst, ap, arith}
-use Rattle.wasm_below_bytes.specs.declared.error.Error.{Error}
-use Rattle.wasm_below_bytes.specs.declared.message.Message.{Message}
-use Rattle.wasm_below_bytes.specs.declared.message.Message.TheVariants as message
-use Rattle.wasm_below_bytes.specs.declared.message.TypeName.TheVariants as type_name
-use Rattle.wasm_below_bytes.specs.Number.{EncodesSigned}
-use Rattle.wasm_below_bytes.specs.Source.{Reader, rest, Takes, NoPrefix, BeginsWith, IsEndHere, Reads, S33Fault}
+use Rattle.wasm_below.specs.declared.error.Error.{Error}
+use Rattle.wasm_below.specs.declared.message.Message.{Message}
+use Rattle.wasm_below.specs.declared.message.Message.TheVariants as message
+use Rattle.wasm_below.specs.declared.message.TypeName.TheVariants as type_name
+use Rattle.wasm_below.specs.Number.{EncodesSigned}
+use Rattle.wasm_below.specs.Source.{Reader, rest, Takes, NoPrefix, BeginsWith, IsEndHere, Reads, S33Fault}
 use Rattle.wasm_below.specs.TypeEncoding.{LeadsShort, EncodesConcrete, ShortFault, NoIndex, ExactFault, ConcreteFault, HeapTypeFault}
-use Rattle.wasm_below_bytes.proofs.TakesLemmas.{end_too_long}
-use Rattle.wasm_below_bytes.proofs.SignedNumbers.{signed_empty}
-use Rattle.wasm_below_bytes.proofs.Faults.{none_here, first_fault}
-use Rattle.wasm_below_bytes.proofs.Sequences.{refuses_by}
+use Rattle.wasm_below.proofs.TakesLemmas.{end_too_long}
+use Rattle.wasm_below.proofs.SignedNumbers.{signed_empty}
+use Rattle.wasm_below.proofs.Faults.{none_here, first_fault}
+use Rattle.wasm_below.proofs.Sequences.{refuses_by}
 use Rattle.wasm_below.proofs.TypeEncodings.{concrete_number}
 
 pub end_heap : (e : Error) (r : Reader) → IsEndHere e r → HeapTypeFault e.message r e.offset

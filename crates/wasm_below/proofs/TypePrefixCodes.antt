@@ -5,9 +5,9 @@ use Rattle.wasm_below.specs.declared.types.HeapType.TheVariants as heap
 use Rattle.wasm_below.specs.declared.types.ValType.{ValType}
 use Rattle.wasm_below.specs.declared.types.ValType.TheVariants as value
 use Rattle.wasm_below.specs.Reference.{Reference}
-use Rattle.wasm_below_bytes.specs.Sequence.{PrefixCode}
+use Rattle.wasm_below.specs.Sequence.{PrefixCode}
 use Rattle.wasm_below.specs.TypeEncoding.{heap_type_byte, ref_byte, LeadsShort, LeadsRefType, EncodesShort, EncodesConcrete, EncodesExact, EncodesHeapType, EncodesShortRef, EncodesLongRef, EncodesRefType, EncodesNumberType, EncodesValType}
-use Rattle.wasm_below_bytes.proofs.PrefixCode.{unsigned_prefix_code, signed_prefix_code}
+use Rattle.wasm_below.proofs.PrefixCode.{unsigned_prefix_code, signed_prefix_code}
 use Rattle.wasm_below.proofs.TypeEncodings.{heap_byte_within, ref_byte_leads, short_leads, index_leads, ref_leads, heap_empty, heap_short, heap_exact, heap_concrete, ref_empty, value_empty, value_is_ref, value_number, number_leads}
 
 abstract_at : ℕ → AbstractHeapType

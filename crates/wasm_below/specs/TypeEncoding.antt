@@ -1,10 +1,10 @@
 -- Specification: Binary Format, Types; the bytes 0x62 (exact), 0x65 (shared), 0x68 (cont) and 0x75
 -- (nocont): proposals.
 use Rattle.std.specs.Prelude.{◌≡◌, ◌≢◌, ℕ, ◌+◌, ◌≤◌, ◌⊎◌, Bool, true, false, List, [], ◌∷◌, pos}
-use Rattle.wasm_below_bytes.specs.declared.message.Message.{Message}
-use Rattle.wasm_below_bytes.specs.declared.message.Message.TheVariants as message
-use Rattle.wasm_below_bytes.specs.declared.message.TypeName.{TypeName}
-use Rattle.wasm_below_bytes.specs.declared.message.TypeName.TheVariants as type_name
+use Rattle.wasm_below.specs.declared.message.Message.{Message}
+use Rattle.wasm_below.specs.declared.message.Message.TheVariants as message
+use Rattle.wasm_below.specs.declared.message.TypeName.{TypeName}
+use Rattle.wasm_below.specs.declared.message.TypeName.TheVariants as type_name
 use Rattle.wasm_below.specs.declared.types.AbstractHeapType.{AbstractHeapType}
 use Rattle.wasm_below.specs.declared.types.AbstractHeapType.TheVariants as ty
 use Rattle.wasm_below.specs.declared.types.HeapType.{HeapType}
@@ -12,9 +12,9 @@ use Rattle.wasm_below.specs.declared.types.HeapType.TheVariants as heap
 use Rattle.wasm_below.specs.declared.types.ValType.{ValType}
 use Rattle.wasm_below.specs.declared.types.ValType.TheVariants as value
 use Rattle.wasm_below.specs.Reference.{Reference, max_type_index}
-use Rattle.wasm_below_bytes.specs.Number.{EncodesUnsigned, EncodesSigned}
-use Rattle.wasm_below_bytes.specs.Source.{Reader, rest, offset_of, end_of, at_position, BeginsWith, U32Fault, S33Fault}
-use Rattle.wasm_below_bytes.specs.Fault.{ThenFault}
+use Rattle.wasm_below.specs.Number.{EncodesUnsigned, EncodesSigned}
+use Rattle.wasm_below.specs.Source.{Reader, rest, offset_of, end_of, at_position, BeginsWith, U32Fault, S33Fault}
+use Rattle.wasm_below.specs.Fault.{ThenFault}
 
 abbrev pub heap_type_byte : AbstractHeapType → ℕ
 heap_type_byte ty.NoCont = 0x75

@@ -1,9 +1,9 @@
 //! Laws of types: encodings are prefix codes, faults determine errors, and `==` is exact. For
 //! heap types, `FromReader::is_prefix_code` states the first.
-ghost use Rattle.wasm_below_bytes.specs.Sequence.{PrefixCode};
+ghost use Rattle.wasm_below.specs.Sequence.{PrefixCode};
 ghost use Rattle.wasm_below.specs.Equality.{IsExact};
 ghost use Rattle.wasm_below.specs.TypeEncoding.{EncodesRefType, EncodesValType, HeapTypeFault, RefTypeFault, ValTypeFault};
-ghost use Rattle.wasm_below_bytes.specs.Fault.{DeterminesRefusal};
+ghost use Rattle.wasm_below.specs.Fault.{DeterminesRefusal};
 
 use crate::types::{HeapType, RefType, ValType};
 

@@ -4,11 +4,11 @@ use Rattle.std.specs.Prelude.{sum_by}
 use Rattle.std.proofs.lemmas.List.Sums.{sum_by-append}
 use Rattle.std.proofs.Math.Nat.{mod-add-mod}
 use Rattle.std.proofs.lemmas.List.{append-nil}
-use Rattle.wasm_operators_readers.specs.below.Source.{Reader, rest, Takes, NoPrefix, HasRead}
-use Rattle.wasm_operators_readers.specs.below.Sequence.{PrefixCode, Then}
-use Rattle.wasm_operators_readers.proofs.of_below.TakesLemmas.{takes_then, same_rest}
-use Rattle.wasm_operators_readers.specs.imm.Lists.{EncodesEach}
-use Rattle.wasm_operators_readers.proofs.of_imm.ListLemmas.{each_more}
+use Rattle.wasm_operators.specs.below.Source.{Reader, rest, Takes, NoPrefix, HasRead}
+use Rattle.wasm_operators.specs.below.Sequence.{PrefixCode, Then}
+use Rattle.wasm_below.proofs.TakesLemmas.{takes_then, same_rest}
+use Rattle.wasm_operators.specs.imm.Lists.{EncodesEach}
+use Rattle.wasm_imm.proofs.ListLemmas.{each_more}
 use Rattle.wasm_bench.specs.Sums.{IsSumOf}
 
 sum_more : {X : Type 0} (counts : X → ℕ) (xs : List X) (x : X) → sum_by counts (xs ++ x ∷ []) ≡ sum_by counts xs + counts x

@@ -1,9 +1,9 @@
 use Rattle.std.specs.Prelude.{◌≡◌, ℕ, ◌+◌, ◌%◌, ◌^◌, List, sum_by}
-use Rattle.wasm_operators_readers.specs.imm.declared.memory_argument.MemArg.{MemArg}
-use Rattle.wasm_operators_readers.specs.imm.control.block_type.BlockType.{BlockType}
-use Rattle.wasm_operators_readers.specs.imm.control.block_type.BlockType.TheVariants as block
-use Rattle.wasm_operators_readers.specs.imm.BranchTables.{BranchTable}
-use Rattle.wasm_operators_readers.specs.imm.Lists.{EncodesEach}
+use Rattle.wasm_operators.specs.imm.declared.memory_argument.MemArg.{MemArg}
+use Rattle.wasm_operators.specs.imm.declared.block_type.BlockType.{BlockType}
+use Rattle.wasm_operators.specs.imm.declared.block_type.BlockType.TheVariants as block
+use Rattle.wasm_operators.specs.imm.BranchTables.{BranchTable}
+use Rattle.wasm_operators.specs.imm.Lists.{EncodesEach}
 
 -- If `bytes` encode values one after another, `outcome` is the sum of their `counts` modulo 2^64.
 abbrev pub IsSumOf : {X : Type 0} → (List ℕ → X → Type 0) → (X → ℕ) → List ℕ → ℕ → Type 0

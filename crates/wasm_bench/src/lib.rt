@@ -5,20 +5,19 @@
 
 ghost use Rattle.std.specs.Prelude.{◌≡◌};
 ghost use Rattle.std.specs.Int.{w32, w64, cast_unsigned};
-ghost use Rattle.wasm_operators_readers.specs.below.Features.{all_features};
-ghost use Rattle.wasm_operators_readers.specs.below.Number.{EncodesUnsigned, EncodesSigned};
-ghost use Rattle.wasm_operators_readers.specs.below.Source.{IsByte};
-ghost use Rattle.wasm_operators_readers.specs.imm.BlockTypes.{EncodesBlockType};
-ghost use Rattle.wasm_operators_readers.specs.imm.BranchTables.{EncodesBranchTable};
-ghost use Rattle.wasm_operators_readers.specs.imm.MemoryArgument.{EncodesMemArg};
+ghost use Rattle.wasm_operators.specs.below.Features.{all_features};
+ghost use Rattle.wasm_operators.specs.below.Number.{EncodesUnsigned, EncodesSigned};
+ghost use Rattle.wasm_operators.specs.below.Source.{IsByte};
+ghost use Rattle.wasm_operators.specs.imm.BlockTypes.{EncodesBlockType};
+ghost use Rattle.wasm_operators.specs.imm.BranchTables.{EncodesBranchTable};
+ghost use Rattle.wasm_operators.specs.imm.MemoryArgument.{EncodesMemArg};
 ghost use Rattle.wasm_bench.specs.Sums.{IsSumOf, itself, argument_counts, block_counts, table_counts};
 
 mod operators;
 mod visitors;
 
 use std::alloc::Global;
-use wasm_operators_readers::below::BinaryReader;
-use wasm_operators_readers::imm::{BlockType, BrTable, MemArg, MemArgKind};
+use wasm_operators::{BinaryReader, BlockType, BrTable, MemArg, MemArgKind};
 
 #[unsafe(no_mangle)]
 pub extern "C" fn wasm_bench_u8(_alloc: Global, bytes: &[u8]) -> u64

@@ -1,8 +1,6 @@
 use crate::visitors::{CountAny, CountSome};
 use std::alloc::Global;
-use wasm_operators_readers::OperatorsReader;
-use wasm_operators_readers::below::{BinaryReader, ValType};
-use wasm_operators_readers::instr::Operator;
+use wasm_operators::{BinaryReader, Operator, OperatorsReader, ValType};
 
 /// Creates a reader after `body`'s locals; `None` if reading these fails.
 fn operators_of(alloc: Global, body: &[u8]) -> Option<OperatorsReader<'_>> {

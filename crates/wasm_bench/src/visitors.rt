@@ -1,9 +1,9 @@
 //! `CountAny` has no overridden visits.
 ghost use Rattle.std.specs.Prelude.{◌≡◌, ◌+◌, ◌-◌, ◌^◌, ◌<◌};
 
-use wasm_operators_readers::imm::{BrTable, MemArg};
-use wasm_operators_readers::instr::Operator;
-use wasm_operators_readers::visitors::{ByAny, OwnOneByte, VisitOneByte, VisitOperator, Visitor};
+use wasm_operators::{
+    BrTable, ByAny, MemArg, Operator, OwnOneByte, VisitOneByte, VisitOperator, Visitor,
+};
 
 #[derive(Drop)]
 pub struct CountAny {

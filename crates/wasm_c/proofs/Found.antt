@@ -1,6 +1,6 @@
 -- What is found in two steps is found in one; and the same after the locals of a body.
 use Rattle.std.proofs.Common.{◌≡◌, ℕ, ◌+◌, ◌≤◌, List, [], ◌++◌, length, length-append, length-drop, Result, Ok, Err, sym, ap, ◌∙◌, arith, ◌⊎◌, inl, inr}
-use Rattle.wasm_operators.specs.below.bytes.error.Error.{Error}
+use Rattle.wasm_operators.specs.below.declared.error.Error.{Error}
 use Rattle.wasm_operators.specs.below.Source.{Reader, rest, offset_of, end_of}
 use Rattle.wasm_operators.specs.Body.{OpensBody}
 use Rattle.wasm_operators.specs.Expression.{Placed, OfPlaced}

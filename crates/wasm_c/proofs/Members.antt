@@ -1,7 +1,7 @@
 -- The results of the calls for an operator's list.
 use Rattle.std.proofs.Common.{◌≡◌, ℕ, List, Option, Some, None, Result, Ok, Err, refl, ap, subst, ◌∙◌, inl, inr}
 use Rattle.std.specs.Prelude.{IfSome, IfNone}
-use Rattle.wasm_operators.specs.below.bytes.error.Error.{Error}
+use Rattle.wasm_operators.specs.below.declared.error.Error.{Error}
 use Rattle.wasm_operators.specs.below.Source.{Reader, rest}
 use Rattle.wasm_operators.specs.grammar.declared.frame_kind.FrameKind.{FrameKind}
 use Rattle.wasm_operators.specs.grammar.declared.frame_kind.FrameKind.TheVariants as frame

@@ -2,7 +2,7 @@
 use Rattle.std.proofs.Common.{◌≡◌, ℕ, ◌+◌, ◌*◌, ◌/◌, ◌≤◌, List, [], ◌∷◌, length, sym, ap, subst, ◌∙◌, arith, length-append, length-drop}
 use Rattle.wasm_operators.specs.below.Features.{features_of}
 use Rattle.wasm_operators.specs.below.Source.{rest}
-use Rattle.wasm_operators.specs.below.bytes.features.WasmFeatures.{WasmFeatures}
+use Rattle.wasm_operators.specs.below.declared.features.WasmFeatures.{WasmFeatures}
 use Rattle.wasm_operators.specs.instr.declared.operator.Operator.{Operator}
 use Rattle.wasm_operators.specs.instr.Encoding.{EncodesOperator}
 use Rattle.wasm_operators.specs.Expression.{Placed}

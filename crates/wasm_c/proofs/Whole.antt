@@ -5,9 +5,9 @@ use Rattle.std.proofs.lemmas.List.{append-nil}
 use Rattle.wasm_operators.specs.below.Features.{features_of}
 use Rattle.wasm_operators.specs.below.Refusal.{number_of}
 use Rattle.wasm_operators.specs.below.Source.{reader_of, source_of, rest, offset_of}
-use Rattle.wasm_operators.specs.below.bytes.error.Error.{Error}
-use Rattle.wasm_operators.specs.below.bytes.message.Message.{Message}
-use Rattle.wasm_operators.specs.below.bytes.message.Message.TheVariants as message
+use Rattle.wasm_operators.specs.below.declared.error.Error.{Error}
+use Rattle.wasm_operators.specs.below.declared.message.Message.{Message}
+use Rattle.wasm_operators.specs.below.declared.message.Message.TheVariants as message
 use Rattle.wasm_operators.specs.instr.declared.operator.Operator.{Operator}
 use Rattle.wasm_operators.specs.Body.{EncodesBody, OpensBody}
 use Rattle.wasm_operators.specs.Expression.{Placed, EncodesExpression}

@@ -1,17 +1,17 @@
 -- The bodies of a module's functions as C structs, one after another, and the names of functions.
 -- Specification: Binary Format, Modules, Code Section; Appendix, Custom Sections, Name Section.
 use Rattle.std.specs.Prelude.{◌≡◌, ℕ, List, ◌⊎◌}
-use Rattle.wasm_bodies.specs.functions.declared.fault.ModuleFault.{ModuleFault}
-use Rattle.wasm_bodies.specs.functions.declared.fault.ModuleFault.TheVariants as whole_fault
-use Rattle.wasm_bodies.specs.functions.of_module.declared.preamble.PreambleKind.{PreambleKind}
-use Rattle.wasm_bodies.specs.functions.of_module.declared.preamble.PreambleKind.TheVariants as kind
-use Rattle.wasm_bodies.specs.declared.bodies.WasmBodies.{WasmBodies}
-use Rattle.wasm_bodies.specs.declared.fault.BodiesFault.{BodiesFault}
-use Rattle.wasm_bodies.specs.declared.fault.BodiesFault.TheVariants as fault
-use Rattle.wasm_bodies.specs.declared.fault.NoBody.{NoBody}
-use Rattle.wasm_bodies.specs.declared.fault.NoBody.TheVariants as no_body
-use Rattle.wasm_bodies.specs.declared.next.WasmBody.{WasmBody}
-use Rattle.wasm_bodies.specs.Bodies.{OpensBodies, RefusesBodies, TakesBody, StopsBodies, NamesFunction, RefusesName}
+use Rattle.wasm_module.specs.declared.fault.ModuleFault.{ModuleFault}
+use Rattle.wasm_module.specs.declared.fault.ModuleFault.TheVariants as whole_fault
+use Rattle.wasm_module.specs.declared.preamble.PreambleKind.{PreambleKind}
+use Rattle.wasm_module.specs.declared.preamble.PreambleKind.TheVariants as kind
+use Rattle.wasm_module.specs.declared.bodies.WasmBodies.{WasmBodies}
+use Rattle.wasm_module.specs.declared.body_fault.BodiesFault.{BodiesFault}
+use Rattle.wasm_module.specs.declared.body_fault.BodiesFault.TheVariants as fault
+use Rattle.wasm_module.specs.declared.body_fault.NoBody.{NoBody}
+use Rattle.wasm_module.specs.declared.body_fault.NoBody.TheVariants as no_body
+use Rattle.wasm_module.specs.declared.next.WasmBody.{WasmBody}
+use Rattle.wasm_module.specs.Bodies.{OpensBodies, RefusesBodies, TakesBody, StopsBodies, NamesFunction, RefusesName}
 use Rattle.wasm_c.specs.declared.refusal.WasmRefusal.{WasmRefusal}
 use Rattle.wasm_c.specs.OperatorTexts.{PlacesText, out_of_memory}
 use Rattle.wasm_c.specs.Members.{Unchanged}

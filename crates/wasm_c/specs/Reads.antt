@@ -1,7 +1,7 @@
 -- Specification: Binary Format, Modules, Code Section.
 use Rattle.std.specs.Prelude.{◌≡◌, ℕ, ◌+◌, ◌^◌, ◌<◌, ◌≤◌, List, [], ◌++◌, length, drop, Result, Ok, Err, IfErr, ◌⊎◌}
-use Rattle.wasm_operators.specs.below.bytes.error.Error.{Error}
-use Rattle.wasm_operators.specs.below.bytes.message.Message.TheVariants as message
+use Rattle.wasm_operators.specs.below.declared.error.Error.{Error}
+use Rattle.wasm_operators.specs.below.declared.message.Message.TheVariants as message
 use Rattle.wasm_operators.specs.below.Source.{Reader, rest, source_of, end_of}
 use Rattle.wasm_operators.specs.Body.{EncodesBody, OpensBody, StopsBody}
 use Rattle.wasm_operators.specs.opcodes.Allowed.{EncodesAllowed}

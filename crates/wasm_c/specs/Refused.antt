@@ -1,20 +1,20 @@
 -- Errors as C structs. docs/ERRORS-AND-FEATURES.md has the table of their numbers.
 use Rattle.std.specs.Prelude.{ℕ, ◌+◌, ◌*◌, if◌then◌else◌, Result, Ok, Err}
-use Rattle.wasm_operators.specs.below.bytes.error.Error.{Error}
-use Rattle.wasm_operators.specs.below.bytes.message.Message.{Message}
-use Rattle.wasm_operators.specs.below.bytes.message.Message.TheVariants as message
-use Rattle.wasm_operators.specs.below.bytes.message.FrameName.{FrameName}
-use Rattle.wasm_operators.specs.below.bytes.message.FrameName.TheVariants as frame_name
-use Rattle.wasm_operators.specs.below.bytes.message.InstructionName.{InstructionName}
-use Rattle.wasm_operators.specs.below.bytes.message.InstructionName.TheVariants as instruction_name
-use Rattle.wasm_operators.specs.below.bytes.message.LeadingByteName.{LeadingByteName}
-use Rattle.wasm_operators.specs.below.bytes.message.LeadingByteName.TheVariants as leading_name
-use Rattle.wasm_operators.specs.below.bytes.message.NumberName.{NumberName}
-use Rattle.wasm_operators.specs.below.bytes.message.NumberName.TheVariants as number_name
-use Rattle.wasm_operators.specs.below.bytes.message.SizeName.{SizeName}
-use Rattle.wasm_operators.specs.below.bytes.message.SizeName.TheVariants as size_name
-use Rattle.wasm_operators.specs.below.bytes.message.TypeName.{TypeName}
-use Rattle.wasm_operators.specs.below.bytes.message.TypeName.TheVariants as type_name
+use Rattle.wasm_operators.specs.below.declared.error.Error.{Error}
+use Rattle.wasm_operators.specs.below.declared.message.Message.{Message}
+use Rattle.wasm_operators.specs.below.declared.message.Message.TheVariants as message
+use Rattle.wasm_operators.specs.below.declared.message.FrameName.{FrameName}
+use Rattle.wasm_operators.specs.below.declared.message.FrameName.TheVariants as frame_name
+use Rattle.wasm_operators.specs.below.declared.message.InstructionName.{InstructionName}
+use Rattle.wasm_operators.specs.below.declared.message.InstructionName.TheVariants as instruction_name
+use Rattle.wasm_operators.specs.below.declared.message.LeadingByteName.{LeadingByteName}
+use Rattle.wasm_operators.specs.below.declared.message.LeadingByteName.TheVariants as leading_name
+use Rattle.wasm_operators.specs.below.declared.message.NumberName.{NumberName}
+use Rattle.wasm_operators.specs.below.declared.message.NumberName.TheVariants as number_name
+use Rattle.wasm_operators.specs.below.declared.message.SizeName.{SizeName}
+use Rattle.wasm_operators.specs.below.declared.message.SizeName.TheVariants as size_name
+use Rattle.wasm_operators.specs.below.declared.message.TypeName.{TypeName}
+use Rattle.wasm_operators.specs.below.declared.message.TypeName.TheVariants as type_name
 use Rattle.wasm_operators.specs.below.Refusal.{number_of}
 use Rattle.wasm_c.specs.declared.refusal.WasmRefusal.{WasmRefusal}
 

@@ -1,10 +1,10 @@
 -- Specification: Binary Format, Values; Types; Instructions, Control Instructions and Expressions; Modules, Code Section.
 use Rattle.std.specs.Prelude.{◌≡◌, ℕ, ◌+◌, ◌≤◌, ◌<◌, ◌⊎◌, List, [], ◌∷◌, length, ℤ, true, Some, Result, Ok, Err, slice_get}
 use Rattle.std.specs.Int.{w32, w64, cast_unsigned}
-use Rattle.wasm_operators.specs.below.bytes.error.Error.{Error}
-use Rattle.wasm_operators.specs.below.bytes.message.Message.{Message}
-use Rattle.wasm_operators.specs.below.bytes.message.Message.TheVariants as message
-use Rattle.wasm_operators.specs.below.bytes.message.SizeName.TheVariants as size_name
+use Rattle.wasm_operators.specs.below.declared.error.Error.{Error}
+use Rattle.wasm_operators.specs.below.declared.message.Message.{Message}
+use Rattle.wasm_operators.specs.below.declared.message.Message.TheVariants as message
+use Rattle.wasm_operators.specs.below.declared.message.SizeName.TheVariants as size_name
 use Rattle.wasm_operators.specs.below.declared.types.HeapType.{HeapType}
 use Rattle.wasm_operators.specs.below.declared.types.ValType.{ValType}
 use Rattle.wasm_operators.specs.below.declared.types.ValType.TheVariants as value
@@ -18,7 +18,7 @@ use Rattle.wasm_operators.specs.imm.BlockTypeFaults.{BlockTypeFault}
 use Rattle.wasm_operators.specs.imm.BlockTypes.{EncodesBlockType}
 use Rattle.wasm_operators.specs.imm.HandlerFaults.{CatchFault, HandleFault}
 use Rattle.wasm_operators.specs.imm.Handlers.{EncodesCatch, EncodesHandle}
-use Rattle.wasm_operators.specs.imm.control.block_type.BlockType.{BlockType}
+use Rattle.wasm_operators.specs.imm.declared.block_type.BlockType.{BlockType}
 use Rattle.wasm_operators.specs.Constant.{EncodesConstantReader}
 use Rattle.wasm_operators.specs.ConstantFaults.{ConstantFault, ConstantMayAllocate}
 use Rattle.wasm_operators.specs.Locals.{Declaration, RefusesLocals, ReadsPastLocals, max_locals}

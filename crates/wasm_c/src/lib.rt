@@ -8,7 +8,7 @@
 ghost use Rattle.std.specs.Prelude.{◌≡◌, ◌<◌, ◌≤◌, ◌+◌, ◌^◌, ◌/◌, length, Some, List, ℕ};
 ghost use Rattle.wasm_operators.specs.below.Features.{features_of};
 ghost use Rattle.wasm_operators.specs.below.Source.{reader_of, Takes};
-ghost use Rattle.wasm_operators.specs.below.bytes.error.Error.{Error};
+ghost use Rattle.wasm_operators.specs.below.declared.error.Error.{Error};
 ghost use Rattle.wasm_operators.specs.instr.Row.{name_of};
 ghost use Rattle.wasm_operators.specs.instr.declared.operator.Operator.{Operator};
 ghost use Rattle.wasm_operators.specs.Expression.{Placed};
@@ -52,7 +52,7 @@ pub use crate::reader::WasmReader;
 pub use crate::refusal::WasmRefusal;
 pub use crate::value::WasmValue;
 use std::alloc::Global;
-pub use wasm_bodies::{WasmBodies, WasmBody};
+pub use wasm_module::{WasmBodies, WasmBody};
 use wasm_view::laws::names;
 use wasm_view::name_at;
 pub use wasm_view::{WasmHandler, WasmOperator, WasmType};

@@ -5,9 +5,9 @@ ghost use Rattle.wasm_c.specs.Modules.{preamble_number, refusal_of_module, refus
 use crate::operator_text::{out_of_memory, place_text};
 use crate::refusal::{NOT_A_READER, WasmRefusal};
 use std::alloc::Global;
-use wasm_bodies::module::PreambleKind;
-use wasm_bodies::{
-    BodiesFault, ModuleFault, NoBody, WasmBodies, WasmBody, function_name, next_body, open_bodies,
+use wasm_module::{
+    BodiesFault, ModuleFault, NoBody, PreambleKind, WasmBodies, WasmBody, function_name, next_body,
+    open_bodies,
 };
 
 // The numbers of errors, as in `include/wasm_operators.h`.

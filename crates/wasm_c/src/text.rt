@@ -1,7 +1,7 @@
 //! Texts of errors, written to an array.
 ghost use Rattle.std.specs.Prelude.{◌≡◌, ◌+◌, ◌*◌, ◌^◌, ◌<◌, ◌≤◌, [], ◌∷◌, ◌++◌, ◌%◌, length, Some, false, codes};
 ghost use Rattle.std.specs.Option.{option_map};
-ghost use Rattle.wasm_operators.specs.below.bytes.message.Message.TheVariants as message;
+ghost use Rattle.wasm_operators.specs.below.declared.message.Message.TheVariants as message;
 ghost use Rattle.std.specs.Fmt.{decimal, digit_glyph};
 ghost use Rattle.wasm_c.specs.Texts.{hexadecimal, eight_digits, message_text, frame_name_text, instruction_numbered, integer_numbered, size_numbered, frames_numbered, ordering_numbered, leading_numbered, type_numbered, bare_numbered, message_numbered, ReturnsText, PutsPiece};
 

@@ -1,7 +1,7 @@
 //! Reads of values, as C structs.
 ghost use Rattle.std.specs.Prelude.{length};
 ghost use Rattle.std.specs.Int.{w32, w64};
-ghost use Rattle.wasm_operators.specs.below.bytes.message.SizeName.TheVariants as size_name;
+ghost use Rattle.wasm_operators.specs.below.declared.message.SizeName.TheVariants as size_name;
 ghost use Rattle.wasm_operators.specs.below.FromReader.{EncodesReader, ReaderFault};
 ghost use Rattle.wasm_operators.specs.below.Number.{EncodesUnsigned, EncodesSigned, EncodesFixed, EncodesSize};
 ghost use Rattle.wasm_operators.specs.below.Source.{IsByte, IsBlock, EndFault, EndsWithin, CountFault, U32Fault, U64Fault, I32Fault, S33Fault, I64Fault};

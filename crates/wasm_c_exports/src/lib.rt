@@ -5,19 +5,19 @@
 #![tactic(auto)]
 
 ghost use Rattle.std.specs.Prelude.{◌≡◌, ◌<◌, ◌≤◌, ◌+◌, ◌^◌, ◌/◌, length, Some, List, ℕ};
-ghost use Rattle.wasm_c.specs.operators.below.Features.{features_of};
-ghost use Rattle.wasm_c.specs.operators.below.Source.{reader_of, Takes};
-ghost use Rattle.wasm_c.specs.operators.below.bytes.error.Error.{Error};
-ghost use Rattle.wasm_c.specs.operators.instr.Row.{name_of};
-ghost use Rattle.wasm_c.specs.operators.instr.declared.operator.Operator.{Operator};
-ghost use Rattle.wasm_c.specs.operators.Expression.{Placed};
-ghost use Rattle.wasm_c.specs.operators.MainTheorem.{IsWithinDepth};
-ghost use Rattle.wasm_c.specs.operators.Reading.{State, IsFresh};
-ghost use Rattle.wasm_c.specs.text.Names.{text_name};
-ghost use Rattle.wasm_c.specs.text.Operands.{text_of};
-ghost use Rattle.wasm_c.specs.view.Lists.{targets_of, types_of, catches_of, handles_of};
-ghost use Rattle.wasm_c.specs.view.Names.{name_at};
-ghost use Rattle.wasm_c.specs.view.View.{view_of};
+ghost use Rattle.wasm_operators.specs.below.Features.{features_of};
+ghost use Rattle.wasm_operators.specs.below.Source.{reader_of, Takes};
+ghost use Rattle.wasm_operators.specs.below.declared.error.Error.{Error};
+ghost use Rattle.wasm_operators.specs.instr.Row.{name_of};
+ghost use Rattle.wasm_operators.specs.instr.declared.operator.Operator.{Operator};
+ghost use Rattle.wasm_operators.specs.Expression.{Placed};
+ghost use Rattle.wasm_operators.specs.MainTheorem.{IsWithinDepth};
+ghost use Rattle.wasm_operators.specs.Reading.{State, IsFresh};
+ghost use Rattle.wasm_text.specs.Names.{text_name};
+ghost use Rattle.wasm_text.specs.Operands.{text_of};
+ghost use Rattle.wasm_view.specs.Lists.{targets_of, types_of, catches_of, handles_of};
+ghost use Rattle.wasm_view.specs.Names.{name_at};
+ghost use Rattle.wasm_view.specs.View.{view_of};
 ghost use Rattle.wasm_c.specs.Members.{ReturnsList};
 ghost use Rattle.wasm_c.specs.Modules.{ReturnsBodies, ReturnsBody, ReturnsName};
 ghost use Rattle.wasm_c.specs.OperatorTexts.{RefusesText, RefusesTextName, ReturnsTextAt};

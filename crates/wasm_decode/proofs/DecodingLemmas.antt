@@ -1,37 +1,37 @@
 -- From the first byte of an operator to its visit.
 use Rattle.std.proofs.Common.{◌≡◌, ◌≢◌, ℕ, ◌+◌, ◌≤◌, ◌<◌, inl, inr, Bool, true, false, List, [], ◌∷◌, ◌++◌, length, Option, Some, None, Result, Ok, Err, refl, sym, subst, ap, ◌∙◌, append_assoc, arith}
-use Rattle.wasm_visit.specs.below.bytes.error.Error.{Error}
-use Rattle.wasm_visit.specs.below.bytes.features.WasmFeatures.{WasmFeatures}
-use Rattle.wasm_visit.specs.below.bytes.message.Message.{Message}
-use Rattle.wasm_visit.specs.below.bytes.message.Message.TheVariants as message
-use Rattle.wasm_visit.specs.below.FromReader.{IsRefused}
-use Rattle.wasm_visit.specs.below.Number.{EncodesUnsigned}
-use Rattle.wasm_visit.specs.below.Refusal.{IsReadFault}
-use Rattle.wasm_visit.specs.below.Source.{Reader, rest, at_position, Takes, BeginsWith, HasRead, Reads, IsByte, U32Fault}
-use Rattle.wasm_visit.proofs.of_below.Blocks.{refused_now}
-use Rattle.wasm_visit.proofs.of_below.TakesLemmas.{takes_then, rewound, first_byte_read}
-use Rattle.wasm_visit.specs.grammar.declared.frame_kind.FrameKind.{FrameKind}
-use Rattle.wasm_visit.specs.instr.declared.operator.Operator.{Operator}
-use Rattle.wasm_visit.specs.instr.declared.operator.Operator.TheVariants as operator
-use Rattle.wasm_visit.specs.instr.ops.gc.GcOperator.{GcOperator}
-use Rattle.wasm_visit.specs.instr.Encoding.{EncodesOpcode, EncodesOperator}
-use Rattle.wasm_visit.specs.instr.Immediate.{Kind}
-use Rattle.wasm_visit.specs.instr.Kinds.{IsVector}
-use Rattle.wasm_visit.specs.instr.Row.{prefix_of, opcode_of}
-use Rattle.wasm_visit.specs.opcodes.Allowed.{EncodesAllowed, EncodesScalar, EncodesIn}
-use Rattle.wasm_visit.specs.opcodes.Decoding.{Decodes, DecodesAt, DecodesOperator, DecodesOperatorAt, IsAfterCode}
-use Rattle.wasm_visit.specs.decode.Arms.{ReadsOperatorAt}
-use Rattle.wasm_visit.specs.decode.Lent.{ByLent}
-use Rattle.wasm_visit.specs.decode.declared.lent.Lent.{Lent}
-use Rattle.wasm_visit.specs.opcodes.declared.guard.Guard.{Guard}
-use Rattle.wasm_visit.specs.instr.Roles.{role_of}
-use Rattle.wasm_visit.specs.opcodes.Entry.{Entry, prefixes, guard_of, kinds_of, guarded_entry, entry_of}
-use Rattle.wasm_visit.specs.opcodes.Entries.{opcode_entries, entry_at}
-use Rattle.wasm_visit.specs.opcodes.OperatorFaults.{EntryFault, OperatorFault, ScalarOperatorFault, FaultIn}
-use Rattle.wasm_visit.specs.opcodes.Refused.{MayAllocate}
-use Rattle.wasm_visit.proofs.of_opcodes.EntriesAgree.{entry_agrees}
-use Rattle.wasm_visit.proofs.of_decode.Copies.{left_within, by_copy}
-use Rattle.wasm_visit.proofs.of_decode.Ranges.{InRanges, codes_in}
+use Rattle.wasm_below.specs.declared.error.Error.{Error}
+use Rattle.wasm_below.specs.declared.features.WasmFeatures.{WasmFeatures}
+use Rattle.wasm_below.specs.declared.message.Message.{Message}
+use Rattle.wasm_below.specs.declared.message.Message.TheVariants as message
+use Rattle.wasm_below.specs.FromReader.{IsRefused}
+use Rattle.wasm_below.specs.Number.{EncodesUnsigned}
+use Rattle.wasm_below.specs.Refusal.{IsReadFault}
+use Rattle.wasm_below.specs.Source.{Reader, rest, at_position, Takes, BeginsWith, HasRead, Reads, IsByte, U32Fault}
+use Rattle.wasm_below.proofs.Blocks.{refused_now}
+use Rattle.wasm_below.proofs.TakesLemmas.{takes_then, rewound, first_byte_read}
+use Rattle.wasm_grammar.specs.declared.frame_kind.FrameKind.{FrameKind}
+use Rattle.wasm_instr.specs.declared.operator.Operator.{Operator}
+use Rattle.wasm_instr.specs.declared.operator.Operator.TheVariants as operator
+use Rattle.wasm_instr_ops.specs.declared.gc.GcOperator.{GcOperator}
+use Rattle.wasm_instr.specs.Encoding.{EncodesOpcode, EncodesOperator}
+use Rattle.wasm_imm.specs.Immediate.{Kind}
+use Rattle.wasm_instr.specs.Kinds.{IsVector}
+use Rattle.wasm_instr.specs.Row.{prefix_of, opcode_of}
+use Rattle.wasm_decode_opcodes.specs.Allowed.{EncodesAllowed, EncodesScalar, EncodesIn}
+use Rattle.wasm_decode_opcodes.specs.Decoding.{Decodes, DecodesAt, DecodesOperator, DecodesOperatorAt, IsAfterCode}
+use Rattle.wasm_decode_groups.specs.Arms.{ReadsOperatorAt}
+use Rattle.wasm_decode_groups.specs.Lent.{ByLent}
+use Rattle.wasm_decode_groups.specs.declared.lent.Lent.{Lent}
+use Rattle.wasm_decode_opcodes.specs.declared.guard.Guard.{Guard}
+use Rattle.wasm_instr.specs.Roles.{role_of}
+use Rattle.wasm_decode_opcodes.specs.Entry.{Entry, prefixes, guard_of, kinds_of, guarded_entry, entry_of}
+use Rattle.wasm_decode_opcodes.specs.Entries.{opcode_entries, entry_at}
+use Rattle.wasm_decode_opcodes.specs.OperatorFaults.{EntryFault, OperatorFault, ScalarOperatorFault, FaultIn}
+use Rattle.wasm_decode_opcodes.specs.Refused.{MayAllocate}
+use Rattle.wasm_decode_opcodes.proofs.EntriesAgree.{entry_agrees}
+use Rattle.wasm_decode_groups.proofs.Copies.{left_within, by_copy}
+use Rattle.wasm_decode_groups.proofs.Ranges.{InRanges, codes_in}
 use Rattle.wasm_decode.specs.Reading.{DecodesGcAt}
 
 -- the reader is after the byte that it read

@@ -1,29 +1,29 @@
 use Rattle.std.proofs.Common.{ℕ, List, [], ◌∷◌, Option, Some, None, sym, ◌∙◌}
-use Rattle.wasm_visit.specs.below.bytes.features.WasmFeatures.{WasmFeatures}
-use Rattle.wasm_visit.specs.below.bytes.message.Message.{Message}
-use Rattle.wasm_visit.specs.below.bytes.message.Message.TheVariants as message
-use Rattle.wasm_visit.specs.below.bytes.message.NumberName.TheVariants as number_name
-use Rattle.wasm_visit.specs.below.Fault.{DeterminesRefusal}
-use Rattle.wasm_visit.specs.below.Features.{multi_memory, call_indirect_overlong}
-use Rattle.wasm_visit.specs.below.Number.{EncodesUnsigned}
-use Rattle.wasm_visit.specs.below.Source.{Reader, rest, offset_of, BeginsWith, IsByte, U32Fault, EndFault, EndsWithin}
-use Rattle.wasm_visit.proofs.of_below.DeterminedRefusals.{number_determines, u32_determines, end_determines, then_determines}
-use Rattle.wasm_visit.proofs.of_below.DeterminedTypeRefusals.{heap_determines}
-use Rattle.wasm_visit.proofs.of_below.PrefixCode.{unsigned_prefix_code, byte_prefix_code}
-use Rattle.wasm_visit.specs.grammar.declared.frame_kind.FrameKind.{FrameKind}
-use Rattle.wasm_visit.specs.grammar.Frames.{Allows}
-use Rattle.wasm_visit.specs.imm.MemoryArgumentFaults.{CheckFault}
-use Rattle.wasm_visit.proofs.of_imm.DeterminedMemoryArgumentRefusals.{check_determines, memarg_determines}
-use Rattle.wasm_visit.proofs.of_imm.DeterminedRefusals.{index_determines, ordering_byte_determines, fence_determines}
-use Rattle.wasm_visit.proofs.of_imm.ConstantDeterminedRefusals.{lanes_determines}
-use Rattle.wasm_visit.proofs.of_imm.DeterminedControlRefusals.{branch_determines, select_determines, block_determines, cast_determines, try_determines, resume_determines}
-use Rattle.wasm_visit.specs.instr.Immediate.{Kind, is_unsigned_32, is_signed_32, is_signed_64, is_float_32, is_float_64, is_vector, is_one_lane, is_sixteen_lanes, is_memory_argument, is_memory_index, is_table_index, is_order, is_fence_order, is_heap_type, is_cast, is_block_type, is_branch_table, is_select_types, is_try_clauses, is_resume_clauses}
-use Rattle.wasm_visit.specs.opcodes.declared.guard.Guard.{Guard}
-use Rattle.wasm_visit.specs.opcodes.Entry.{Entry, unknown, prefixes, free, guarded, guarded_role, guarded_instruction, needed_frame}
-use Rattle.wasm_visit.specs.opcodes.Entries.{entry_at}
-use Rattle.wasm_visit.specs.opcodes.Kinds.{EncodesKind}
-use Rattle.wasm_visit.specs.opcodes.OperatorFaults.{KindFault, KindsFault, FreeFault, SubopcodeFault, LacksFeature, GuardFault, EntryFault, OpcodeFault, OperatorFault, ScalarOperatorFault, FaultIn}
-use Rattle.wasm_visit.proofs.of_opcodes.KindLemmas.{kind_prefix_code}
+use Rattle.wasm_below.specs.declared.features.WasmFeatures.{WasmFeatures}
+use Rattle.wasm_below.specs.declared.message.Message.{Message}
+use Rattle.wasm_below.specs.declared.message.Message.TheVariants as message
+use Rattle.wasm_below.specs.declared.message.NumberName.TheVariants as number_name
+use Rattle.wasm_below.specs.Fault.{DeterminesRefusal}
+use Rattle.wasm_below.specs.Features.{multi_memory, call_indirect_overlong}
+use Rattle.wasm_below.specs.Number.{EncodesUnsigned}
+use Rattle.wasm_below.specs.Source.{Reader, rest, offset_of, BeginsWith, IsByte, U32Fault, EndFault, EndsWithin}
+use Rattle.wasm_below.proofs.DeterminedRefusals.{number_determines, u32_determines, end_determines, then_determines}
+use Rattle.wasm_below.proofs.DeterminedTypeRefusals.{heap_determines}
+use Rattle.wasm_below.proofs.PrefixCode.{unsigned_prefix_code, byte_prefix_code}
+use Rattle.wasm_grammar.specs.declared.frame_kind.FrameKind.{FrameKind}
+use Rattle.wasm_grammar.specs.Frames.{Allows}
+use Rattle.wasm_imm.specs.MemoryArgumentFaults.{CheckFault}
+use Rattle.wasm_imm.proofs.DeterminedMemoryArgumentRefusals.{check_determines, memarg_determines}
+use Rattle.wasm_imm.proofs.DeterminedRefusals.{index_determines, ordering_byte_determines, fence_determines}
+use Rattle.wasm_imm.proofs.ConstantDeterminedRefusals.{lanes_determines}
+use Rattle.wasm_imm.proofs.DeterminedControlRefusals.{branch_determines, select_determines, block_determines, cast_determines, try_determines, resume_determines}
+use Rattle.wasm_imm.specs.Immediate.{Kind, is_unsigned_32, is_signed_32, is_signed_64, is_float_32, is_float_64, is_vector, is_one_lane, is_sixteen_lanes, is_memory_argument, is_memory_index, is_table_index, is_order, is_fence_order, is_heap_type, is_cast, is_block_type, is_branch_table, is_select_types, is_try_clauses, is_resume_clauses}
+use Rattle.wasm_decode_opcodes.specs.declared.guard.Guard.{Guard}
+use Rattle.wasm_decode_opcodes.specs.Entry.{Entry, unknown, prefixes, free, guarded, guarded_role, guarded_instruction, needed_frame}
+use Rattle.wasm_decode_opcodes.specs.Entries.{entry_at}
+use Rattle.wasm_decode_opcodes.specs.Kinds.{EncodesKind}
+use Rattle.wasm_decode_opcodes.specs.OperatorFaults.{KindFault, KindsFault, FreeFault, SubopcodeFault, LacksFeature, GuardFault, EntryFault, OpcodeFault, OperatorFault, ScalarOperatorFault, FaultIn}
+use Rattle.wasm_decode_opcodes.proofs.KindLemmas.{kind_prefix_code}
 
 ends_determines : (n : ℕ) → DeterminesRefusal (EndsWithin n)
 ends_determines n m k r a b h q = (h.0 ∙ sym q.0, h.1 ∙ sym q.1)

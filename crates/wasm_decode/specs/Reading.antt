@@ -1,13 +1,13 @@
 use Rattle.std.specs.Prelude.{ℕ, Option, Result, Ok, Err}
-use Rattle.wasm_visit.specs.below.bytes.error.Error.{Error}
-use Rattle.wasm_visit.specs.below.Source.{Reader}
-use Rattle.wasm_visit.specs.grammar.declared.frame_kind.FrameKind.{FrameKind}
-use Rattle.wasm_visit.specs.instr.declared.operator.Operator.{Operator}
-use Rattle.wasm_visit.specs.instr.declared.operator.Operator.TheVariants as operator
-use Rattle.wasm_visit.specs.instr.ops.gc.GcOperator.{GcOperator}
-use Rattle.wasm_visit.specs.opcodes.Allowed.{EncodesAllowed, EncodesIn}
-use Rattle.wasm_visit.specs.opcodes.Decoding.{DecodesOperator, DecodesOperatorAt}
-use Rattle.wasm_visit.specs.opcodes.OperatorFaults.{OperatorFault, FaultIn}
+use Rattle.wasm_below.specs.declared.error.Error.{Error}
+use Rattle.wasm_below.specs.Source.{Reader}
+use Rattle.wasm_grammar.specs.declared.frame_kind.FrameKind.{FrameKind}
+use Rattle.wasm_instr.specs.declared.operator.Operator.{Operator}
+use Rattle.wasm_instr.specs.declared.operator.Operator.TheVariants as operator
+use Rattle.wasm_instr_ops.specs.declared.gc.GcOperator.{GcOperator}
+use Rattle.wasm_decode_opcodes.specs.Allowed.{EncodesAllowed, EncodesIn}
+use Rattle.wasm_decode_opcodes.specs.Decoding.{DecodesOperator, DecodesOperatorAt}
+use Rattle.wasm_decode_opcodes.specs.OperatorFaults.{OperatorFault, FaultIn}
 
 -- `DecodesOperator` in this innermost frame. If none is open, the error is `OperatorsRemaining`.
 abbrev pub DecodesOperatorIn : Option FrameKind → Result Operator Error → Reader → Reader → Type 0

@@ -1,22 +1,21 @@
 //! Decodes the bytes after an opcode, except a branch table. After a prefix byte, only SIMD
 //! operators without immediates are visited inline.
 ghost use Rattle.std.specs.Prelude.{◌≡◌, ◌≢◌, [], Some, None, Err, IfOk, IfErr};
-ghost use Rattle.wasm_visit.specs.below.Source.{at_position};
-ghost use Rattle.wasm_visit.specs.grammar.declared.frame_kind.FrameKind.{FrameKind};
-ghost use Rattle.wasm_visit.specs.opcodes.Decoding.{IsAfterCode, DecodesAt, DecodesOperatorAt, VisitsRow};
-ghost use Rattle.wasm_visit.specs.opcodes.Entries.{entry_at};
-ghost use Rattle.wasm_visit.specs.opcodes.Entry.{free, prefixes};
-ghost use Rattle.wasm_visit.specs.decode.WithoutImmediates.{IsVectorWithoutImmediates};
+ghost use Rattle.wasm_below.specs.Source.{at_position};
+ghost use Rattle.wasm_grammar.specs.declared.frame_kind.FrameKind.{FrameKind};
+ghost use Rattle.wasm_decode_opcodes.specs.Decoding.{IsAfterCode, DecodesAt, DecodesOperatorAt, VisitsRow};
+ghost use Rattle.wasm_decode_opcodes.specs.Entries.{entry_at};
+ghost use Rattle.wasm_decode_opcodes.specs.Entry.{free, prefixes};
+ghost use Rattle.wasm_decode_groups.specs.WithoutImmediates.{IsVectorWithoutImmediates};
 
 use crate::out_of_line::visit_after_prefix;
 use crate::prefixes::{Atomic, Gc, Misc, Simd};
 use std::alloc::Global;
-use wasm_visit::below::{BinaryReader, Result};
-use wasm_visit::grammar::FrameKind;
-use wasm_visit::instr::SimdOperator;
+use wasm_below::{BinaryReader, Result};
+use wasm_grammar::FrameKind;
+use wasm_instr_simd::SimdOperator;
 use wasm_visit::{
     GroupAtomic, GroupGc, GroupMisc, GroupNumeric, GroupOneByte, GroupSimdHigh, GroupSimdLow,
-    decode,
 };
 
 /// Reads the subopcode after a prefix byte at the position `start`: a u32 that may be overlong. On
@@ -88,7 +87,7 @@ fn simd_of<V: GroupSimdLow + GroupSimdHigh>(
     requires { IsAfterCode start (Some 0xfd) code reader.old }
     ensures { (frame : FrameKind) → DecodesAt V.visits frame start result reader.old reader.new v.old v.new }
 {
-    if decode::has_no_immediates(code) {
+    if wasm_decode_groups::has_no_immediates(code) {
         return Ok(visit_without_immediates(v, code));
     }
     visit_after_prefix(v, reader, start, Simd { code })
@@ -100,8 +99,8 @@ pub fn vector_without_immediates(code: u32) -> SimdOperator
     ensures { IsVectorWithoutImmediates code result }
 {
     match code {
-        0x00..=0x7f => decode::simd_low_without_immediates(code),
-        _ => decode::simd_high_without_immediates(code),
+        0x00..=0x7f => wasm_decode_groups::simd_low_without_immediates(code),
+        _ => wasm_decode_groups::simd_high_without_immediates(code),
     }
 }
 
@@ -111,7 +110,7 @@ fn visit_without_immediates<V: GroupSimdLow + GroupSimdHigh>(v: &mut V, code: u3
     ensures { VisitsRow V.visits (Some 0xfd) code [] v.old result v.new }
 {
     match code {
-        0x00..=0x7f => v.dispatch_simd_low(decode::simd_low_without_immediates(code)),
-        _ => v.dispatch_simd_high(decode::simd_high_without_immediates(code)),
+        0x00..=0x7f => v.dispatch_simd_low(wasm_decode_groups::simd_low_without_immediates(code)),
+        _ => v.dispatch_simd_high(wasm_decode_groups::simd_high_without_immediates(code)),
     }
 }

@@ -1,8 +1,8 @@
-ghost use Rattle.wasm_visit.specs.below.Fault.{DeterminesRefusal};
-ghost use Rattle.wasm_visit.specs.opcodes.OperatorFaults.{OperatorFault, ScalarOperatorFault, FaultIn};
+ghost use Rattle.wasm_below.specs.Fault.{DeterminesRefusal};
+ghost use Rattle.wasm_decode_opcodes.specs.OperatorFaults.{OperatorFault, ScalarOperatorFault, FaultIn};
 
-use wasm_visit::below::WasmFeatures;
-use wasm_visit::grammar::FrameKind;
+use wasm_below::WasmFeatures;
+use wasm_grammar::FrameKind;
 
 /// States that the fault of an operator determines its error: the same bytes, features and frame
 /// give the same error, unless allocation fails.

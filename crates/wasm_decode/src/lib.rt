@@ -19,17 +19,3 @@ pub use visit::{
     visit_after_opcode, visit_after_opcode_simd, visit_below_0x20, visit_operator,
     visit_operator_simd,
 };
-pub use wasm_visit::{below, grammar, imm, instr};
-
-/// Traits of visitors, and the functions that call their visits.
-pub mod visitors {
-    pub use wasm_visit::{
-        ByAny, CallAtomic, CallGc, CallMisc, CallNumeric, CallOneByte, CallSimdHigh, CallSimdLow,
-        GroupAtomic, GroupGc, GroupMisc, GroupNumeric, GroupOneByte, GroupSimdHigh, GroupSimdLow,
-        HoldOperator, HoldTable, IsEndOperatorVisitor, OnceAtomic, OnceGc, OnceMisc, OnceNumeric,
-        OnceOneByte, OnceSimdHigh, OnceSimdLow, OperatorFactory, OperatorMaker, OwnAtomic, OwnGc,
-        OwnMisc, OwnNumeric, OwnOneByte, OwnSimdHigh, OwnSimdLow, Routes, VisitAtomic, VisitGc,
-        VisitMisc, VisitNumeric, VisitOneByte, VisitOperator, VisitSimdHigh, VisitSimdLow, Visitor,
-        decode, dispatch, visit_operator, visit_operator_with_simd, visit_owned, visit_owned_simd,
-    };
-}

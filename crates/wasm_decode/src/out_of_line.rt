@@ -3,12 +3,13 @@
 //!
 //! The call is cold, so that the compiler places the code around it after the loop.
 ghost use Rattle.std.specs.Prelude.{ℕ, Option};
-ghost use Rattle.wasm_visit.specs.decode.Lent.{ByLent};
-ghost use Rattle.wasm_visit.specs.grammar.declared.frame_kind.FrameKind.{FrameKind};
-ghost use Rattle.wasm_visit.specs.opcodes.Decoding.{IsAfterCode, DecodesAt};
+ghost use Rattle.wasm_decode_groups.specs.Lent.{ByLent};
+ghost use Rattle.wasm_grammar.specs.declared.frame_kind.FrameKind.{FrameKind};
+ghost use Rattle.wasm_decode_opcodes.specs.Decoding.{IsAfterCode, DecodesAt};
 
-use wasm_visit::below::{BinaryReader, Result};
-use wasm_visit::{Lent, Visitor};
+use wasm_below::{BinaryReader, Result};
+use wasm_decode_groups::Lent;
+use wasm_visit_groups::Visitor;
 
 /// A decoder that starts after a prefix byte or after its subopcode, for the visitor `V`.
 pub trait AfterPrefix<V: Visitor> {

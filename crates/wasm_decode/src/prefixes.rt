@@ -3,7 +3,7 @@ ghost use Rattle.std.specs.Prelude.{Some, None};
 
 use crate::after::subopcode;
 use crate::out_of_line::AfterPrefix;
-use wasm_visit::below::{BinaryReader, Result};
+use wasm_below::{BinaryReader, Result};
 use wasm_visit::{GroupAtomic, GroupGc, GroupMisc, GroupSimdHigh, GroupSimdLow};
 
 /// The decoder after the prefix byte 0xfb.

@@ -1,21 +1,23 @@
 //! Reads an operator by the visitor `Made` or, with the prefix byte 0xfb, without a visitor.
 ghost use Rattle.std.specs.Prelude.{None, Some};
 ghost use Rattle.wasm_decode.specs.Reading.{DecodesOperatorIn, DecodesGcAt};
-ghost use Rattle.wasm_visit.specs.decode.Lent.{ByLent};
-ghost use Rattle.wasm_visit.specs.grammar.declared.frame_kind.FrameKind.{FrameKind};
-ghost use Rattle.wasm_visit.specs.opcodes.Decoding.{DecodesOperatorAt, IsAfterCode};
+ghost use Rattle.wasm_decode_groups.specs.Lent.{ByLent};
+ghost use Rattle.wasm_grammar.specs.declared.frame_kind.FrameKind.{FrameKind};
+ghost use Rattle.wasm_decode_opcodes.specs.Decoding.{DecodesOperatorAt, IsAfterCode};
 
 use crate::after::{subopcode, vector_without_immediates};
 use crate::out_of_line::visit_after_prefix;
 use crate::prefixes::{Atomic, Misc, Simd};
 use crate::refusals::no_frame;
 use std::alloc::Global;
-use wasm_visit::below::{BinaryReader, Result};
-use wasm_visit::grammar::FrameKind;
-use wasm_visit::instr::{GcOperator, Operator};
-use wasm_visit::opcodes::immediates;
-use wasm_visit::reading::{Made, numeric_by, one_byte_by, read_gc_operator};
-use wasm_visit::{ByAny, Lent, decode};
+use wasm_below::{BinaryReader, Result};
+use wasm_decode_groups::{Lent, numeric_by, one_byte_by, read_gc_operator};
+use wasm_decode_opcodes::immediates;
+use wasm_grammar::FrameKind;
+use wasm_instr::Operator;
+use wasm_instr_ops::GcOperator;
+use wasm_visit::Made;
+use wasm_visit_groups::ByAny;
 
 /// Reads the operator at the start of the rest. `frame` is the innermost frame. Fails like
 /// `visit_operator_simd`.
@@ -136,7 +138,7 @@ fn read_simd_of(reader: &mut BinaryReader<'_>, start: usize, code: u32) -> Resul
     requires { IsAfterCode start (Some 0xfd) code reader.old }
     ensures { (frame : FrameKind) → DecodesOperatorAt frame start result reader.old reader.new }
 {
-    if decode::has_no_immediates(code) {
+    if wasm_decode_groups::has_no_immediates(code) {
         return Ok(Operator::Simd(vector_without_immediates(code)));
     }
     visit_after_prefix(&mut Made, reader, start, Simd { code })

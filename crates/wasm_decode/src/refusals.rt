@@ -1,11 +1,11 @@
 ghost use Rattle.std.specs.Prelude.{◌≡◌, ◌≤◌, None, Err};
-ghost use Rattle.wasm_visit.specs.below.Source.{at_position, offset_of, end_of};
-ghost use Rattle.wasm_visit.specs.grammar.declared.frame_kind.FrameKind.{FrameKind};
-ghost use Rattle.wasm_visit.specs.opcodes.Allowed.{EncodesScalar};
-ghost use Rattle.wasm_visit.specs.opcodes.Decoding.{IsAfterCode, DecodesOperator};
-ghost use Rattle.wasm_visit.specs.opcodes.OperatorFaults.{ScalarOperatorFault};
+ghost use Rattle.wasm_below.specs.Source.{at_position, offset_of, end_of};
+ghost use Rattle.wasm_grammar.specs.declared.frame_kind.FrameKind.{FrameKind};
+ghost use Rattle.wasm_decode_opcodes.specs.Allowed.{EncodesScalar};
+ghost use Rattle.wasm_decode_opcodes.specs.Decoding.{IsAfterCode, DecodesOperator};
+ghost use Rattle.wasm_decode_opcodes.specs.OperatorFaults.{ScalarOperatorFault};
 
-use wasm_visit::below::{BinaryReader, Error, Message};
+use wasm_below::{BinaryReader, Error, Message};
 
 #[inline(always)]
 pub fn no_frame(reader: &BinaryReader<'_>) -> Error

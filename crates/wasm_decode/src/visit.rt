@@ -1,16 +1,16 @@
 ghost use Rattle.std.specs.Prelude.{◌<◌, ◌≤◌, [], ◌∷◌, None};
-ghost use Rattle.wasm_visit.specs.grammar.declared.frame_kind.FrameKind.{FrameKind};
-ghost use Rattle.wasm_visit.specs.instr.Immediate.{branch_table, is_branch_table};
-ghost use Rattle.wasm_visit.specs.opcodes.Decoding.{DecodesIn, DecodesScalarIn, IsAfterCode, DecodesAt, DecodesScalarAt, ReadsKinds, GoesBack};
+ghost use Rattle.wasm_grammar.specs.declared.frame_kind.FrameKind.{FrameKind};
+ghost use Rattle.wasm_imm.specs.Immediate.{branch_table, is_branch_table};
+ghost use Rattle.wasm_decode_opcodes.specs.Decoding.{DecodesIn, DecodesScalarIn, IsAfterCode, DecodesAt, DecodesScalarAt, ReadsKinds, GoesBack};
 
 use crate::after::{group_after_opcode, simd_after_prefix};
 use crate::refusals::{no_frame, unexpected_simd};
 use std::alloc::Global;
+use wasm_below::{BinaryReader, Result};
+use wasm_decode_opcodes::immediates;
+use wasm_grammar::FrameKind;
+use wasm_imm::BrTable;
 use wasm_visit::VisitOperator;
-use wasm_visit::below::{BinaryReader, Result};
-use wasm_visit::grammar::FrameKind;
-use wasm_visit::imm::BrTable;
-use wasm_visit::opcodes::immediates;
 
 /// Reads and visits the operator at the start of the rest. `frame` is the innermost frame.
 ///

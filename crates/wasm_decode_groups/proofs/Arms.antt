@@ -1,5 +1,5 @@
 use Rattle.std.proofs.Common.{◌≡◌, ℕ, List, Option, Some, None, sym, ◌∙◌}
-use Rattle.wasm_visit_groups.specs.instr.Immediate.{Kind}
+use Rattle.wasm_imm.specs.Immediate.{Kind}
 use Rattle.wasm_decode_opcodes.specs.Entry.{free}
 use Rattle.wasm_decode_opcodes.specs.Entries.{entry_at}
 use Rattle.wasm_decode_opcodes.proofs.OperatorLemmas.{IsCode}

@@ -1,8 +1,8 @@
 -- Written by tools/lists.py from tools/operators.tsv.
 -- The codes whose entries have these kinds, by groups.
 use Rattle.std.proofs.Common.{◌≡◌, ℕ, ◌<◌, ◌≤◌, Bool, true, false, List, [], ◌∷◌, Option, Some, None, refl, sym, ap, arith}
-use Rattle.wasm_visit_groups.specs.imm.declared.memory_argument.MemArgKind.TheVariants as kind
-use Rattle.wasm_visit_groups.specs.instr.Immediate.{Kind, is_unsigned_32, is_signed_32, is_signed_64, is_float_32, is_float_64, is_one_lane, is_sixteen_lanes, is_vector, is_memory_index, is_table_index, is_order, is_fence_order, is_heap_type, is_cast, is_block_type, is_select_types, is_try_clauses, is_resume_clauses, is_memory_argument}
+use Rattle.wasm_imm.specs.declared.memory_argument.MemArgKind.TheVariants as kind
+use Rattle.wasm_imm.specs.Immediate.{Kind, is_unsigned_32, is_signed_32, is_signed_64, is_float_32, is_float_64, is_one_lane, is_sixteen_lanes, is_vector, is_memory_index, is_table_index, is_order, is_fence_order, is_heap_type, is_cast, is_block_type, is_select_types, is_try_clauses, is_resume_clauses, is_memory_argument}
 use Rattle.wasm_decode_opcodes.specs.Entry.{unknown, prefixes, free, entry_kinds, align_in}
 use Rattle.wasm_decode_opcodes.specs.Entries.{opcode_entries, gc_entries, misc_entries, simd_entries, atomic_entries, entry_at, align_at}
 use Rattle.wasm_decode_groups.specs.Arms.{HasArm, HasKindsAt}

@@ -1,10 +1,10 @@
 -- Decoding by a copy of the reader.
 use Rattle.std.proofs.Common.{◌≡◌, ℕ, ◌+◌, ◌≤◌, length, Option, Some, None, Result, Ok, Err, sym, subst, ap, ◌∙◌, arith}
-use Rattle.wasm_visit_groups.specs.below.bytes.error.Error.{Error}
-use Rattle.wasm_visit_groups.specs.below.Source.{Reader, at_position, Takes}
-use Rattle.wasm_visit_groups.proofs.of_below.TakesLemmas.{within_buffer}
-use Rattle.wasm_visit_groups.specs.grammar.declared.frame_kind.FrameKind.{FrameKind}
-use Rattle.wasm_visit_groups.specs.instr.declared.operator.Operator.{Operator}
+use Rattle.wasm_below.specs.declared.error.Error.{Error}
+use Rattle.wasm_below.specs.Source.{Reader, at_position, Takes}
+use Rattle.wasm_below.proofs.TakesLemmas.{within_buffer}
+use Rattle.wasm_grammar.specs.declared.frame_kind.FrameKind.{FrameKind}
+use Rattle.wasm_instr.specs.declared.operator.Operator.{Operator}
 use Rattle.wasm_decode_opcodes.specs.Decoding.{DecodesAt, IsAfterCode}
 use Rattle.wasm_decode_opcodes.proofs.OperatorLemmas.{within_after_code}
 use Rattle.wasm_decode_groups.specs.Lent.{ByLent}

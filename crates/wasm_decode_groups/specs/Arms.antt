@@ -1,10 +1,10 @@
 use Rattle.std.specs.Prelude.{◌≡◌, ℕ, ◌<◌, List, Option, Some, None, Result}
-use Rattle.wasm_visit_groups.specs.below.bytes.error.Error.{Error}
-use Rattle.wasm_visit_groups.specs.below.Source.{Reader}
-use Rattle.wasm_visit_groups.specs.grammar.declared.frame_kind.FrameKind.{FrameKind}
-use Rattle.wasm_visit_groups.specs.instr.declared.operator.Operator.{Operator}
-use Rattle.wasm_visit_groups.specs.instr.Immediate.{Immediate, Kind}
-use Rattle.wasm_visit_groups.specs.instr.Row.{prefix_of, opcode_of, immediates_of}
+use Rattle.wasm_below.specs.declared.error.Error.{Error}
+use Rattle.wasm_below.specs.Source.{Reader}
+use Rattle.wasm_grammar.specs.declared.frame_kind.FrameKind.{FrameKind}
+use Rattle.wasm_instr.specs.declared.operator.Operator.{Operator}
+use Rattle.wasm_imm.specs.Immediate.{Immediate, Kind}
+use Rattle.wasm_instr.specs.Row.{prefix_of, opcode_of, immediates_of}
 use Rattle.wasm_decode_opcodes.specs.Decoding.{DecodesAt}
 use Rattle.wasm_decode_opcodes.specs.Entry.{prefixes, free, entry_kinds}
 use Rattle.wasm_decode_opcodes.specs.Entries.{entry_at, align_at}

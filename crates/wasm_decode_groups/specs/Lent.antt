@@ -1,6 +1,6 @@
 use Rattle.std.specs.Prelude.{Option, Some, None, Result, Ok, Err}
-use Rattle.wasm_visit_groups.specs.below.bytes.error.Error.{Error}
-use Rattle.wasm_visit_groups.specs.below.Source.{Reader}
+use Rattle.wasm_below.specs.declared.error.Error.{Error}
+use Rattle.wasm_below.specs.Source.{Reader}
 use Rattle.wasm_decode_groups.specs.declared.lent.Lent.{Lent}
 
 -- What a call returns that decodes by the reader of a `Lent`: `Some` if it decodes, or else `None`,

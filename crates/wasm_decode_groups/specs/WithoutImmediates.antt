@@ -1,8 +1,8 @@
 -- Operators without immediates.
 use Rattle.std.specs.Prelude.{◌≡◌, ℕ, Bool, true, false, []}
 use Rattle.wasm_decode_opcodes.specs.Entry.{Entry, free}
-use Rattle.wasm_visit_groups.specs.instr.simd.simd.SimdOperator.{SimdOperator}
-use Rattle.wasm_visit_groups.specs.instr.Simd.{simd_subopcode, simd_immediates}
+use Rattle.wasm_instr_simd.specs.declared.simd.SimdOperator.{SimdOperator}
+use Rattle.wasm_instr_simd.specs.Simd.{simd_subopcode, simd_immediates}
 
 -- Whether the entry has no immediates and no guard.
 abbrev pub is_without_immediates : Entry → Bool

@@ -1,16 +1,16 @@
 //! What is done at a code: `arm` reads the immediates and passes them to a route.
 ghost use Rattle.std.specs.Prelude.{◌≡◌, ◌≤◌, ◌<◌, ℕ, Option, Some, None};
-ghost use Rattle.wasm_visit_groups.specs.grammar.declared.frame_kind.FrameKind.{FrameKind};
-ghost use Rattle.wasm_visit_groups.specs.instr.declared.operator.Operator.{Operator};
+ghost use Rattle.wasm_grammar.specs.declared.frame_kind.FrameKind.{FrameKind};
+ghost use Rattle.wasm_instr.specs.declared.operator.Operator.{Operator};
 ghost use Rattle.wasm_decode_opcodes.specs.Decoding.{DecodesAt, IsAfterCode, VisitsRow};
 ghost use Rattle.wasm_decode_opcodes.specs.Entries.{align_at};
 ghost use Rattle.wasm_decode_groups.specs.Arms.{HasArm, HasKindsAt, IsCodeAfter, IsRow};
 
+use wasm_below::{BinaryReader, Result};
 use wasm_decode_opcodes::{Immediates, Only};
-use wasm_visit_groups::below::{BinaryReader, Result};
-use wasm_visit_groups::instr::{
-    AtomicOperator, GcOperator, MiscOperator, NumericOperator, Operator, SimdOperator,
-};
+use wasm_instr::Operator;
+use wasm_instr_ops::{AtomicOperator, GcOperator, MiscOperator, NumericOperator};
+use wasm_instr_simd::SimdOperator;
 use wasm_visit_groups::{ByAny, Visitor};
 
 /// The operators of a group of visits.

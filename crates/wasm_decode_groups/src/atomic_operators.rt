@@ -1,16 +1,16 @@
 //! Decoding of operators with prefix 0xfe. Written by tools/lists.py from tools/operators.tsv.
 ghost use Rattle.std.specs.Prelude.{◌≡◌, [], ◌∷◌, Some};
-ghost use Rattle.wasm_visit_groups.specs.grammar.declared.frame_kind.FrameKind.{FrameKind};
-ghost use Rattle.wasm_visit_groups.specs.instr.Immediate.{is_memory_argument};
+ghost use Rattle.wasm_grammar.specs.declared.frame_kind.FrameKind.{FrameKind};
+ghost use Rattle.wasm_imm.specs.Immediate.{is_memory_argument};
 ghost use Rattle.wasm_decode_opcodes.specs.Decoding.{DecodesAt, IsAfterCode};
 ghost use Rattle.wasm_decode_opcodes.specs.Entries.{align_at};
 ghost use Rattle.wasm_decode_groups.specs.Arms.{HasKindsAt};
 
 use crate::arm::{At, Atomic, Maker, Makes, arm};
+use wasm_below::{BinaryReader, Result};
 use wasm_decode_opcodes::{FenceOrdering, OpMemArg, PlainMemArg, RmwMemArg, unknown_subopcode};
-use wasm_visit_groups::below::{BinaryReader, Result};
-use wasm_visit_groups::imm::{MemArgKind, Ordering};
-use wasm_visit_groups::instr::AtomicOperator;
+use wasm_imm::{MemArgKind, Ordering};
+use wasm_instr_ops::AtomicOperator;
 use wasm_visit_groups::{ByAny, Own, VisitAtomic, Visitor};
 
 /// Reads the immediates of an operator with prefix 0xfe and visits it.

@@ -1,16 +1,16 @@
 //! Decoding of operators with prefix 0xfb. Written by tools/lists.py from tools/operators.tsv.
 ghost use Rattle.std.specs.Prelude.{Some};
-ghost use Rattle.wasm_visit_groups.specs.grammar.declared.frame_kind.FrameKind.{FrameKind};
-ghost use Rattle.wasm_visit_groups.specs.instr.declared.operator.Operator.{Operator};
+ghost use Rattle.wasm_grammar.specs.declared.frame_kind.FrameKind.{FrameKind};
+ghost use Rattle.wasm_instr.specs.declared.operator.Operator.{Operator};
 ghost use Rattle.wasm_decode_opcodes.specs.Decoding.{DecodesAt, IsAfterCode};
 ghost use Rattle.wasm_decode_groups.specs.Arms.{ReadsOperatorAt};
 
 use crate::arm::{At, Gc, Maker, Makes, arm};
 use crate::read_arm::read_arm;
+use wasm_below::{BinaryReader, HeapType, Result};
 use wasm_decode_opcodes::unknown_subopcode;
-use wasm_visit_groups::below::{BinaryReader, HeapType, Result};
-use wasm_visit_groups::imm::Cast;
-use wasm_visit_groups::instr::GcOperator;
+use wasm_imm::Cast;
+use wasm_instr_ops::GcOperator;
 use wasm_visit_groups::{ByAny, Own, VisitGc, Visitor};
 
 /// Reads the immediates of an operator with prefix 0xfb and visits it.

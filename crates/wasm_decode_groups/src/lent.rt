@@ -1,9 +1,9 @@
 //! What a call that is not inlined borrows, so that its caller's reader and the result of a visit
 //! stay in registers.
 ghost use Rattle.std.specs.Prelude.{◌≡◌, ◌≤◌, length};
-ghost use Rattle.wasm_visit_groups.specs.below.Source.{at_position};
+ghost use Rattle.wasm_below.specs.Source.{at_position};
 
-use wasm_visit_groups::below::{BinaryReader, Error, Message};
+use wasm_below::{BinaryReader, Error, Message};
 
 /// A copy of a reader, and a place for an error. The place is first, since the reader ends with
 /// padding, which the compiler would clear at each call.

@@ -28,19 +28,3 @@ pub use simd_low_operators::{AtSimdLow, simd_low, simd_low_by};
 pub use vectors_without_immediates::{
     has_no_immediates, simd_high_without_immediates, simd_low_without_immediates,
 };
-pub use wasm_visit_groups::{below, grammar, imm, instr};
-
-/// The visits of operators, in groups, and the routes to them.
-pub mod groups {
-    pub use wasm_visit_groups::{
-        ByAny, Once, OnceAtomic, OnceGc, OnceMisc, OnceNumeric, OnceOneByte, OnceSimdHigh,
-        OnceSimdLow, Own, OwnAtomic, OwnGc, OwnMisc, OwnNumeric, OwnOneByte, OwnSimdHigh,
-        OwnSimdLow, Routes, Through, VisitAtomic, VisitGc, VisitMisc, VisitNumeric, VisitOneByte,
-        VisitSimdHigh, VisitSimdLow, Visitor,
-    };
-}
-
-/// The readers of immediates.
-pub mod opcodes {
-    pub use wasm_decode_opcodes::immediates;
-}

@@ -1,12 +1,12 @@
 //! Decoding of operators with prefix 0xfc. Written by tools/lists.py from tools/operators.tsv.
 ghost use Rattle.std.specs.Prelude.{Some};
-ghost use Rattle.wasm_visit_groups.specs.grammar.declared.frame_kind.FrameKind.{FrameKind};
+ghost use Rattle.wasm_grammar.specs.declared.frame_kind.FrameKind.{FrameKind};
 ghost use Rattle.wasm_decode_opcodes.specs.Decoding.{DecodesAt, IsAfterCode};
 
 use crate::arm::{At, Maker, Makes, Misc, arm};
+use wasm_below::{BinaryReader, Result};
 use wasm_decode_opcodes::unknown_subopcode;
-use wasm_visit_groups::below::{BinaryReader, Result};
-use wasm_visit_groups::instr::MiscOperator;
+use wasm_instr_ops::MiscOperator;
 use wasm_visit_groups::{ByAny, Own, VisitMisc, Visitor};
 
 /// Reads the immediates of an operator with prefix 0xfc and visits it.

@@ -3,7 +3,7 @@ ghost use Rattle.std.specs.Prelude.{◌≤◌, [], None};
 ghost use Rattle.wasm_decode_opcodes.specs.Decoding.{VisitsRow};
 
 use crate::arm::{At, Maker, Makes, Numeric};
-use wasm_visit_groups::instr::NumericOperator;
+use wasm_instr_ops::NumericOperator;
 use wasm_visit_groups::{Own, VisitNumeric, Visitor};
 
 /// Visits the numeric operator with this opcode.

@@ -1,7 +1,7 @@
 //! The arms of operators whose feature and frame are checked, or that may own a list.
 ghost use Rattle.std.specs.Prelude.{◌≡◌, ◌≤◌, ◌<◌, Some, None};
-ghost use Rattle.wasm_visit_groups.specs.grammar.declared.frame_kind.FrameKind.{FrameKind};
-ghost use Rattle.wasm_visit_groups.specs.instr.declared.operator.Operator.{Operator};
+ghost use Rattle.wasm_grammar.specs.declared.frame_kind.FrameKind.{FrameKind};
+ghost use Rattle.wasm_instr.specs.declared.operator.Operator.{Operator};
 ghost use Rattle.wasm_decode_opcodes.specs.Decoding.{DecodesAt, IsAfterCode, VisitsRow};
 ghost use Rattle.wasm_decode_opcodes.specs.Entries.{entry_at};
 ghost use Rattle.wasm_decode_opcodes.specs.Entry.{entry_kinds, free, guarded};
@@ -10,11 +10,11 @@ ghost use Rattle.wasm_decode_groups.specs.Arms.{IsRow};
 
 use crate::arm::{At, Group, Maker};
 use std::alloc::Global;
+use wasm_below::{BinaryReader, Result};
 use wasm_decode_opcodes::{Guard, Immediates, Lists};
-use wasm_visit_groups::below::{BinaryReader, Result};
-use wasm_visit_groups::grammar::FrameKind;
-use wasm_visit_groups::imm::{ResumeTable, Select, TryTable};
-use wasm_visit_groups::instr::Operator;
+use wasm_grammar::FrameKind;
+use wasm_imm::{ResumeTable, Select, TryTable};
+use wasm_instr::Operator;
 use wasm_visit_groups::{ByAny, Own, VisitOneByte, Visitor};
 
 /// The operators without a prefix byte, except the numeric ones.

@@ -1,7 +1,7 @@
 //! Decoding of operators with a one-byte opcode. Written by tools/lists.py from tools/operators.tsv.
 ghost use Rattle.std.specs.Prelude.{◌≡◌, [], ◌∷◌, None};
-ghost use Rattle.wasm_visit_groups.specs.grammar.declared.frame_kind.FrameKind.{FrameKind};
-ghost use Rattle.wasm_visit_groups.specs.instr.Immediate.{is_memory_argument};
+ghost use Rattle.wasm_grammar.specs.declared.frame_kind.FrameKind.{FrameKind};
+ghost use Rattle.wasm_imm.specs.Immediate.{is_memory_argument};
 ghost use Rattle.wasm_decode_opcodes.specs.Decoding.{DecodesAt, IsAfterCode};
 ghost use Rattle.wasm_decode_opcodes.specs.Entries.{align_at};
 ghost use Rattle.wasm_decode_groups.specs.Arms.{HasKindsAt};
@@ -11,13 +11,11 @@ use crate::arm::{At, Maker, Makes, arm};
 use crate::one_byte_arms::{AtList, OneByte, guarded_arm, list_arm};
 use crate::out_of_line::other_one_byte_by;
 use std::alloc::Global;
+use wasm_below::{BinaryReader, HeapType, Result};
 use wasm_decode_opcodes::{Guard, MemoryIndex, Only, PlainMemArg, TableIndex, unknown_opcode};
-use wasm_visit_groups::below::{BinaryReader, HeapType, Result};
-use wasm_visit_groups::grammar::FrameKind;
-use wasm_visit_groups::imm::{
-    BlockType, Ieee32, Ieee64, MemArgKind, ResumeTable, Select, TryTable,
-};
-use wasm_visit_groups::instr::Operator;
+use wasm_grammar::FrameKind;
+use wasm_imm::{BlockType, Ieee32, Ieee64, MemArgKind, ResumeTable, Select, TryTable};
+use wasm_instr::Operator;
 use wasm_visit_groups::{ByAny, Own, VisitOneByte, Visitor};
 
 /// Reads the immediates of an operator with a one-byte opcode and visits it. Common operators are

@@ -7,8 +7,8 @@ ghost use Rattle.wasm_decode_opcodes.specs.Decoding.{DecodesAt, IsAfterCode};
 use crate::lent::Lent;
 use crate::one_byte_operators::{AtOneByte, any_one_byte_by};
 use std::alloc::Global;
-use wasm_visit_groups::below::{BinaryReader, Result};
-use wasm_visit_groups::grammar::FrameKind;
+use wasm_below::{BinaryReader, Result};
+use wasm_grammar::FrameKind;
 use wasm_visit_groups::{Own, VisitOneByte, Visitor};
 
 /// Reads the immediates of an operator with a one-byte opcode and visits it.

@@ -1,11 +1,11 @@
 //! An arm without a visitor.
-ghost use Rattle.wasm_visit_groups.specs.grammar.declared.frame_kind.FrameKind.{FrameKind};
+ghost use Rattle.wasm_grammar.specs.declared.frame_kind.FrameKind.{FrameKind};
 ghost use Rattle.wasm_decode_opcodes.specs.Decoding.{IsAfterCode};
 ghost use Rattle.wasm_decode_groups.specs.Arms.{HasArm, IsCodeAfter, ReadsOperatorAt};
 
 use crate::arm::{Group, Maker, Makes};
+use wasm_below::{BinaryReader, Result};
 use wasm_decode_opcodes::Immediates;
-use wasm_visit_groups::below::{BinaryReader, Result};
 
 /// As `arm`, but returns the operator. In the type of its group it has fewer bytes than an
 /// `Operator`, which each call would copy.

@@ -1,13 +1,13 @@
 //! Decoding of SIMD operators from 0x80 on. Written by tools/lists.py from tools/operators.tsv.
 ghost use Rattle.std.specs.Prelude.{◌≤◌, Some};
-ghost use Rattle.wasm_visit_groups.specs.grammar.declared.frame_kind.FrameKind.{FrameKind};
+ghost use Rattle.wasm_grammar.specs.declared.frame_kind.FrameKind.{FrameKind};
 ghost use Rattle.wasm_decode_opcodes.specs.Decoding.{DecodesAt, IsAfterCode};
 
 use crate::arm::{At, Maker, Makes, SimdHigh, arm};
 use crate::vectors_without_immediates::has_no_immediates;
+use wasm_below::{BinaryReader, Result};
 use wasm_decode_opcodes::unknown_subopcode;
-use wasm_visit_groups::below::{BinaryReader, Result};
-use wasm_visit_groups::instr::SimdOperator;
+use wasm_instr_simd::SimdOperator;
 use wasm_visit_groups::{ByAny, Own, VisitSimdHigh, Visitor};
 
 /// Reads the immediates of a SIMD operator from 0x80 on and visits it.

@@ -1,16 +1,16 @@
 //! Decoding of SIMD operators below 0x80. Written by tools/lists.py from tools/operators.tsv.
 ghost use Rattle.std.specs.Prelude.{◌≡◌, ◌<◌, [], ◌∷◌, Some};
-ghost use Rattle.wasm_visit_groups.specs.grammar.declared.frame_kind.FrameKind.{FrameKind};
-ghost use Rattle.wasm_visit_groups.specs.instr.Immediate.{is_one_lane, is_memory_argument};
+ghost use Rattle.wasm_grammar.specs.declared.frame_kind.FrameKind.{FrameKind};
+ghost use Rattle.wasm_imm.specs.Immediate.{is_one_lane, is_memory_argument};
 ghost use Rattle.wasm_decode_opcodes.specs.Decoding.{DecodesAt, IsAfterCode};
 ghost use Rattle.wasm_decode_opcodes.specs.Entries.{align_at};
 ghost use Rattle.wasm_decode_groups.specs.Arms.{HasKindsAt};
 
 use crate::arm::{At, Maker, Makes, SimdLow, arm};
+use wasm_below::{BinaryReader, Result};
 use wasm_decode_opcodes::PlainMemArg;
-use wasm_visit_groups::below::{BinaryReader, Result};
-use wasm_visit_groups::imm::{MemArgKind, V128};
-use wasm_visit_groups::instr::SimdOperator;
+use wasm_imm::{MemArgKind, V128};
+use wasm_instr_simd::SimdOperator;
 use wasm_visit_groups::{ByAny, Own, VisitSimdLow, Visitor};
 
 /// Reads the immediates of a SIMD operator below 0x80 and visits it.

@@ -5,7 +5,7 @@ ghost use Rattle.wasm_decode_opcodes.specs.Entry.{free};
 ghost use Rattle.wasm_decode_groups.specs.WithoutImmediates.{IsVectorWithoutImmediates, is_without_immediates};
 
 use crate::arm::{Maker, Makes, SimdHigh, SimdLow};
-use wasm_visit_groups::instr::SimdOperator;
+use wasm_instr_simd::SimdOperator;
 
 /// For each subopcode after the prefix byte 0xfd, whether an operator without immediates has it.
 static WITHOUT_IMMEDIATES: [bool; 276] = [

@@ -4,22 +4,22 @@ use Rattle.std.proofs.Common.{◌≡◌, ℕ, Option, Some, None, map, refl, sym
 use Rattle.wasm_instr.specs.declared.operator.Operator.{Operator}
 use Rattle.wasm_instr.specs.declared.operator.Operator.TheVariants as operator
 use Rattle.wasm_instr.specs.Row.{prefix_of, opcode_of}
-use Rattle.wasm_instr.specs.ops.numeric.NumericOperator.{NumericOperator}
-use Rattle.wasm_instr.specs.ops.numeric.NumericOperator.TheVariants as numeric
-use Rattle.wasm_instr.specs.Numeric.{numeric_opcode, numeric_immediates}
-use Rattle.wasm_instr.specs.ops.gc.GcOperator.{GcOperator}
-use Rattle.wasm_instr.specs.ops.gc.GcOperator.TheVariants as gc
-use Rattle.wasm_instr.specs.Gc.{gc_subopcode, gc_immediates}
-use Rattle.wasm_instr.specs.ops.misc.MiscOperator.{MiscOperator}
-use Rattle.wasm_instr.specs.ops.misc.MiscOperator.TheVariants as misc
-use Rattle.wasm_instr.specs.Misc.{misc_subopcode, misc_immediates}
-use Rattle.wasm_instr.specs.simd.simd.SimdOperator.{SimdOperator}
-use Rattle.wasm_instr.specs.simd.simd.SimdOperator.TheVariants as simd
-use Rattle.wasm_instr.specs.Simd.{simd_subopcode, simd_immediates}
-use Rattle.wasm_instr.specs.ops.atomic.AtomicOperator.{AtomicOperator}
-use Rattle.wasm_instr.specs.ops.atomic.AtomicOperator.TheVariants as atomic
-use Rattle.wasm_instr.specs.Atomic.{atomic_subopcode, atomic_immediates}
-use Rattle.wasm_instr.specs.Immediate.{kind_of}
+use Rattle.wasm_instr_ops.specs.declared.numeric.NumericOperator.{NumericOperator}
+use Rattle.wasm_instr_ops.specs.declared.numeric.NumericOperator.TheVariants as numeric
+use Rattle.wasm_instr_ops.specs.Numeric.{numeric_opcode, numeric_immediates}
+use Rattle.wasm_instr_ops.specs.declared.gc.GcOperator.{GcOperator}
+use Rattle.wasm_instr_ops.specs.declared.gc.GcOperator.TheVariants as gc
+use Rattle.wasm_instr_ops.specs.Gc.{gc_subopcode, gc_immediates}
+use Rattle.wasm_instr_ops.specs.declared.misc.MiscOperator.{MiscOperator}
+use Rattle.wasm_instr_ops.specs.declared.misc.MiscOperator.TheVariants as misc
+use Rattle.wasm_instr_ops.specs.Misc.{misc_subopcode, misc_immediates}
+use Rattle.wasm_instr_simd.specs.declared.simd.SimdOperator.{SimdOperator}
+use Rattle.wasm_instr_simd.specs.declared.simd.SimdOperator.TheVariants as simd
+use Rattle.wasm_instr_simd.specs.Simd.{simd_subopcode, simd_immediates}
+use Rattle.wasm_instr_ops.specs.declared.atomic.AtomicOperator.{AtomicOperator}
+use Rattle.wasm_instr_ops.specs.declared.atomic.AtomicOperator.TheVariants as atomic
+use Rattle.wasm_instr_ops.specs.Atomic.{atomic_subopcode, atomic_immediates}
+use Rattle.wasm_imm.specs.Immediate.{kind_of}
 use Rattle.wasm_decode_opcodes.specs.Entry.{prefixes, free, entry_of}
 use Rattle.wasm_decode_opcodes.specs.Entries.{entry_at}
 

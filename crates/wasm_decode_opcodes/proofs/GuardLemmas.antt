@@ -1,21 +1,21 @@
 -- Operators whose feature and frame are checked first.
 use Rattle.std.proofs.Common.{◌≡◌, ℕ, ◌+◌, ◌≤◌, ◌<◌, inl, inr, List, [], ◌∷◌, ◌++◌, Option, Some, None, Ok, Err, refl, sym, subst, ap, ◌∙◌, append_assoc, arith}
-use Rattle.wasm_instr.specs.below.bytes.error.Error.{Error}
-use Rattle.wasm_instr.specs.below.bytes.features.WasmFeatures.{WasmFeatures}
-use Rattle.wasm_instr.specs.below.bytes.message.Message.{Message}
-use Rattle.wasm_instr.specs.below.bytes.message.Message.TheVariants as message
-use Rattle.wasm_instr.specs.below.Fault.{HasFault}
-use Rattle.wasm_instr.specs.below.Features.{HasFeature, legacy_exceptions}
-use Rattle.wasm_instr.specs.below.Refusal.{IsReadFault}
-use Rattle.wasm_instr.specs.below.Source.{Reader, rest, offset_of, end_of, at_position, NoPrefix, HasRead}
-use Rattle.wasm_instr.specs.grammar.declared.frame_kind.FrameKind.{FrameKind}
-use Rattle.wasm_instr.specs.grammar.declared.frame_kind.FrameKind.TheVariants as frame
-use Rattle.wasm_instr.specs.grammar.Frames.{Allows}
-use Rattle.wasm_instr.specs.grammar.Role.{Role, opens_try, turns_else, turns_catch, turns_catch_all, delegates}
+use Rattle.wasm_below.specs.declared.error.Error.{Error}
+use Rattle.wasm_below.specs.declared.features.WasmFeatures.{WasmFeatures}
+use Rattle.wasm_below.specs.declared.message.Message.{Message}
+use Rattle.wasm_below.specs.declared.message.Message.TheVariants as message
+use Rattle.wasm_below.specs.Fault.{HasFault}
+use Rattle.wasm_below.specs.Features.{HasFeature, legacy_exceptions}
+use Rattle.wasm_below.specs.Refusal.{IsReadFault}
+use Rattle.wasm_below.specs.Source.{Reader, rest, offset_of, end_of, at_position, NoPrefix, HasRead}
+use Rattle.wasm_grammar.specs.declared.frame_kind.FrameKind.{FrameKind}
+use Rattle.wasm_grammar.specs.declared.frame_kind.FrameKind.TheVariants as frame
+use Rattle.wasm_grammar.specs.Frames.{Allows}
+use Rattle.wasm_grammar.specs.Role.{Role, opens_try, turns_else, turns_catch, turns_catch_all, delegates}
 use Rattle.wasm_instr.specs.declared.operator.Operator.{Operator}
 use Rattle.wasm_instr.specs.declared.operator.Operator.TheVariants as operator
 use Rattle.wasm_instr.specs.Encoding.{EncodesOpcode, IsEnabled, EncodesOperator}
-use Rattle.wasm_instr.specs.Immediate.{Immediate, Kind}
+use Rattle.wasm_imm.specs.Immediate.{Immediate, Kind}
 use Rattle.wasm_instr.specs.Roles.{role_of}
 use Rattle.wasm_instr.specs.Row.{prefix_of, opcode_of}
 use Rattle.wasm_decode_opcodes.specs.declared.guard.Guard.{Guard}

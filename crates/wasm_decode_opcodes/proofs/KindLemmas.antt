@@ -2,30 +2,30 @@
 use Rattle.std.proofs.Common.{◌≡◌, ◌≢◌, ℕ, ◌+◌, ◌≤◌, ◌⊎◌, inl, inr, List, [], ◌∷◌, ◌++◌, Err, refl, sym, subst, ap, ◌∙◌, append_assoc, arith}
 use Rattle.std.proofs.lemmas.List.{append-nil}
 use Rattle.std.specs.Int.{w32, w64}
-use Rattle.wasm_instr.specs.below.bytes.error.Error.{Error}
-use Rattle.wasm_instr.specs.below.bytes.features.WasmFeatures.{WasmFeatures}
-use Rattle.wasm_instr.specs.below.bytes.message.Message.TheVariants as message
-use Rattle.wasm_instr.specs.below.FromReader.{ReadsValue}
-use Rattle.wasm_instr.specs.below.Number.{EncodesUnsigned, EncodesSigned, EncodesFixed}
-use Rattle.wasm_instr.specs.below.Refusal.{IsReadFault}
-use Rattle.wasm_instr.specs.below.Sequence.{PrefixCode}
-use Rattle.wasm_instr.specs.below.Source.{Reader, rest, offset_of, end_of, at_position, Takes, NoPrefix, MayFollow, IsAhead, HasRead, Reads, ReadsFrom, IsByte}
-use Rattle.wasm_instr.specs.below.TypeEncoding.{EncodesHeapType}
-use Rattle.wasm_instr.proofs.of_below.Blocks.{refused_now}
-use Rattle.wasm_instr.proofs.of_below.TakesLemmas.{takes_then, same_rest}
-use Rattle.wasm_instr.specs.imm.declared.memory_argument.MemArgKind.{MemArgKind}
-use Rattle.wasm_instr.specs.imm.BlockTypes.{EncodesBlockType}
-use Rattle.wasm_instr.specs.imm.BranchTables.{EncodesBranchTable}
-use Rattle.wasm_instr.specs.imm.Casts.{EncodesCast}
-use Rattle.wasm_instr.specs.imm.HandlerTables.{EncodesSelect, EncodesTryTable, EncodesResumeTable}
-use Rattle.wasm_instr.specs.imm.Indices.{EncodesMemoryIndex, EncodesTableIndex}
-use Rattle.wasm_instr.specs.imm.MemoryArgument.{EncodesMemArg}
-use Rattle.wasm_instr.specs.imm.Orderings.{EncodesOrderingByte, EncodesFence, FenceFault}
-use Rattle.wasm_instr.specs.imm.OutOfMemory.{IsOutOfMemoryAt, IsRefusedFrom}
-use Rattle.wasm_instr.specs.imm.Vectors.{EncodesSixteen, EncodesVector}
-use Rattle.wasm_instr.proofs.of_imm.Faults.{none_here}
-use Rattle.wasm_instr.specs.Immediate.{Immediate, unsigned_32, signed_32, signed_64, float_32, float_64, vector, one_lane, sixteen_lanes, memory_argument, memory_index, table_index_32, order, fence_order, heap_type, cast, block_type, branch_table, select_types, try_clauses, resume_clauses, Kind, is_unsigned_32, is_signed_32, is_signed_64, is_float_32, is_float_64, is_vector, is_one_lane, is_sixteen_lanes, is_memory_argument, is_memory_index, is_table_index, is_order, is_fence_order, is_heap_type, is_cast, is_block_type, is_branch_table, is_select_types, is_try_clauses, is_resume_clauses, kind_of, EncodesImmediate}
-use Rattle.wasm_instr.proofs.ImmediatePrefixCodes.{immediate_prefix_code}
+use Rattle.wasm_below.specs.declared.error.Error.{Error}
+use Rattle.wasm_below.specs.declared.features.WasmFeatures.{WasmFeatures}
+use Rattle.wasm_below.specs.declared.message.Message.TheVariants as message
+use Rattle.wasm_below.specs.FromReader.{ReadsValue}
+use Rattle.wasm_below.specs.Number.{EncodesUnsigned, EncodesSigned, EncodesFixed}
+use Rattle.wasm_below.specs.Refusal.{IsReadFault}
+use Rattle.wasm_below.specs.Sequence.{PrefixCode}
+use Rattle.wasm_below.specs.Source.{Reader, rest, offset_of, end_of, at_position, Takes, NoPrefix, MayFollow, IsAhead, HasRead, Reads, ReadsFrom, IsByte}
+use Rattle.wasm_below.specs.TypeEncoding.{EncodesHeapType}
+use Rattle.wasm_below.proofs.Blocks.{refused_now}
+use Rattle.wasm_below.proofs.TakesLemmas.{takes_then, same_rest}
+use Rattle.wasm_imm.specs.declared.memory_argument.MemArgKind.{MemArgKind}
+use Rattle.wasm_imm.specs.BlockTypes.{EncodesBlockType}
+use Rattle.wasm_imm.specs.BranchTables.{EncodesBranchTable}
+use Rattle.wasm_imm.specs.Casts.{EncodesCast}
+use Rattle.wasm_imm.specs.HandlerTables.{EncodesSelect, EncodesTryTable, EncodesResumeTable}
+use Rattle.wasm_imm.specs.Indices.{EncodesMemoryIndex, EncodesTableIndex}
+use Rattle.wasm_imm.specs.MemoryArgument.{EncodesMemArg}
+use Rattle.wasm_imm.specs.Orderings.{EncodesOrderingByte, EncodesFence, FenceFault}
+use Rattle.wasm_imm.specs.OutOfMemory.{IsOutOfMemoryAt, IsRefusedFrom}
+use Rattle.wasm_imm.specs.Vectors.{EncodesSixteen, EncodesVector}
+use Rattle.wasm_imm.proofs.Faults.{none_here}
+use Rattle.wasm_imm.specs.Immediate.{Immediate, unsigned_32, signed_32, signed_64, float_32, float_64, vector, one_lane, sixteen_lanes, memory_argument, memory_index, table_index_32, order, fence_order, heap_type, cast, block_type, branch_table, select_types, try_clauses, resume_clauses, Kind, is_unsigned_32, is_signed_32, is_signed_64, is_float_32, is_float_64, is_vector, is_one_lane, is_sixteen_lanes, is_memory_argument, is_memory_index, is_table_index, is_order, is_fence_order, is_heap_type, is_cast, is_block_type, is_branch_table, is_select_types, is_try_clauses, is_resume_clauses, kind_of, EncodesImmediate}
+use Rattle.wasm_imm.proofs.ImmediatePrefixCodes.{immediate_prefix_code}
 use Rattle.wasm_decode_opcodes.specs.Decoding.{IsRefusedKinds}
 use Rattle.wasm_decode_opcodes.specs.Kinds.{EncodesKind, EncodesKinds}
 use Rattle.wasm_decode_opcodes.specs.OperatorFaults.{KindFault, KindsFault}

@@ -1,14 +1,14 @@
 -- Immediates that own a list.
 use Rattle.std.proofs.Common.{◌≡◌, ℕ, List, [], ◌∷◌, ◌++◌, sym, subst, ap, ◌∙◌, append_assoc}
-use Rattle.wasm_instr.specs.below.bytes.features.WasmFeatures.{WasmFeatures}
-use Rattle.wasm_instr.specs.below.Number.{EncodesUnsigned}
-use Rattle.wasm_instr.specs.below.Source.{Reader, rest, NoPrefix, HasRead}
-use Rattle.wasm_instr.proofs.of_below.TakesLemmas.{same_rest}
-use Rattle.wasm_instr.specs.imm.control.select.Select.TheVariants as select
-use Rattle.wasm_instr.specs.imm.HandlerTables.{EncodesOne}
-use Rattle.wasm_instr.specs.Immediate.{Immediate, Kind, unsigned_32, select_types, try_clauses, resume_clauses, is_unsigned_32, is_select_types, is_try_clauses, is_resume_clauses}
-use Rattle.wasm_instr.proofs.of_imm.ListRefusals.{some_then}
-use Rattle.wasm_instr.proofs.ImmediatePrefixCodes.{immediates_prefix_code}
+use Rattle.wasm_below.specs.declared.features.WasmFeatures.{WasmFeatures}
+use Rattle.wasm_below.specs.Number.{EncodesUnsigned}
+use Rattle.wasm_below.specs.Source.{Reader, rest, NoPrefix, HasRead}
+use Rattle.wasm_below.proofs.TakesLemmas.{same_rest}
+use Rattle.wasm_imm.specs.declared.select.Select.TheVariants as select
+use Rattle.wasm_imm.specs.HandlerTables.{EncodesOne}
+use Rattle.wasm_imm.specs.Immediate.{Immediate, Kind, unsigned_32, select_types, try_clauses, resume_clauses, is_unsigned_32, is_select_types, is_try_clauses, is_resume_clauses}
+use Rattle.wasm_imm.proofs.ListRefusals.{some_then}
+use Rattle.wasm_imm.proofs.ImmediatePrefixCodes.{immediates_prefix_code}
 use Rattle.wasm_decode_opcodes.specs.Kinds.{EncodesKinds}
 use Rattle.wasm_decode_opcodes.specs.Owners.{OwnList, EncodesWithoutList}
 use Rattle.wasm_decode_opcodes.specs.Refused.{EncodesToCount, KindsMayAllocate}

@@ -1,12 +1,12 @@
 -- The operators that own a list, for which reading may fail to allocate.
 use Rattle.std.proofs.Common.{◌≡◌, ℕ, ◌+◌, ◌<◌, inl, inr, List, [], ◌∷◌, ◌++◌, None, Err, refl, sym, ap, ◌∙◌, arith}
-use Rattle.wasm_instr.specs.below.bytes.error.Error.{Error}
-use Rattle.wasm_instr.specs.below.Source.{Reader, rest, at_position, SomePrefix, HasRead}
-use Rattle.wasm_instr.specs.grammar.declared.frame_kind.FrameKind.{FrameKind}
+use Rattle.wasm_below.specs.declared.error.Error.{Error}
+use Rattle.wasm_below.specs.Source.{Reader, rest, at_position, SomePrefix, HasRead}
+use Rattle.wasm_grammar.specs.declared.frame_kind.FrameKind.{FrameKind}
 use Rattle.wasm_instr.specs.declared.operator.Operator.{Operator}
 use Rattle.wasm_instr.specs.declared.operator.Operator.TheVariants as operator
 use Rattle.wasm_instr.specs.Encoding.{EncodesOpcode}
-use Rattle.wasm_instr.specs.Immediate.{Kind, EncodesImmediates}
+use Rattle.wasm_imm.specs.Immediate.{Kind, EncodesImmediates}
 use Rattle.wasm_instr.specs.Kinds.{HoldsList}
 use Rattle.wasm_instr.specs.Row.{prefix_of, immediates_of}
 use Rattle.wasm_decode_opcodes.specs.Allowed.{EncodesAllowed}

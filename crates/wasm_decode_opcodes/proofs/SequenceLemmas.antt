@@ -2,14 +2,14 @@
 use Rattle.std.proofs.Common.{◌≡◌, ℕ, ◌+◌, ◌≤◌, inl, inr, List, [], ◌∷◌, ◌++◌, length, length-append, drop, Err, map, refl, sym, subst, ap, ◌∙◌, append_assoc, arith}
 use Rattle.std.proofs.lemmas.List.{drop-drop}
 use Rattle.std.proofs.Math.Seq.{drop-append_seam}
-use Rattle.wasm_instr.specs.below.bytes.error.Error.{Error}
-use Rattle.wasm_instr.specs.below.bytes.features.WasmFeatures.{WasmFeatures}
-use Rattle.wasm_instr.specs.below.bytes.message.Message.{Message}
-use Rattle.wasm_instr.specs.below.Source.{Reader, rest, at_position, Takes, NoPrefix, IsAhead, HasRead, Reads, ReadsFrom}
-use Rattle.wasm_instr.proofs.of_below.TakesLemmas.{takes_then, same_rest}
-use Rattle.wasm_instr.specs.imm.Orderings.{EncodesFence, FenceFault}
-use Rattle.wasm_instr.specs.Immediate.{Immediate, Kind, is_fence_order, kind_of, EncodesImmediates}
-use Rattle.wasm_instr.proofs.ImmediatePrefixCodes.{immediates_prefix_code}
+use Rattle.wasm_below.specs.declared.error.Error.{Error}
+use Rattle.wasm_below.specs.declared.features.WasmFeatures.{WasmFeatures}
+use Rattle.wasm_below.specs.declared.message.Message.{Message}
+use Rattle.wasm_below.specs.Source.{Reader, rest, at_position, Takes, NoPrefix, IsAhead, HasRead, Reads, ReadsFrom}
+use Rattle.wasm_below.proofs.TakesLemmas.{takes_then, same_rest}
+use Rattle.wasm_imm.specs.Orderings.{EncodesFence, FenceFault}
+use Rattle.wasm_imm.specs.Immediate.{Immediate, Kind, is_fence_order, kind_of, EncodesImmediates}
+use Rattle.wasm_imm.proofs.ImmediatePrefixCodes.{immediates_prefix_code}
 use Rattle.wasm_decode_opcodes.specs.Decoding.{IsRefusedKinds, StaysAhead}
 use Rattle.wasm_decode_opcodes.specs.Kinds.{EncodesKinds}
 use Rattle.wasm_decode_opcodes.specs.OperatorFaults.{KindFault, KindsFault}

@@ -1,8 +1,8 @@
 -- The encodings of the operators that a frame allows.
 use Rattle.std.specs.Prelude.{ℕ, List, Option, Some, None}
-use Rattle.wasm_instr.specs.below.bytes.features.WasmFeatures.{WasmFeatures}
-use Rattle.wasm_instr.specs.grammar.declared.frame_kind.FrameKind.{FrameKind}
-use Rattle.wasm_instr.specs.grammar.Frames.{Allows}
+use Rattle.wasm_below.specs.declared.features.WasmFeatures.{WasmFeatures}
+use Rattle.wasm_grammar.specs.declared.frame_kind.FrameKind.{FrameKind}
+use Rattle.wasm_grammar.specs.Frames.{Allows}
 use Rattle.wasm_instr.specs.declared.operator.Operator.{Operator}
 use Rattle.wasm_instr.specs.Encoding.{EncodesOperator}
 use Rattle.wasm_instr.specs.Kinds.{IsVector}

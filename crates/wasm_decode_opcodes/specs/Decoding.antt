@@ -1,15 +1,15 @@
 -- Calls that read an operator and may have it visited, and the calls for their parts.
 use Rattle.std.specs.Prelude.{◌≡◌, ℕ, ◌+◌, ◌≤◌, List, Option, Result, Ok, Err}
-use Rattle.wasm_instr.specs.below.bytes.error.Error.{Error}
-use Rattle.wasm_instr.specs.below.bytes.message.Message.{Message}
-use Rattle.wasm_instr.specs.below.bytes.message.Message.TheVariants as message
-use Rattle.wasm_instr.specs.below.Fault.{HasFault}
-use Rattle.wasm_instr.specs.below.FromReader.{ReadsValue}
-use Rattle.wasm_instr.specs.below.Source.{Reader, rest, at_position, Refuses, IsAhead, HasRead}
-use Rattle.wasm_instr.specs.grammar.declared.frame_kind.FrameKind.{FrameKind}
+use Rattle.wasm_below.specs.declared.error.Error.{Error}
+use Rattle.wasm_below.specs.declared.message.Message.{Message}
+use Rattle.wasm_below.specs.declared.message.Message.TheVariants as message
+use Rattle.wasm_below.specs.Fault.{HasFault}
+use Rattle.wasm_below.specs.FromReader.{ReadsValue}
+use Rattle.wasm_below.specs.Source.{Reader, rest, at_position, Refuses, IsAhead, HasRead}
+use Rattle.wasm_grammar.specs.declared.frame_kind.FrameKind.{FrameKind}
 use Rattle.wasm_instr.specs.declared.operator.Operator.{Operator}
 use Rattle.wasm_instr.specs.Encoding.{EncodesOpcode}
-use Rattle.wasm_instr.specs.Immediate.{Immediate, Kind}
+use Rattle.wasm_imm.specs.Immediate.{Immediate, Kind}
 use Rattle.wasm_instr.specs.Row.{prefix_of, opcode_of, immediates_of}
 use Rattle.wasm_decode_opcodes.specs.Allowed.{EncodesAllowed, EncodesScalar, EncodesIn}
 use Rattle.wasm_decode_opcodes.specs.Kinds.{EncodesKinds}

@@ -2,8 +2,8 @@
 -- The kinds of the immediates after each opcode and each subopcode.
 -- Specification: Binary Format, Instructions; Appendix, Index of Instructions.
 use Rattle.std.specs.Prelude.{ℕ, ◌==◌, if◌then◌else◌, List, [], ◌∷◌, slice_index_or, Option, Some, None}
-use Rattle.wasm_instr.specs.imm.declared.memory_argument.MemArgKind.TheVariants as kind
-use Rattle.wasm_instr.specs.Immediate.{is_unsigned_32, is_signed_32, is_signed_64, is_float_32, is_float_64, is_one_lane, is_sixteen_lanes, is_vector, is_memory_index, is_table_index, is_order, is_fence_order, is_heap_type, is_cast, is_block_type, is_branch_table, is_select_types, is_try_clauses, is_resume_clauses, is_memory_argument}
+use Rattle.wasm_imm.specs.declared.memory_argument.MemArgKind.TheVariants as kind
+use Rattle.wasm_imm.specs.Immediate.{is_unsigned_32, is_signed_32, is_signed_64, is_float_32, is_float_64, is_one_lane, is_sixteen_lanes, is_vector, is_memory_index, is_table_index, is_order, is_fence_order, is_heap_type, is_cast, is_block_type, is_branch_table, is_select_types, is_try_clauses, is_resume_clauses, is_memory_argument}
 use Rattle.wasm_decode_opcodes.specs.declared.guard.Guard.TheVariants as guard
 use Rattle.wasm_decode_opcodes.specs.Entry.{Entry, unknown, prefixes, free, guarded, align_in}
 

@@ -1,17 +1,17 @@
 -- The entry of an opcode, or of a prefix byte and a subopcode: what follows it.
 -- Specification: Binary Format, Instructions; Appendix, Index of Instructions.
 use Rattle.std.specs.Prelude.{◌≡◌, ℕ, List, ◌∷◌, Option, Some, None, map}
-use Rattle.wasm_instr.specs.below.bytes.message.InstructionName.{InstructionName}
-use Rattle.wasm_instr.specs.below.bytes.message.InstructionName.TheVariants as instruction_name
-use Rattle.wasm_instr.specs.below.bytes.message.FrameName.{FrameName}
-use Rattle.wasm_instr.specs.below.bytes.message.FrameName.TheVariants as frame_name
+use Rattle.wasm_below.specs.declared.message.InstructionName.{InstructionName}
+use Rattle.wasm_below.specs.declared.message.InstructionName.TheVariants as instruction_name
+use Rattle.wasm_below.specs.declared.message.FrameName.{FrameName}
+use Rattle.wasm_below.specs.declared.message.FrameName.TheVariants as frame_name
 use Rattle.wasm_decode_opcodes.specs.declared.guard.Guard.{Guard}
 use Rattle.wasm_decode_opcodes.specs.declared.guard.Guard.TheVariants as guard
-use Rattle.wasm_instr.specs.grammar.Role.{Role, opens_try, turns_else, turns_catch, turns_catch_all, delegates}
+use Rattle.wasm_grammar.specs.Role.{Role, opens_try, turns_else, turns_catch, turns_catch_all, delegates}
 use Rattle.wasm_instr.specs.declared.operator.Operator.{Operator}
 use Rattle.wasm_instr.specs.Roles.{role_of}
 use Rattle.wasm_instr.specs.Row.{immediates_of}
-use Rattle.wasm_instr.specs.Immediate.{Kind, kind_of, is_memory_argument}
+use Rattle.wasm_imm.specs.Immediate.{Kind, kind_of, is_memory_argument}
 
 -- What follows a code. `unknown`: no operator has it. `prefixes`: a subopcode. `free`: immediates of these kinds, in every frame and under all features.
 -- `guarded`: immediates of these kinds, after this guard's checks.

@@ -1,7 +1,7 @@
 -- Immediates of given kinds.
 use Rattle.std.specs.Prelude.{◌≡◌, ℕ, List, map}
-use Rattle.wasm_instr.specs.below.bytes.features.WasmFeatures.{WasmFeatures}
-use Rattle.wasm_instr.specs.Immediate.{Immediate, Kind, kind_of, EncodesImmediate, EncodesImmediates}
+use Rattle.wasm_below.specs.declared.features.WasmFeatures.{WasmFeatures}
+use Rattle.wasm_imm.specs.Immediate.{Immediate, Kind, kind_of, EncodesImmediate, EncodesImmediates}
 
 -- The bytes `text` encode the immediate `i`, whose kind is `k`.
 abbrev pub EncodesKind : WasmFeatures → Kind → List ℕ → Immediate → Type 0

@@ -1,25 +1,25 @@
 -- The error of an operator: first the checks in their order, then the immediates from left to right.
 -- Specification: Binary Format, Instructions; proposal legacy exception handling.
 use Rattle.std.specs.Prelude.{◌≡◌, ℕ, ◌⊎◌, List, [], ◌∷◌, Option, Some, None}
-use Rattle.wasm_instr.specs.below.bytes.features.WasmFeatures.{WasmFeatures}
-use Rattle.wasm_instr.specs.below.bytes.message.Message.{Message}
-use Rattle.wasm_instr.specs.below.bytes.message.Message.TheVariants as message
-use Rattle.wasm_instr.specs.below.Fault.{ThenFault}
-use Rattle.wasm_instr.specs.below.Features.{HasFeature, legacy_exceptions}
-use Rattle.wasm_instr.specs.below.Number.{EncodesUnsigned}
-use Rattle.wasm_instr.specs.below.Source.{Reader, rest, offset_of, BeginsWith, IsByte, U32Fault, I32Fault, I64Fault, EndFault, EndsWithin}
-use Rattle.wasm_instr.specs.below.TypeEncoding.{HeapTypeFault}
-use Rattle.wasm_instr.specs.grammar.declared.frame_kind.FrameKind.{FrameKind}
-use Rattle.wasm_instr.specs.grammar.Frames.{Allows}
-use Rattle.wasm_instr.specs.imm.BlockTypeFaults.{BlockTypeFault}
-use Rattle.wasm_instr.specs.imm.BranchTableFaults.{BranchTableFault}
-use Rattle.wasm_instr.specs.imm.CastFaults.{CastFault}
-use Rattle.wasm_instr.specs.imm.Indices.{MemoryIndexFault, TableIndexFault}
-use Rattle.wasm_instr.specs.imm.ListFaults.{SelectFault, TryTableFault, ResumeTableFault}
-use Rattle.wasm_instr.specs.imm.MemoryArgumentFaults.{CheckFault, MemArgFault}
-use Rattle.wasm_instr.specs.imm.Orderings.{OrderingByteFault, FenceFault}
-use Rattle.wasm_instr.specs.imm.Vectors.{LanesFault}
-use Rattle.wasm_instr.specs.Immediate.{Kind, is_unsigned_32, is_signed_32, is_signed_64, is_float_32, is_float_64, is_vector, is_one_lane, is_sixteen_lanes, is_memory_argument, is_memory_index, is_table_index, is_order, is_fence_order, is_heap_type, is_cast, is_block_type, is_branch_table, is_select_types, is_try_clauses, is_resume_clauses}
+use Rattle.wasm_below.specs.declared.features.WasmFeatures.{WasmFeatures}
+use Rattle.wasm_below.specs.declared.message.Message.{Message}
+use Rattle.wasm_below.specs.declared.message.Message.TheVariants as message
+use Rattle.wasm_below.specs.Fault.{ThenFault}
+use Rattle.wasm_below.specs.Features.{HasFeature, legacy_exceptions}
+use Rattle.wasm_below.specs.Number.{EncodesUnsigned}
+use Rattle.wasm_below.specs.Source.{Reader, rest, offset_of, BeginsWith, IsByte, U32Fault, I32Fault, I64Fault, EndFault, EndsWithin}
+use Rattle.wasm_below.specs.TypeEncoding.{HeapTypeFault}
+use Rattle.wasm_grammar.specs.declared.frame_kind.FrameKind.{FrameKind}
+use Rattle.wasm_grammar.specs.Frames.{Allows}
+use Rattle.wasm_imm.specs.BlockTypeFaults.{BlockTypeFault}
+use Rattle.wasm_imm.specs.BranchTableFaults.{BranchTableFault}
+use Rattle.wasm_imm.specs.CastFaults.{CastFault}
+use Rattle.wasm_imm.specs.Indices.{MemoryIndexFault, TableIndexFault}
+use Rattle.wasm_imm.specs.ListFaults.{SelectFault, TryTableFault, ResumeTableFault}
+use Rattle.wasm_imm.specs.MemoryArgumentFaults.{CheckFault, MemArgFault}
+use Rattle.wasm_imm.specs.Orderings.{OrderingByteFault, FenceFault}
+use Rattle.wasm_imm.specs.Vectors.{LanesFault}
+use Rattle.wasm_imm.specs.Immediate.{Kind, is_unsigned_32, is_signed_32, is_signed_64, is_float_32, is_float_64, is_vector, is_one_lane, is_sixteen_lanes, is_memory_argument, is_memory_index, is_table_index, is_order, is_fence_order, is_heap_type, is_cast, is_block_type, is_branch_table, is_select_types, is_try_clauses, is_resume_clauses}
 use Rattle.wasm_decode_opcodes.specs.declared.guard.Guard.{Guard}
 use Rattle.wasm_decode_opcodes.specs.Entry.{Entry, unknown, prefixes, free, guarded, guarded_role, guarded_instruction, needed_frame, NeedsLegacy}
 use Rattle.wasm_decode_opcodes.specs.Entries.{entry_at}

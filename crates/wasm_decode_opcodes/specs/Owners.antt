@@ -1,7 +1,7 @@
 use Rattle.std.specs.Prelude.{ℕ, List, [], ◌∷◌}
-use Rattle.wasm_instr.specs.below.bytes.features.WasmFeatures.{WasmFeatures}
-use Rattle.wasm_instr.specs.imm.control.select.Select.TheVariants as select
-use Rattle.wasm_instr.specs.Immediate.{Immediate, Kind, select_types, try_clauses, resume_clauses}
+use Rattle.wasm_below.specs.declared.features.WasmFeatures.{WasmFeatures}
+use Rattle.wasm_imm.specs.declared.select.Select.TheVariants as select
+use Rattle.wasm_imm.specs.Immediate.{Immediate, Kind, select_types, try_clauses, resume_clauses}
 use Rattle.wasm_decode_opcodes.specs.Kinds.{EncodesKinds}
 
 -- One of the immediates owns a list.

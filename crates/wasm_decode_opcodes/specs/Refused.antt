@@ -1,10 +1,10 @@
 -- Where reading an operator may allocate.
 use Rattle.std.specs.Prelude.{◌≡◌, ℕ, ◌⊎◌, List, ◌∷◌, None}
-use Rattle.wasm_instr.specs.below.Number.{EncodesUnsigned}
-use Rattle.wasm_instr.specs.below.Sequence.{Then}
-use Rattle.wasm_instr.specs.below.Source.{Reader, rest, BeginsWith, NoPrefix, SomePrefix}
-use Rattle.wasm_instr.specs.imm.HandlerTables.{EncodesTypeCount, EncodesTryTableCount, EncodesHandlerCount}
-use Rattle.wasm_instr.specs.Immediate.{Kind, is_unsigned_32, is_select_types, is_try_clauses, is_resume_clauses}
+use Rattle.wasm_below.specs.Number.{EncodesUnsigned}
+use Rattle.wasm_below.specs.Sequence.{Then}
+use Rattle.wasm_below.specs.Source.{Reader, rest, BeginsWith, NoPrefix, SomePrefix}
+use Rattle.wasm_imm.specs.HandlerTables.{EncodesTypeCount, EncodesTryTableCount, EncodesHandlerCount}
+use Rattle.wasm_imm.specs.Immediate.{Kind, is_unsigned_32, is_select_types, is_try_clauses, is_resume_clauses}
 use Rattle.wasm_instr.specs.declared.operator.Operator.{Operator}
 use Rattle.wasm_instr.specs.Kinds.{HoldsList}
 use Rattle.wasm_decode_opcodes.specs.Entry.{free}

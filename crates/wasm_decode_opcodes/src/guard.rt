@@ -1,18 +1,16 @@
 //! The operators whose feature and frame are checked: `else`, and those of the legacy exceptions.
 ghost use Rattle.std.specs.Prelude.{◌≡◌, ◌≤◌, ◌<◌, ◌+◌, ℕ, List, IsTrue, ◌↔◌, false, None, Err, IfOk, IfErr};
-ghost use Rattle.wasm_instr.specs.below.Features.{HasFeature, legacy_exceptions};
-ghost use Rattle.wasm_instr.specs.below.Source.{at_position};
-ghost use Rattle.wasm_instr.specs.grammar.Frames.{Allows};
-ghost use Rattle.wasm_instr.specs.Immediate.{Kind};
+ghost use Rattle.wasm_below.specs.Features.{HasFeature, legacy_exceptions};
+ghost use Rattle.wasm_below.specs.Source.{at_position};
+ghost use Rattle.wasm_grammar.specs.Frames.{Allows};
+ghost use Rattle.wasm_imm.specs.Immediate.{Kind};
 ghost use Rattle.wasm_decode_opcodes.specs.Decoding.{IsAfterCode, DecodesOperatorAt};
 ghost use Rattle.wasm_decode_opcodes.specs.Entries.{entry_at};
 ghost use Rattle.wasm_decode_opcodes.specs.Entry.{guarded, guarded_role, guarded_instruction, needed_frame, NeedsLegacy};
 ghost use Rattle.wasm_decode_opcodes.specs.OperatorFaults.{GuardFault, LacksFeature};
 
-use wasm_instr::below::{
-    BinaryReader, Error, FrameName, InstructionName, Message, Result, WasmFeatures,
-};
-use wasm_instr::grammar::FrameKind;
+use wasm_below::{BinaryReader, Error, FrameName, InstructionName, Message, Result, WasmFeatures};
+use wasm_grammar::FrameKind;
 
 /// An operator whose feature and frame are checked before its immediates.
 #[derive(Clone, Copy, Debug, PartialEq, Eq)]

@@ -1,9 +1,9 @@
 ghost use Rattle.std.specs.Prelude.{◌≤◌, [], ◌∷◌};
-ghost use Rattle.wasm_instr.specs.Immediate.{branch_table, is_branch_table};
+ghost use Rattle.wasm_imm.specs.Immediate.{branch_table, is_branch_table};
 ghost use Rattle.wasm_decode_opcodes.specs.Decoding.{ReadsKinds, GoesBack};
 
-use wasm_instr::below::{BinaryReader, Result};
-use wasm_instr::imm::BrTable;
+use wasm_below::{BinaryReader, Result};
+use wasm_imm::BrTable;
 
 /// Reads the targets of `br_table`, the only immediate that borrows. On an error the reader goes
 /// back to the position `start`.

@@ -1,12 +1,12 @@
 //! Types for the immediates after an opcode: `u32` for an unsigned number, `(u32, u32)` for two,
 //! `()` for none.
 ghost use Rattle.std.specs.Prelude.{◌≡◌, ◌≤◌, ℕ, List, [], ◌∷◌, ◌++◌};
-ghost use Rattle.wasm_instr.specs.imm.declared.memory_argument.MemArgKind.{MemArgKind};
-ghost use Rattle.wasm_instr.specs.Immediate.{Immediate, Kind, unsigned_32, signed_32, signed_64, float_32, float_64, vector, one_lane, sixteen_lanes, memory_argument, memory_index, table_index_32, order, fence_order, heap_type, cast, block_type, is_unsigned_32, is_signed_32, is_signed_64, is_float_32, is_float_64, is_vector, is_one_lane, is_sixteen_lanes, is_memory_argument, is_memory_index, is_table_index, is_order, is_fence_order, is_heap_type, is_cast, is_block_type};
+ghost use Rattle.wasm_imm.specs.declared.memory_argument.MemArgKind.{MemArgKind};
+ghost use Rattle.wasm_imm.specs.Immediate.{Immediate, Kind, unsigned_32, signed_32, signed_64, float_32, float_64, vector, one_lane, sixteen_lanes, memory_argument, memory_index, table_index_32, order, fence_order, heap_type, cast, block_type, is_unsigned_32, is_signed_32, is_signed_64, is_float_32, is_float_64, is_vector, is_one_lane, is_sixteen_lanes, is_memory_argument, is_memory_index, is_table_index, is_order, is_fence_order, is_heap_type, is_cast, is_block_type};
 ghost use Rattle.wasm_decode_opcodes.specs.Decoding.{ReadsKinds, StaysAhead};
 
-use wasm_instr::below::{BinaryReader, HeapType, Result};
-use wasm_instr::imm::{
+use wasm_below::{BinaryReader, HeapType, Result};
+use wasm_imm::{
     BlockType, Cast, Ieee32, Ieee64, MemArg, MemArgKind, Ordering, ReadImmediates, V128, read_lane,
     read_lanes, read_memory_index, read_table_index,
 };

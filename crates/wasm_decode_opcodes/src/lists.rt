@@ -1,13 +1,13 @@
 //! Types for immediates that may own a list. Only their reads allocate.
 ghost use Rattle.std.specs.Prelude.{◌≤◌, List, [], ◌∷◌};
-ghost use Rattle.wasm_instr.specs.below.Source.{offset_of, end_of};
-ghost use Rattle.wasm_instr.specs.Immediate.{Immediate, Kind, unsigned_32, select_types, try_clauses, resume_clauses, is_unsigned_32, is_select_types, is_try_clauses, is_resume_clauses};
+ghost use Rattle.wasm_below.specs.Source.{offset_of, end_of};
+ghost use Rattle.wasm_imm.specs.Immediate.{Immediate, Kind, unsigned_32, select_types, try_clauses, resume_clauses, is_unsigned_32, is_select_types, is_try_clauses, is_resume_clauses};
 ghost use Rattle.wasm_decode_opcodes.specs.Decoding.{ReadsKinds, GoesBack};
 ghost use Rattle.wasm_decode_opcodes.specs.Refused.{KindsMayAllocate};
 
 use std::alloc::Global;
-use wasm_instr::below::{BinaryReader, FromReader, Result};
-use wasm_instr::imm::{ResumeTable, Select, TryTable, refuse_from};
+use wasm_below::{BinaryReader, FromReader, Result};
+use wasm_imm::{ResumeTable, Select, TryTable, refuse_from};
 
 /// The immediates of an operator that may own a list, as a type.
 pub trait Lists: Drop {

@@ -1,11 +1,11 @@
 //! Opcodes and subopcodes that no operator has.
 ghost use Rattle.std.specs.Prelude.{◌≡◌, Some, None, Err};
-ghost use Rattle.wasm_instr.specs.grammar.declared.frame_kind.FrameKind.{FrameKind};
+ghost use Rattle.wasm_grammar.specs.declared.frame_kind.FrameKind.{FrameKind};
 ghost use Rattle.wasm_decode_opcodes.specs.Decoding.{IsAfterCode, DecodesOperatorAt};
 ghost use Rattle.wasm_decode_opcodes.specs.Entries.{entry_at};
 ghost use Rattle.wasm_decode_opcodes.specs.Entry.{prefixes, unknown};
 
-use wasm_instr::below::{BinaryReader, Error, Message};
+use wasm_below::{BinaryReader, Error, Message};
 
 /// Returns the error `IllegalOpcode` at the offset of the opcode. The reader goes back to the
 /// position `start`.

@@ -1,15 +1,15 @@
 use Rattle.std.proofs.Common.{◌≡◌, ◌≢◌, ℕ, ◌+◌, ◌<◌, ◌≤◌, List, [], ◌∷◌, ◌++◌, length, Option, Ok, Err, refl, sym, subst, ap, ◌∙◌, append_assoc, append-nil, length-append, arith}
 use Rattle.std.proofs.lemmas.List.{append_cancel_left}
 use Rattle.std.specs.Io.KnownBytes.{Appends}
-use Rattle.wasm_operators.specs.below.bytes.error.Error.{Error}
-use Rattle.wasm_operators.specs.below.bytes.message.Message.{Message}
-use Rattle.wasm_operators.specs.below.bytes.message.Message.TheVariants as message
+use Rattle.wasm_operators.specs.below.declared.error.Error.{Error}
+use Rattle.wasm_operators.specs.below.declared.message.Message.{Message}
+use Rattle.wasm_operators.specs.below.declared.message.Message.TheVariants as message
 use Rattle.wasm_operators.specs.below.Sequence.{PrefixCode}
 use Rattle.wasm_operators.specs.below.Source.{Reader, rest, offset_of, at_position, Takes, MayFollow}
 use Rattle.wasm_operators.specs.imm.Lists.{EncodesEach, EncodesMany}
 use Rattle.wasm_operators.specs.Locals.{Declaration, EncodesDeclaration, max_locals, Locals, ReadsDeclaration}
-use Rattle.wasm_lines.specs.Rows.{line_of}
-use Rattle.wasm_lines.specs.Lines.{between, next_offset}
+use Rattle.wasm_text.specs.Rows.{line_of}
+use Rattle.wasm_text.specs.Lines.{between, next_offset}
 use Rattle.wasm_disassembly.specs.declared.fault.DisassemblyFault.TheVariants as fault
 use Rattle.wasm_disassembly.specs.LocalLines.{PlacedLocals, declarations_of, locals_in, LaidOutLocals, declaration_text, declaration_lines, WritesDeclarations, ListsDeclarations}
 use Rattle.wasm_disassembly.proofs.Written.{appends_none, appends_both}

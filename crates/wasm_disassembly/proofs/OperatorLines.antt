@@ -1,7 +1,7 @@
 use Rattle.std.proofs.Common.{◌≡◌, ◌≢◌, ℕ, ◌+◌, ◌-◌, ◌<◌, ◌≤◌, List, [], ◌∷◌, ◌++◌, length, Option, Ok, Err, refl, sym, subst, ap, ◌∙◌, append_assoc, append-nil, length-append, arith}
 use Rattle.std.specs.Io.KnownBytes.{Appends}
-use Rattle.wasm_operators.specs.below.bytes.error.Error.{Error}
-use Rattle.wasm_operators.specs.below.bytes.message.Message.TheVariants as message
+use Rattle.wasm_operators.specs.below.declared.error.Error.{Error}
+use Rattle.wasm_operators.specs.below.declared.message.Message.TheVariants as message
 use Rattle.wasm_operators.specs.below.Source.{Reader, rest, offset_of, source_of}
 use Rattle.wasm_operators.specs.grammar.declared.frame_change.FrameChange.{FrameChange}
 use Rattle.wasm_operators.specs.grammar.declared.frame_change.FrameChange.TheVariants as change
@@ -12,8 +12,8 @@ use Rattle.wasm_operators.specs.MainTheorem.{ReadsTree, ReadsBeginning}
 use Rattle.wasm_operators.specs.Laws.{TakesNone, TakesOneMore, TakesBytes}
 use Rattle.wasm_operators.specs.Reading.{State, IsFresh, TakesOperator, TakesOperators}
 use Rattle.wasm_operators.specs.Next.{adding}
-use Rattle.wasm_lines.specs.Rows.{line_of}
-use Rattle.wasm_lines.specs.Lines.{change_in, depth_of, depth_after, between, next_offset, lines_from, lines_of}
+use Rattle.wasm_text.specs.Rows.{line_of}
+use Rattle.wasm_text.specs.Lines.{change_in, depth_of, depth_after, between, next_offset, lines_from, lines_of}
 use Rattle.wasm_disassembly.specs.declared.fault.DisassemblyFault.TheVariants as fault
 use Rattle.wasm_disassembly.specs.Disassembly.{called_text, ListsOperators}
 use Rattle.wasm_disassembly.proofs.Written.{appends_none, appends_both}

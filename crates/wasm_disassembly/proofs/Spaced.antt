@@ -5,7 +5,7 @@ use Rattle.wasm_operators.specs.below.declared.types.HeapType.{HeapType}
 use Rattle.wasm_operators.specs.below.declared.types.HeapType.TheVariants as heap
 use Rattle.wasm_operators.specs.below.declared.types.ValType.{ValType}
 use Rattle.wasm_operators.specs.below.declared.types.ValType.TheVariants as value
-use Rattle.wasm_lines.specs.text.Values.{heap_type_text, reference_words, reference_text, value_type_text}
+use Rattle.wasm_text.specs.Values.{heap_type_text, reference_words, reference_text, value_type_text}
 
 -- The text starts with a space.
 abbrev pub IsSpaced : List ℕ → Type 0

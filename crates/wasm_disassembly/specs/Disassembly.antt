@@ -2,8 +2,8 @@
 -- Section.
 use Rattle.std.specs.Prelude.{◌≡◌, ◌≢◌, ◌<◌, ◌⊎◌, ℕ, ◌+◌, List, [], ◌++◌, length, slice_index_or, Option, Result, Ok, Err}
 use Rattle.std.specs.Io.KnownBytes.{Appends}
-use Rattle.wasm_operators.specs.below.bytes.error.Error.{Error}
-use Rattle.wasm_operators.specs.below.bytes.message.Message.TheVariants as message
+use Rattle.wasm_operators.specs.below.declared.error.Error.{Error}
+use Rattle.wasm_operators.specs.below.declared.message.Message.TheVariants as message
 use Rattle.wasm_operators.specs.below.Source.{Source, Reader, rest, offset_of, source_of}
 use Rattle.wasm_operators.specs.Body.{EncodesBody, NoExpression}
 use Rattle.wasm_operators.specs.Expression.{Placed, EncodesExpression}
@@ -13,8 +13,8 @@ use Rattle.wasm_operators.specs.Reading.{State, IsFresh}
 use Rattle.wasm_operators.specs.instr.declared.operator.Operator.{Operator}
 use Rattle.wasm_operators.specs.Next.{adding}
 use Rattle.wasm_operators.specs.instr.declared.operator.Operator.TheVariants as operator
-use Rattle.wasm_lines.specs.Lines.{shown_name, header_of, lines_of}
-use Rattle.wasm_lines.specs.text.Operands.{text_of}
+use Rattle.wasm_text.specs.Lines.{shown_name, header_of, lines_of}
+use Rattle.wasm_text.specs.Operands.{text_of}
 use Rattle.wasm_disassembly.specs.declared.fault.DisassemblyFault.{DisassemblyFault}
 use Rattle.wasm_disassembly.specs.declared.fault.DisassemblyFault.TheVariants as fault
 use Rattle.wasm_disassembly.specs.LocalLines.{PlacedLocals, declarations_of, TakesDeclarations, declaration_lines}

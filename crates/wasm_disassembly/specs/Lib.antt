@@ -1,5 +1,9 @@
 pub mod Faults
 pub mod LocalLines
 pub mod Disassembly
-pub use Rattle.wasm_lines.specs as lines
-pub use Rattle.wasm_operators.specs as operators
+pub mod Escapes
+pub mod Listing
+pub mod CountTable
+pub mod ModuleCensus
+pub mod Headers
+pub mod Cut

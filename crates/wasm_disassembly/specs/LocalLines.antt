@@ -5,9 +5,9 @@ use Rattle.std.specs.Io.KnownBytes.{Appends}
 use Rattle.wasm_operators.specs.below.declared.types.ValType.{ValType}
 use Rattle.wasm_operators.specs.below.Source.{offset_of, Takes}
 use Rattle.wasm_operators.specs.Locals.{Declaration, EncodesDeclaration, Locals, ReadsDeclaration}
-use Rattle.wasm_lines.specs.Rows.{line_of}
-use Rattle.wasm_lines.specs.Lines.{shown_indices, between, next_offset}
-use Rattle.wasm_lines.specs.text.Values.{value_type_text}
+use Rattle.wasm_text.specs.Rows.{line_of}
+use Rattle.wasm_text.specs.Lines.{shown_indices, between, next_offset}
+use Rattle.wasm_text.specs.Values.{value_type_text}
 use Rattle.wasm_disassembly.specs.declared.fault.DisassemblyFault.{DisassemblyFault}
 use Rattle.wasm_disassembly.specs.declared.fault.DisassemblyFault.TheVariants as fault
 

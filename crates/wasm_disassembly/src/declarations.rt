@@ -3,7 +3,7 @@ ghost use Rattle.std.specs.Io.KnownBytes.{Appends};
 ghost use Rattle.wasm_operators.specs.below.Source.{rest};
 ghost use Rattle.wasm_operators.specs.imm.Lists.{EncodesMany};
 ghost use Rattle.wasm_operators.specs.Locals.{Declaration, EncodesDeclaration, max_locals};
-ghost use Rattle.wasm_lines.specs.Rows.{line_of};
+ghost use Rattle.wasm_text.specs.Rows.{line_of};
 ghost use Rattle.wasm_disassembly.specs.Faults.{IsHalt};
 ghost use Rattle.wasm_disassembly.specs.LocalLines.{type_name, declaration_text, locals_in, ListsDeclarations};
 
@@ -11,9 +11,8 @@ use crate::fault::DisassemblyFault;
 use crate::writing::write_text;
 use std::alloc::Global;
 use std::io::Write;
-use wasm_lines::text::{Written, write_value_type};
-use wasm_lines::{begin_line, bytes_between, end_line, write_indices};
 use wasm_operators::{LocalsReader, ValType, body_laws};
+use wasm_text::{Written, begin_line, bytes_between, end_line, write_indices, write_value_type};
 
 /// Writes the name of a value type, without the space before it.
 fn write_type_name(alloc: Global, out: &mut String, ty: ValType) -> Written

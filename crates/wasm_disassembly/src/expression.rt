@@ -2,8 +2,8 @@ ghost use Rattle.std.specs.Prelude.{◌≡◌, ◌+◌, ◌^◌, ◌<◌, IfErr,
 ghost use Rattle.std.specs.Io.KnownBytes.{Appends};
 ghost use Rattle.wasm_operators.specs.below.Source.{source_of};
 ghost use Rattle.wasm_operators.specs.Expression.{Placed, EncodesExpression};
-ghost use Rattle.wasm_lines.specs.Rows.{line_of};
-ghost use Rattle.wasm_lines.specs.Lines.{change_in, depth_of, depth_after};
+ghost use Rattle.wasm_text.specs.Rows.{line_of};
+ghost use Rattle.wasm_text.specs.Lines.{change_in, depth_of, depth_after};
 ghost use Rattle.wasm_disassembly.specs.Disassembly.{callee_of, called_text, name_of, ListsOperators};
 ghost use Rattle.wasm_disassembly.specs.Faults.{IsHalt};
 
@@ -11,8 +11,8 @@ use crate::fault::{DisassemblyFault, fault_of};
 use crate::writing::write_text;
 use std::alloc::Global;
 use std::io::Write;
-use wasm_lines::{bytes_between, write_line};
 use wasm_operators::{BinaryReader, Operator, OperatorsReader, run_laws};
+use wasm_text::{bytes_between, write_line};
 
 /// Returns the name of the function with this index, or an empty one.
 pub fn name_of<'a>(names: &'a [String], index: u32) -> &'a str

@@ -4,7 +4,7 @@ ghost use Rattle.wasm_operators.specs.below.Source.{source_of};
 ghost use Rattle.wasm_operators.specs.Body.{EncodesBody};
 ghost use Rattle.wasm_operators.specs.Expression.{Placed};
 ghost use Rattle.wasm_operators.specs.Locals.{Declaration, max_locals};
-ghost use Rattle.wasm_lines.specs.Lines.{header_of};
+ghost use Rattle.wasm_text.specs.Lines.{header_of};
 ghost use Rattle.wasm_disassembly.specs.LocalLines.{locals_in};
 ghost use Rattle.wasm_disassembly.specs.Disassembly.{Disassembles};
 ghost use Rattle.wasm_disassembly.specs.Faults.{IsHalt};
@@ -15,8 +15,8 @@ use crate::fault::DisassemblyFault;
 use crate::writing::write_text;
 use std::alloc::Global;
 use std::io::Write;
-use wasm_lines::write_header;
 use wasm_operators::{FunctionBody, body_laws, byte_laws};
+use wasm_text::write_header;
 
 /// Writes the header of a function through the buffer `line`.
 fn write_heading<W: Write>(

@@ -7,8 +7,8 @@
 use std::env::Env;
 use std::process::ExitCode;
 use std::{env, io};
-use wasm_listing::operators::WasmFeatures;
 use wasm_listing::{DumpFault, features_of, run};
+use wasm_operators::WasmFeatures;
 
 fn main(rt: HostRuntime) -> ExitCode {
     let ended = match read_features(&rt) {

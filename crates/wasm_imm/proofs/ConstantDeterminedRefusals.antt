@@ -1,5 +1,5 @@
 use Rattle.std.proofs.Common.{sym, ◌∙◌}
-use Rattle.wasm_imm_control.specs.below.Fault.{DeterminesRefusal}
+use Rattle.wasm_below.specs.Fault.{DeterminesRefusal}
 use Rattle.wasm_imm.specs.Vectors.{LanesFault}
 
 pub lanes_determines : DeterminesRefusal LanesFault

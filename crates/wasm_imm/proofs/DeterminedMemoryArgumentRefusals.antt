@@ -1,18 +1,18 @@
 use Rattle.std.proofs.Common.{ℕ, inl, inr, true, sym, ◌∙◌}
-use Rattle.wasm_imm_control.specs.below.bytes.features.WasmFeatures.{WasmFeatures}
-use Rattle.wasm_imm_control.specs.below.bytes.message.Message.{Message}
-use Rattle.wasm_imm_control.specs.below.bytes.message.Message.TheVariants as message
-use Rattle.wasm_imm_control.specs.below.bytes.message.NumberName.TheVariants as number_name
-use Rattle.wasm_imm_control.specs.below.Fault.{ThenFault, DeterminesRefusal}
-use Rattle.wasm_imm_control.specs.below.Features.{HasFeature, memory64}
-use Rattle.wasm_imm_control.specs.below.Number.{EncodesUnsigned}
-use Rattle.wasm_imm_control.specs.below.Source.{Reader, offset_of, U32Fault, U64Fault}
-use Rattle.wasm_imm_control.proofs.of_below.DeterminedRefusals.{number_determines, u32_determines, then_determines, either_determines, checked_determines}
+use Rattle.wasm_below.specs.declared.features.WasmFeatures.{WasmFeatures}
+use Rattle.wasm_below.specs.declared.message.Message.{Message}
+use Rattle.wasm_below.specs.declared.message.Message.TheVariants as message
+use Rattle.wasm_below.specs.declared.message.NumberName.TheVariants as number_name
+use Rattle.wasm_below.specs.Fault.{ThenFault, DeterminesRefusal}
+use Rattle.wasm_below.specs.Features.{HasFeature, memory64}
+use Rattle.wasm_below.specs.Number.{EncodesUnsigned}
+use Rattle.wasm_below.specs.Source.{Reader, offset_of, U32Fault, U64Fault}
+use Rattle.wasm_below.proofs.DeterminedRefusals.{number_determines, u32_determines, then_determines, either_determines, checked_determines}
 use Rattle.wasm_imm.specs.declared.memory_argument.MemArgKind.{MemArgKind}
 use Rattle.wasm_imm.specs.FlagsNumber.{NamesBoth, OrdersPlain, IsReserved, IsTarget, IsOrdering}
 use Rattle.wasm_imm.specs.MemoryArgumentFaults.{CheckFault, TargetFault, IsNoOrdering, OrderingFault, OffsetFault, FaultAfterOrdering, FaultAfterTarget, FlagsFault, MemArgFault}
 use Rattle.wasm_imm.proofs.FlagsNumber.{target_prefix_code, ordering_prefix_code}
-use Rattle.wasm_imm_control.proofs.of_below.Steps.{number_prefix_code}
+use Rattle.wasm_below.proofs.Steps.{number_prefix_code}
 
 pub check_determines : (IsWrong : Type 0) (refusal : Message) (place : ℕ) (Later : Message → Reader → ℕ → Type 0) → DeterminesRefusal Later →
     DeterminesRefusal (CheckFault IsWrong refusal place Later)

@@ -1,18 +1,15 @@
 use Rattle.std.proofs.Common.{◌≢◌, ℕ, false}
-use Rattle.wasm_imm_control.specs.below.bytes.features.WasmFeatures.{WasmFeatures}
-use Rattle.wasm_imm_control.specs.below.bytes.message.Message.TheVariants as message
-use Rattle.wasm_imm_control.specs.below.Fault.{DeterminesRefusal}
-use Rattle.wasm_imm_control.specs.below.Features.{HasFeature, acquire_release_atomics}
-use Rattle.wasm_imm_control.specs.below.Source.{offset_of, U32Fault}
-use Rattle.wasm_imm_control.proofs.of_below.DeterminedRefusals.{u32_determines}
+use Rattle.wasm_below.specs.declared.features.WasmFeatures.{WasmFeatures}
+use Rattle.wasm_below.specs.declared.message.Message.TheVariants as message
+use Rattle.wasm_below.specs.Fault.{DeterminesRefusal}
+use Rattle.wasm_below.specs.Features.{HasFeature, acquire_release_atomics}
+use Rattle.wasm_below.specs.Source.{offset_of, U32Fault}
+use Rattle.wasm_below.proofs.DeterminedRefusals.{u32_determines, either_determines, checked_determines, zero_determines}
 use Rattle.wasm_imm.specs.declared.ordering.Ordering.{Ordering}
 use Rattle.wasm_imm.specs.MemoryArgument.{ordering_byte}
-use Rattle.wasm_imm_control.specs.below.PartFaults.{ZeroFault}
+use Rattle.wasm_below.specs.PartFaults.{ZeroFault}
 use Rattle.wasm_imm.specs.Indices.{IndexFault}
 use Rattle.wasm_imm.specs.Orderings.{OrderingByteFault, FenceFault}
-use Rattle.wasm_imm_control.proofs.of_below.DeterminedRefusals.{either_determines}
-use Rattle.wasm_imm_control.proofs.of_below.DeterminedRefusals.{checked_determines}
-use Rattle.wasm_imm_control.proofs.of_below.DeterminedRefusals.{zero_determines}
 
 pub index_determines : (feature f : WasmFeatures) → DeterminesRefusal (IndexFault feature f)
 index_determines feature f m k r a b = either_determines (HasFeature feature f) U32Fault (ZeroFault message.ZeroByteExpected (offset_of r)) u32_determines

@@ -1,16 +1,16 @@
 -- What a flags number announces, and the parts that it is the sum of.
 use Rattle.std.proofs.Common.{◌≡◌, ◌≢◌, ℕ, ◌+◌, ◌*◌, ◌/◌, ◌%◌, ◌<◌, ◌≤◌, ◌⊎◌, inl, inr, List, [], ◌∷◌, ◌++◌, Option, Some, None, refl, sym, subst, ap, ◌∙◌, arith}
-use Rattle.wasm_imm_control.specs.below.bytes.features.WasmFeatures.{WasmFeatures}
-use Rattle.wasm_imm_control.specs.below.bytes.error.Error.{Error}
-use Rattle.wasm_imm_control.specs.below.Features.{HasFeature, multi_memory, acquire_release_atomics, multibyte_array_access}
-use Rattle.wasm_imm_control.specs.below.Number.{EncodesUnsigned}
-use Rattle.wasm_imm_control.specs.below.Refusal.{IsReadFault}
-use Rattle.wasm_imm_control.specs.below.Source.{Reader, offset_of, IsRefusal, HasRead}
-use Rattle.wasm_imm_control.specs.below.Sequence.{Then, PrefixCode}
-use Rattle.wasm_imm_control.proofs.of_below.PrefixCode.{unsigned_prefix_code}
-use Rattle.wasm_imm_control.proofs.of_below.TakesLemmas.{takes_then, takes_none}
-use Rattle.wasm_imm_control.proofs.of_below.Sequences.{then_first, then_second, then_prefix_code, refuses_by}
-use Rattle.wasm_imm_control.proofs.of_below.Steps.{number_prefix_code, unsigned_some, first_rules_out}
+use Rattle.wasm_below.specs.declared.features.WasmFeatures.{WasmFeatures}
+use Rattle.wasm_below.specs.declared.error.Error.{Error}
+use Rattle.wasm_below.specs.Features.{HasFeature, multi_memory, acquire_release_atomics, multibyte_array_access}
+use Rattle.wasm_below.specs.Number.{EncodesUnsigned}
+use Rattle.wasm_below.specs.Refusal.{IsReadFault}
+use Rattle.wasm_below.specs.Source.{Reader, offset_of, IsRefusal, HasRead}
+use Rattle.wasm_below.specs.Sequence.{Then, PrefixCode}
+use Rattle.wasm_below.proofs.PrefixCode.{unsigned_prefix_code}
+use Rattle.wasm_below.proofs.TakesLemmas.{takes_then, takes_none}
+use Rattle.wasm_below.proofs.Sequences.{then_first, then_second, then_prefix_code, refuses_by}
+use Rattle.wasm_below.proofs.Steps.{number_prefix_code, unsigned_some, first_rules_out}
 use Rattle.wasm_imm.specs.declared.memory_argument.MemArg.{MemArg}
 use Rattle.wasm_imm.specs.declared.memory_argument.MemArgTarget.{MemArgTarget}
 use Rattle.wasm_imm.specs.declared.memory_argument.MemArgTarget.TheVariants as target

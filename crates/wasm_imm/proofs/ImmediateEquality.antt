@@ -4,9 +4,9 @@ use Rattle.std.specs.Cmp.Lexicographic.{pointwise}
 use Rattle.std.specs.Prelude.{nat_eq}
 use Rattle.std.specs.contracts.prelude.OptionPartialEq.TheImpl as option_eq
 use Rattle.std.proofs.lemmas.Bool.Decides.{Decides-eqb, Decides-and, Decides-like}
-use Rattle.wasm_imm_control.specs.below.Equality.{IsExact}
-use Rattle.wasm_imm_control.proofs.of_below.EnumEquality.{enum_exact, bare_exact, ◌▸◌, one}
-use Rattle.wasm_imm_control.proofs.ControlEquality.{list_exact}
+use Rattle.wasm_below.specs.Equality.{IsExact}
+use Rattle.wasm_below.proofs.EnumEquality.{enum_exact, bare_exact, ◌▸◌, one}
+use Rattle.wasm_imm.proofs.ControlEquality.{list_exact}
 use Rattle.wasm_imm.specs.declared.constants.V128.{V128}
 use Rattle.wasm_imm.specs.declared.memory_argument.MemArg.{MemArg}
 use Rattle.wasm_imm.specs.declared.memory_argument.MemArgOrdering.{MemArgOrdering}

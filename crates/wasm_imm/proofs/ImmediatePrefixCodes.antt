@@ -1,19 +1,17 @@
 use Rattle.std.proofs.Common.{◌≡◌, ℕ, List, [], ◌∷◌, ◌++◌, map, refl, sym, ap, subst, ◌∙◌, append_assoc}
-use Rattle.wasm_imm_control.specs.below.bytes.features.WasmFeatures.{WasmFeatures}
-use Rattle.wasm_imm_control.specs.below.Features.{multi_memory, call_indirect_overlong}
-use Rattle.wasm_imm_control.proofs.of_below.PrefixCode.{unsigned_prefix_code, signed_prefix_code}
-use Rattle.wasm_imm_control.proofs.of_below.TakesLemmas.{same_rest}
-use Rattle.wasm_imm_control.proofs.of_below.TypePrefixCodes.{heap_prefix_code}
-use Rattle.wasm_imm_control.proofs.of_below.PrefixCode.{fixed_prefix_code_32, fixed_prefix_code_64}
+use Rattle.wasm_below.specs.declared.features.WasmFeatures.{WasmFeatures}
+use Rattle.wasm_below.specs.Features.{multi_memory, call_indirect_overlong}
+use Rattle.wasm_below.proofs.PrefixCode.{unsigned_prefix_code, signed_prefix_code, fixed_prefix_code_32, fixed_prefix_code_64, byte_prefix_code}
+use Rattle.wasm_below.proofs.TakesLemmas.{same_rest}
+use Rattle.wasm_below.proofs.TypePrefixCodes.{heap_prefix_code}
 use Rattle.wasm_imm.specs.MemoryArgument.{EncodesMemArg}
-use Rattle.wasm_imm_control.proofs.BlockTypes.{block_prefix_code}
-use Rattle.wasm_imm_control.proofs.Casts.{cast_prefix_code}
+use Rattle.wasm_imm.proofs.BlockTypes.{block_prefix_code}
+use Rattle.wasm_imm.proofs.Casts.{cast_prefix_code}
 use Rattle.wasm_imm.proofs.FlagsNumber.{memarg_prefix_code}
-use Rattle.wasm_imm_control.proofs.HandlerTables.{select_prefix_code, try_prefix_code, resume_prefix_code}
-use Rattle.wasm_imm_control.proofs.of_below.PrefixCode.{byte_prefix_code}
+use Rattle.wasm_imm.proofs.HandlerTables.{select_prefix_code, try_prefix_code, resume_prefix_code}
 use Rattle.wasm_imm.proofs.ShortPrefixCodes.{index_prefix_code, ordering_byte_prefix_code, fence_prefix_code}
 use Rattle.wasm_imm.proofs.VectorPrefixCodes.{sixteen_prefix_code, vector_prefix_code}
-use Rattle.wasm_imm_control.proofs.BranchTables.{table_prefix_code}
+use Rattle.wasm_imm.proofs.BranchTables.{table_prefix_code}
 use Rattle.wasm_imm.specs.Immediate.{Immediate, unsigned_32, signed_32, signed_64, float_32, float_64, vector, one_lane, sixteen_lanes, memory_argument, memory_index, table_index_32, order, fence_order, heap_type, cast, block_type, branch_table, select_types, try_clauses, resume_clauses, kind_of, EncodesImmediate, EncodesImmediates}
 
 pub immediate_prefix_code : (f : WasmFeatures) (i j : Immediate) (a b x y : List ℕ) → kind_of i ≡ kind_of j → EncodesImmediate f a i → EncodesImmediate f b j →

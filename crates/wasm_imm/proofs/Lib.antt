@@ -1,11 +1,3 @@
-pub use Rattle.wasm_imm_control.proofs.BlockTypes
-pub use Rattle.wasm_imm_control.proofs.ControlEquality
-pub use Rattle.wasm_imm_control.proofs.Faults
-pub use Rattle.wasm_imm_control.proofs.ListLemmas
-pub use Rattle.wasm_imm_control.proofs.ListRefusals
-pub use Rattle.wasm_imm_control.proofs.BranchTables
-pub use Rattle.wasm_imm_control.proofs.Returned
-pub use Rattle.wasm_imm_control.proofs.DeterminedRefusals as DeterminedControlRefusals
 pub mod DeterminedMemoryArgumentRefusals
 pub mod DeterminedRefusals
 pub mod FlagsNumber
@@ -17,4 +9,15 @@ pub mod ConstantDeterminedRefusals
 pub mod Sixteen
 pub mod Values
 pub mod VectorPrefixCodes
-pub use Rattle.wasm_imm_control.proofs.of_below as of_below
+pub mod BlockTypes
+pub mod BranchTables
+pub mod Casts
+pub mod ControlEquality
+pub mod DeterminedControlRefusals
+pub mod Faults
+pub mod HandlerTables
+pub mod HandlerLemmas
+pub mod ListRefusals
+pub mod Returned
+pub mod PassedTargets
+pub mod ListLemmas

@@ -1,11 +1,11 @@
 use Rattle.std.proofs.Common.{◌≡◌, ℕ, ◌<◌, inl, inr, Option, None, subst, arith}
-use Rattle.wasm_imm_control.specs.below.bytes.features.WasmFeatures.{WasmFeatures}
-use Rattle.wasm_imm_control.specs.below.bytes.error.Error.{Error}
-use Rattle.wasm_imm_control.specs.below.bytes.message.Message.{Message}
-use Rattle.wasm_imm_control.specs.below.bytes.message.Message.TheVariants as message
-use Rattle.wasm_imm_control.specs.below.Number.{EncodesUnsigned}
-use Rattle.wasm_imm_control.specs.below.Source.{Reader, offset_of, IsRefusal, HasRead}
-use Rattle.wasm_imm_control.proofs.of_below.Blocks.{refused_now}
+use Rattle.wasm_below.specs.declared.features.WasmFeatures.{WasmFeatures}
+use Rattle.wasm_below.specs.declared.error.Error.{Error}
+use Rattle.wasm_below.specs.declared.message.Message.{Message}
+use Rattle.wasm_below.specs.declared.message.Message.TheVariants as message
+use Rattle.wasm_below.specs.Number.{EncodesUnsigned}
+use Rattle.wasm_below.specs.Source.{Reader, offset_of, IsRefusal, HasRead}
+use Rattle.wasm_below.proofs.Blocks.{refused_now}
 use Rattle.wasm_imm.specs.declared.memory_argument.MemArgTarget.{MemArgTarget}
 use Rattle.wasm_imm.specs.declared.memory_argument.MemArgTarget.TheVariants as target
 use Rattle.wasm_imm.specs.declared.memory_argument.MemArgOrdering.{MemArgOrdering}

@@ -1,12 +1,11 @@
 use Rattle.std.proofs.Common.{inl, inr, [], ◌∷◌, refl, sym, ap, ◌∙◌}
-use Rattle.wasm_imm_control.specs.below.bytes.features.WasmFeatures.{WasmFeatures}
-use Rattle.wasm_imm_control.specs.below.Sequence.{PrefixCode}
-use Rattle.wasm_imm_control.proofs.of_below.PrefixCode.{unsigned_prefix_code}
+use Rattle.wasm_below.specs.declared.features.WasmFeatures.{WasmFeatures}
+use Rattle.wasm_below.specs.Sequence.{PrefixCode}
+use Rattle.wasm_below.proofs.PrefixCode.{unsigned_prefix_code, first_byte}
 use Rattle.wasm_imm.specs.MemoryArgument.{ordering_byte}
 use Rattle.wasm_imm.specs.Indices.{EncodesIndex}
 use Rattle.wasm_imm.specs.Orderings.{EncodesOrderingByte, EncodesFence}
 use Rattle.wasm_imm.proofs.FlagsNumber.{lone_byte_injective}
-use Rattle.wasm_imm_control.proofs.of_below.PrefixCode.{first_byte}
 
 pub index_prefix_code : (feature f : WasmFeatures) → PrefixCode (EncodesIndex feature f)
 index_prefix_code feature f a b x y m n (inl p) (inl q) e = unsigned_prefix_code a b 32 x y m n p.1 q.1 e

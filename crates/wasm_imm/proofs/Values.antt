@@ -1,22 +1,22 @@
 -- The value of a list's first immediate if it has this kind, otherwise some value.
 use Rattle.std.proofs.Common.{ℕ, ℤ, pos, false, List, [], ◌∷◌, None}
-use Rattle.wasm_imm_control.specs.below.Reference.{Reference}
-use Rattle.wasm_imm_control.specs.below.declared.types.HeapType.{HeapType}
-use Rattle.wasm_imm_control.specs.below.declared.types.HeapType.TheVariants as heap
-use Rattle.wasm_imm_control.specs.below.declared.types.ValType.{ValType}
-use Rattle.wasm_imm_control.specs.below.declared.types.ValType.TheVariants.{I32}
-use Rattle.wasm_imm_control.specs.declared.block_type.BlockType.{BlockType}
-use Rattle.wasm_imm_control.specs.declared.block_type.BlockType.TheVariants as block
+use Rattle.wasm_below.specs.Reference.{Reference}
+use Rattle.wasm_below.specs.declared.types.HeapType.{HeapType}
+use Rattle.wasm_below.specs.declared.types.HeapType.TheVariants as heap
+use Rattle.wasm_below.specs.declared.types.ValType.{ValType}
+use Rattle.wasm_below.specs.declared.types.ValType.TheVariants.{I32}
+use Rattle.wasm_imm.specs.declared.block_type.BlockType.{BlockType}
+use Rattle.wasm_imm.specs.declared.block_type.BlockType.TheVariants as block
 use Rattle.wasm_imm.specs.declared.constants.V128.{V128}
-use Rattle.wasm_imm_control.specs.declared.handler_tables.ResumeTable.{ResumeTable}
-use Rattle.wasm_imm_control.specs.declared.handler_tables.TryTable.{TryTable}
+use Rattle.wasm_imm.specs.declared.handler_tables.ResumeTable.{ResumeTable}
+use Rattle.wasm_imm.specs.declared.handler_tables.TryTable.{TryTable}
 use Rattle.wasm_imm.specs.declared.memory_argument.MemArg.{MemArg}
 use Rattle.wasm_imm.specs.declared.memory_argument.MemArgTarget.TheVariants as target
 use Rattle.wasm_imm.specs.declared.ordering.Ordering.{Ordering}
 use Rattle.wasm_imm.specs.declared.ordering.Ordering.TheVariants.{SeqCst}
-use Rattle.wasm_imm_control.specs.declared.select.Select.{Select}
-use Rattle.wasm_imm_control.specs.declared.select.Select.TheVariants as select
-use Rattle.wasm_imm_control.specs.BranchTables.{BranchTable}
+use Rattle.wasm_imm.specs.declared.select.Select.{Select}
+use Rattle.wasm_imm.specs.declared.select.Select.TheVariants as select
+use Rattle.wasm_imm.specs.BranchTables.{BranchTable}
 use Rattle.wasm_imm.specs.Immediate.{Immediate, unsigned_32, signed_32, signed_64, float_32, float_64, vector, one_lane, sixteen_lanes, memory_argument, memory_index, table_index_32, order, fence_order, heap_type, cast, block_type, branch_table, select_types, try_clauses, resume_clauses}
 
 abbrev pub tail_of : List Immediate → List Immediate

@@ -1,6 +1,6 @@
 use Rattle.std.proofs.Common.{◌≡◌, ℕ, List, [], ◌∷◌, ◌++◌, length, refl, sym, ap, ◌∙◌, arith}
 use Rattle.wasm_imm.specs.declared.constants.V128.{V128}
-use Rattle.wasm_imm_control.specs.below.Sequence.{PrefixCode}
+use Rattle.wasm_below.specs.Sequence.{PrefixCode}
 use Rattle.wasm_imm.specs.Vectors.{EncodesSixteen, EncodesVector}
 
 pub same_length : (a b x y : List ℕ) → length a ≡ length b → a ++ x ≡ b ++ y → a ≡ b

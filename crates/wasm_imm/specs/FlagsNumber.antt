@@ -1,7 +1,7 @@
 use Rattle.std.specs.Prelude.{◌≡◌, ℕ, ◌/◌, ◌%◌, ◌≤◌, ◌⊎◌, List, [], ◌∷◌, Option, Some, None}
-use Rattle.wasm_imm_control.specs.below.bytes.features.WasmFeatures.{WasmFeatures}
-use Rattle.wasm_imm_control.specs.below.Features.{HasFeature, multi_memory, acquire_release_atomics, multibyte_array_access}
-use Rattle.wasm_imm_control.specs.below.Number.{EncodesUnsigned}
+use Rattle.wasm_below.specs.declared.features.WasmFeatures.{WasmFeatures}
+use Rattle.wasm_below.specs.Features.{HasFeature, multi_memory, acquire_release_atomics, multibyte_array_access}
+use Rattle.wasm_below.specs.Number.{EncodesUnsigned}
 use Rattle.wasm_imm.specs.declared.memory_argument.MemArgTarget.{MemArgTarget}
 use Rattle.wasm_imm.specs.declared.memory_argument.MemArgTarget.TheVariants as target
 use Rattle.wasm_imm.specs.declared.memory_argument.MemArgOrdering.{MemArgOrdering}

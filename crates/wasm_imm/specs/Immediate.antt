@@ -1,24 +1,24 @@
 -- Specification: Binary Format, Instructions.
 use Rattle.std.specs.Prelude.{◌≡◌, ℕ, ℤ, List, [], ◌∷◌, ◌++◌}
 use Rattle.std.specs.Int.{w32, w64}
-use Rattle.wasm_imm_control.specs.below.bytes.features.WasmFeatures.{WasmFeatures}
-use Rattle.wasm_imm_control.specs.below.declared.types.HeapType.{HeapType}
-use Rattle.wasm_imm_control.specs.below.Number.{EncodesUnsigned, EncodesSigned, EncodesFixed}
-use Rattle.wasm_imm_control.specs.below.Source.{IsByte}
-use Rattle.wasm_imm_control.specs.below.TypeEncoding.{EncodesHeapType}
-use Rattle.wasm_imm_control.specs.declared.block_type.BlockType.{BlockType}
-use Rattle.wasm_imm_control.specs.declared.cast.Cast.{Cast}
+use Rattle.wasm_below.specs.declared.features.WasmFeatures.{WasmFeatures}
+use Rattle.wasm_below.specs.declared.types.HeapType.{HeapType}
+use Rattle.wasm_below.specs.Number.{EncodesUnsigned, EncodesSigned, EncodesFixed}
+use Rattle.wasm_below.specs.Source.{IsByte}
+use Rattle.wasm_below.specs.TypeEncoding.{EncodesHeapType}
+use Rattle.wasm_imm.specs.declared.block_type.BlockType.{BlockType}
+use Rattle.wasm_imm.specs.declared.cast.Cast.{Cast}
 use Rattle.wasm_imm.specs.declared.constants.V128.{V128}
-use Rattle.wasm_imm_control.specs.declared.handler_tables.ResumeTable.{ResumeTable}
-use Rattle.wasm_imm_control.specs.declared.handler_tables.TryTable.{TryTable}
+use Rattle.wasm_imm.specs.declared.handler_tables.ResumeTable.{ResumeTable}
+use Rattle.wasm_imm.specs.declared.handler_tables.TryTable.{TryTable}
 use Rattle.wasm_imm.specs.declared.memory_argument.MemArg.{MemArg}
 use Rattle.wasm_imm.specs.declared.memory_argument.MemArgKind.{MemArgKind}
 use Rattle.wasm_imm.specs.declared.ordering.Ordering.{Ordering}
-use Rattle.wasm_imm_control.specs.declared.select.Select.{Select}
-use Rattle.wasm_imm_control.specs.BlockTypes.{EncodesBlockType}
-use Rattle.wasm_imm_control.specs.BranchTables.{BranchTable, EncodesBranchTable}
-use Rattle.wasm_imm_control.specs.Casts.{EncodesCast}
-use Rattle.wasm_imm_control.specs.HandlerTables.{EncodesSelect, EncodesTryTable, EncodesResumeTable}
+use Rattle.wasm_imm.specs.declared.select.Select.{Select}
+use Rattle.wasm_imm.specs.BlockTypes.{EncodesBlockType}
+use Rattle.wasm_imm.specs.BranchTables.{BranchTable, EncodesBranchTable}
+use Rattle.wasm_imm.specs.Casts.{EncodesCast}
+use Rattle.wasm_imm.specs.HandlerTables.{EncodesSelect, EncodesTryTable, EncodesResumeTable}
 use Rattle.wasm_imm.specs.Indices.{EncodesMemoryIndex, EncodesTableIndex}
 use Rattle.wasm_imm.specs.Orderings.{EncodesOrderingByte, EncodesFence}
 use Rattle.wasm_imm.specs.Vectors.{EncodesSixteen, EncodesVector}

@@ -1,12 +1,12 @@
 -- Specification: Binary Format, Memory and Table Instructions.
 use Rattle.std.specs.Prelude.{◌≡◌, ℕ, ◌⊎◌, List, [], ◌∷◌}
-use Rattle.wasm_imm_control.specs.below.bytes.features.WasmFeatures.{WasmFeatures}
-use Rattle.wasm_imm_control.specs.below.Features.{HasFeature, multi_memory, call_indirect_overlong}
-use Rattle.wasm_imm_control.specs.below.Number.{EncodesUnsigned}
-use Rattle.wasm_imm_control.specs.below.Source.{Reader, offset_of, U32Fault}
-use Rattle.wasm_imm_control.specs.below.bytes.message.Message.{Message}
-use Rattle.wasm_imm_control.specs.below.bytes.message.Message.TheVariants as message
-use Rattle.wasm_imm_control.specs.below.PartFaults.{ZeroFault}
+use Rattle.wasm_below.specs.declared.features.WasmFeatures.{WasmFeatures}
+use Rattle.wasm_below.specs.Features.{HasFeature, multi_memory, call_indirect_overlong}
+use Rattle.wasm_below.specs.Number.{EncodesUnsigned}
+use Rattle.wasm_below.specs.Source.{Reader, offset_of, U32Fault}
+use Rattle.wasm_below.specs.declared.message.Message.{Message}
+use Rattle.wasm_below.specs.declared.message.Message.TheVariants as message
+use Rattle.wasm_below.specs.PartFaults.{ZeroFault}
 
 -- An index: a u32 if `feature` is in `f`, otherwise the byte 0.
 abbrev pub EncodesIndex : WasmFeatures → WasmFeatures → List ℕ → ℕ → Type 0

@@ -1,10 +1,10 @@
 -- Specification: Binary Format, Memory Instructions. Bit 6 belongs to the proposal multi-memory,
 -- bit 5 to multibyte array access, bit 4 to acquire-release atomics.
 use Rattle.std.specs.Prelude.{◌≡◌, ℕ, ◌+◌, ◌≤◌, ◌⊎◌, List, [], ◌∷◌, ◌++◌, Option, Some, None}
-use Rattle.wasm_imm_control.specs.below.bytes.features.WasmFeatures.{WasmFeatures}
-use Rattle.wasm_imm_control.specs.below.Features.{HasFeature, multi_memory, memory64, acquire_release_atomics, multibyte_array_access}
-use Rattle.wasm_imm_control.specs.below.Number.{EncodesUnsigned}
-use Rattle.wasm_imm_control.specs.below.Sequence.{Then}
+use Rattle.wasm_below.specs.declared.features.WasmFeatures.{WasmFeatures}
+use Rattle.wasm_below.specs.Features.{HasFeature, multi_memory, memory64, acquire_release_atomics, multibyte_array_access}
+use Rattle.wasm_below.specs.Number.{EncodesUnsigned}
+use Rattle.wasm_below.specs.Sequence.{Then}
 use Rattle.wasm_imm.specs.declared.memory_argument.MemArg.{MemArg}
 use Rattle.wasm_imm.specs.declared.memory_argument.MemArgTarget.{MemArgTarget}
 use Rattle.wasm_imm.specs.declared.memory_argument.MemArgTarget.TheVariants as target

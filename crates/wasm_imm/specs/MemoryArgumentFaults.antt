@@ -1,17 +1,17 @@
 -- The first failed check gives the error. Specification: Binary Format, Memory Instructions.
 use Rattle.std.specs.Prelude.{◌≡◌, ℕ, ◌⊎◌, true}
-use Rattle.wasm_imm_control.specs.below.bytes.features.WasmFeatures.{WasmFeatures}
-use Rattle.wasm_imm_control.specs.below.bytes.message.Message.{Message}
-use Rattle.wasm_imm_control.specs.below.bytes.message.Message.TheVariants as message
-use Rattle.wasm_imm_control.specs.below.Fault.{ThenFault}
-use Rattle.wasm_imm_control.specs.below.Features.{HasFeature, multi_memory, memory64, acquire_release_atomics, multibyte_array_access}
-use Rattle.wasm_imm_control.specs.below.Number.{EncodesUnsigned}
-use Rattle.wasm_imm_control.specs.below.Source.{Reader, offset_of, U32Fault, U64Fault}
+use Rattle.wasm_below.specs.declared.features.WasmFeatures.{WasmFeatures}
+use Rattle.wasm_below.specs.declared.message.Message.{Message}
+use Rattle.wasm_below.specs.declared.message.Message.TheVariants as message
+use Rattle.wasm_below.specs.Fault.{ThenFault}
+use Rattle.wasm_below.specs.Features.{HasFeature, multi_memory, memory64, acquire_release_atomics, multibyte_array_access}
+use Rattle.wasm_below.specs.Number.{EncodesUnsigned}
+use Rattle.wasm_below.specs.Source.{Reader, offset_of, U32Fault, U64Fault}
 use Rattle.wasm_imm.specs.declared.memory_argument.MemArgOrdering.{MemArgOrdering}
 use Rattle.wasm_imm.specs.declared.memory_argument.MemArgKind.{MemArgKind}
 use Rattle.wasm_imm.specs.MemoryArgument.{IsOrderingByte}
 use Rattle.wasm_imm.specs.FlagsNumber.{Announces, NamesBoth, OrdersPlain, IsReserved, IsTarget, IsOrdering}
-use Rattle.wasm_imm_control.specs.below.PartFaults.{CheckedByteFault}
+use Rattle.wasm_below.specs.PartFaults.{CheckedByteFault}
 
 -- `refusal` at `place` if `IsWrong` holds, otherwise an error of what is read later.
 abbrev pub CheckFault : Type 0 → Message → ℕ → (Message → Reader → ℕ → Type 0) → Message → Reader → ℕ → Type 0

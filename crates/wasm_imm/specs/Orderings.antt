@@ -1,15 +1,14 @@
 -- Proposals threads, shared-everything threads and acquire-release atomics.
 use Rattle.std.specs.Prelude.{◌≡◌, ℕ, ◌⊎◌, List, [], ◌∷◌, ◌≢◌, false}
-use Rattle.wasm_imm_control.specs.below.bytes.features.WasmFeatures.{WasmFeatures}
-use Rattle.wasm_imm_control.specs.below.Features.{HasFeature, acquire_release_atomics}
-use Rattle.wasm_imm_control.specs.below.Source.{Reader, offset_of}
+use Rattle.wasm_below.specs.declared.features.WasmFeatures.{WasmFeatures}
+use Rattle.wasm_below.specs.Features.{HasFeature, acquire_release_atomics}
+use Rattle.wasm_below.specs.Source.{Reader, offset_of}
 use Rattle.wasm_imm.specs.declared.ordering.Ordering.{Ordering}
 use Rattle.wasm_imm.specs.declared.ordering.Ordering.TheVariants.{SeqCst}
 use Rattle.wasm_imm.specs.MemoryArgument.{ordering_byte}
-use Rattle.wasm_imm_control.specs.below.bytes.message.Message.{Message}
-use Rattle.wasm_imm_control.specs.below.bytes.message.Message.TheVariants as message
-use Rattle.wasm_imm_control.specs.below.PartFaults.{CheckedByteFault}
-use Rattle.wasm_imm_control.specs.below.PartFaults.{ZeroFault}
+use Rattle.wasm_below.specs.declared.message.Message.{Message}
+use Rattle.wasm_below.specs.declared.message.Message.TheVariants as message
+use Rattle.wasm_below.specs.PartFaults.{CheckedByteFault, ZeroFault}
 
 -- The byte of an ordering. Proposal shared-everything threads.
 abbrev pub EncodesOrderingByte : List ℕ → Ordering → Type 0

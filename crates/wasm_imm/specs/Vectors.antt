@@ -1,9 +1,9 @@
 -- Specification: Binary Format, Vector Instructions.
 use Rattle.std.specs.Prelude.{◌≡◌, ℕ, List, length, ◌+◌, ◌<◌}
-use Rattle.wasm_imm_control.specs.below.Source.{Reader, end_of, offset_of}
+use Rattle.wasm_below.specs.Source.{Reader, end_of, offset_of}
 use Rattle.wasm_imm.specs.declared.constants.V128.{V128}
-use Rattle.wasm_imm_control.specs.below.bytes.message.Message.{Message}
-use Rattle.wasm_imm_control.specs.below.bytes.message.Message.TheVariants as message
+use Rattle.wasm_below.specs.declared.message.Message.{Message}
+use Rattle.wasm_below.specs.declared.message.Message.TheVariants as message
 
 -- The sixteen lanes of a shuffle, in order.
 abbrev pub EncodesSixteen : List ℕ → List ℕ → Type 0

@@ -1,11 +1,11 @@
 ghost use Rattle.std.specs.Prelude.{◌≡◌, ℕ};
-ghost use Rattle.wasm_imm_control.specs.below.Source.{Reads, EndsWithin};
+ghost use Rattle.wasm_below.specs.Source.{Reads, EndsWithin};
 ghost use Rattle.wasm_imm.specs.Vectors.{EncodesVector};
 ghost use Rattle.std.specs.Int.{w128, to_le_bytes, from_le_bytes, cast_signed, cast_unsigned};
 
 use crate::lanes::read_sixteen;
 use std::marker::Model;
-use wasm_imm_control::below::{BinaryReader, Result};
+use wasm_below::{BinaryReader, Result};
 
 /// The bits of an IEEE 754 binary32 number. Every pattern is allowed.
 #[derive(Clone, Copy, Debug, PartialEq, Eq, Hash)]

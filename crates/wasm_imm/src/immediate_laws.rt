@@ -1,9 +1,9 @@
 ghost use Rattle.std.specs.Prelude.{◌≡◌, ℕ, List, ◌++◌, map};
-ghost use Rattle.wasm_imm_control.specs.below.Equality.{IsExact};
+ghost use Rattle.wasm_below.specs.Equality.{IsExact};
 ghost use Rattle.wasm_imm.specs.Immediate.{Immediate, kind_of, EncodesImmediates};
 
 use crate::{MemArg, Ordering, V128};
-use wasm_imm_control::below::WasmFeatures;
+use wasm_below::WasmFeatures;
 
 /// States that for each list of kinds, the encodings of immediates of these kinds are a prefix
 /// code.

@@ -1,8 +1,7 @@
-ghost use Rattle.wasm_imm_control.specs.below.Source.{Reads};
-ghost use Rattle.wasm_imm.specs.Indices.{EncodesIndex, EncodesMemoryIndex, EncodesTableIndex};
-ghost use Rattle.wasm_imm.specs.Indices.{IndexFault, MemoryIndexFault, TableIndexFault};
+ghost use Rattle.wasm_below.specs.Source.{Reads};
+ghost use Rattle.wasm_imm.specs.Indices.{EncodesIndex, EncodesMemoryIndex, EncodesTableIndex, IndexFault, MemoryIndexFault, TableIndexFault};
 
-use wasm_imm_control::below::{BinaryReader, Message, Result, WasmFeatures};
+use wasm_below::{BinaryReader, Message, Result, WasmFeatures};
 
 /// Reads the memory index of `memory.size` or `memory.grow`. Specification: Memory Instructions.
 ///

@@ -1,8 +1,7 @@
-ghost use Rattle.wasm_imm_control.specs.below.Source.{Reads, IsByte, EndFault, EndsWithin};
-ghost use Rattle.wasm_imm.specs.Vectors.{EncodesSixteen};
-ghost use Rattle.wasm_imm.specs.Vectors.{LanesFault};
+ghost use Rattle.wasm_below.specs.Source.{Reads, IsByte, EndFault, EndsWithin};
+ghost use Rattle.wasm_imm.specs.Vectors.{EncodesSixteen, LanesFault};
 
-use wasm_imm_control::below::{BinaryReader, Error, Message, Result};
+use wasm_below::{BinaryReader, Error, Message, Result};
 
 /// Reads the number of a lane, of any value. Specification: Vector Instructions. Fails with
 /// `EndOfData`.

@@ -1,14 +1,14 @@
 ghost use Rattle.std.specs.Prelude.{◌≡◌, ◌/◌, ◌%◌, ◌<◌, ◌≤◌, ◌↔◌, IsTrue, IfSome, IfNone, IfErr};
-ghost use Rattle.wasm_imm_control.specs.below.Ahead.{ReadsAhead};
-ghost use Rattle.wasm_imm_control.specs.below.Source.{HasRead, Reads, at_position, offset_of};
-ghost use Rattle.wasm_imm_control.specs.below.Number.{EncodesUnsigned};
+ghost use Rattle.wasm_below.specs.Ahead.{ReadsAhead};
+ghost use Rattle.wasm_below.specs.Source.{HasRead, Reads, at_position, offset_of};
+ghost use Rattle.wasm_below.specs.Number.{EncodesUnsigned};
 ghost use Rattle.wasm_imm.specs.MemoryArgument.{EncodesMemArg, EncodesOffset, IsOrderingByte};
 ghost use Rattle.wasm_imm.specs.FlagsNumber.{Announces, NamesBoth, OrdersPlain, IsReserved, IsTarget, IsOrdering};
 ghost use Rattle.wasm_imm.specs.MemoryArgumentFaults.{TargetFault, OrderingFault, OffsetFault, FlagsFault, MemArgFault};
 
 use crate::ordering::Ordering;
 use std::fmt::{self, Debug, Formatter};
-use wasm_imm_control::below::{BinaryReader, Error, Message, Result, WasmFeatures};
+use wasm_below::{BinaryReader, Error, Message, Result, WasmFeatures};
 
 /// The memory argument of a load, a store or an atomic access. Specification: Memory Instructions.
 ///

@@ -1,13 +1,13 @@
 ghost use Rattle.std.specs.Prelude.{ℕ};
-ghost use Rattle.wasm_imm_control.specs.below.bytes.features.WasmFeatures.{WasmFeatures};
-ghost use Rattle.wasm_imm_control.specs.below.Fault.{DeterminesRefusal};
-ghost use Rattle.wasm_imm_control.specs.below.Sequence.{PrefixCode};
+ghost use Rattle.wasm_below.specs.declared.features.WasmFeatures.{WasmFeatures};
+ghost use Rattle.wasm_below.specs.Fault.{DeterminesRefusal};
+ghost use Rattle.wasm_below.specs.Sequence.{PrefixCode};
 ghost use Rattle.wasm_imm.specs.Orderings.{EncodesOrderingByte, EncodesFence, OrderingByteFault, FenceFault};
 ghost use Rattle.wasm_imm.specs.MemoryArgumentFaults.{MemArgFault};
 ghost use Rattle.wasm_imm.specs.MemoryArgument.{EncodesMemArg};
 
 use crate::memory_argument::MemArgKind;
-use wasm_imm_control::below::WasmFeatures;
+use wasm_below::WasmFeatures;
 
 pub fn memory_arguments(features: WasmFeatures, kind: MemArgKind, max_align: u8)
     ensures { PrefixCode (EncodesMemArg features kind max_align) }

@@ -1,10 +1,8 @@
 ghost use Rattle.std.specs.Prelude.{◌≤◌, IfErr};
-ghost use Rattle.wasm_imm_control.specs.below.Source.{Reads, offset_of};
-ghost use Rattle.wasm_imm.specs.Orderings.{EncodesOrderingByte, EncodesFence};
-ghost use Rattle.wasm_imm_control.specs.below.Source.{ReadsFrom};
-ghost use Rattle.wasm_imm.specs.Orderings.{OrderingByteFault, FenceFault};
+ghost use Rattle.wasm_below.specs.Source.{Reads, offset_of, ReadsFrom};
+ghost use Rattle.wasm_imm.specs.Orderings.{EncodesOrderingByte, EncodesFence, OrderingByteFault, FenceFault};
 
-use wasm_imm_control::below::{BinaryReader, Error, Message, Result, WasmFeatures};
+use wasm_below::{BinaryReader, Error, Message, Result, WasmFeatures};
 
 /// The order in which threads see an atomic operation.
 #[derive(Clone, Copy, Debug, PartialEq, Eq, Hash)]

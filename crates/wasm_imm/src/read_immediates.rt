@@ -1,9 +1,9 @@
 ghost use Rattle.std.specs.Int.{w32, w64};
-ghost use Rattle.wasm_imm_control.specs.below.Source.{Reader, Reads, EndsWithin};
-ghost use Rattle.wasm_imm_control.specs.below.Number.{EncodesFixed};
+ghost use Rattle.wasm_below.specs.Source.{Reader, Reads, EndsWithin};
+ghost use Rattle.wasm_below.specs.Number.{EncodesFixed};
 
 use crate::constants::{Ieee32, Ieee64};
-use wasm_imm_control::below::{BinaryReader, Result};
+use wasm_below::{BinaryReader, Result};
 
 pub trait ReadImmediates {
     // The state of the reader of bytes.

@@ -1,12 +1,12 @@
 -- Written by tools/lists.py from tools/operators.tsv.
 -- The operators with a one-byte opcode by opcode, except the numeric ones.
 use Rattle.std.proofs.Common.{ℕ, List, [], ◌∷◌, get_or}
-use Rattle.wasm_instr_ops.specs.imm.control.select.Select.{Select}
-use Rattle.wasm_instr_ops.specs.imm.control.select.Select.TheVariants as select
+use Rattle.wasm_imm.specs.declared.select.Select.{Select}
+use Rattle.wasm_imm.specs.declared.select.Select.TheVariants as select
 use Rattle.wasm_instr.specs.declared.operator.Operator.{Operator}
 use Rattle.wasm_instr.specs.declared.operator.Operator.TheVariants as operator
-use Rattle.wasm_instr_ops.specs.imm.Immediate.{Immediate}
-use Rattle.wasm_instr_ops.proofs.of_imm.Values.{tail_of, number_in, integer_in, argument_in, heap_type_in, block_type_in, branch_table_in, select_in, try_table_in, resume_table_in}
+use Rattle.wasm_imm.specs.Immediate.{Immediate}
+use Rattle.wasm_imm.proofs.Values.{tail_of, number_in, integer_in, argument_in, heap_type_in, block_type_in, branch_table_in, select_in, try_table_in, resume_table_in}
 
 abbrev select_at : Select → Operator
 select_at (select.One ty) = operator.TypedSelect ty

@@ -1,7 +1,7 @@
 -- The first byte of an operator, and what the operator does to the frames.
 use Rattle.std.proofs.Common.{◌≡◌, ℕ, List, [], ◌∷◌, ◌++◌, Option, Some, None, refl, sym, ap, ◌∙◌}
-use Rattle.wasm_instr_ops.specs.below.bytes.features.WasmFeatures.{WasmFeatures}
-use Rattle.wasm_instr_ops.specs.below.Source.{BeginsWith}
+use Rattle.wasm_below.specs.declared.features.WasmFeatures.{WasmFeatures}
+use Rattle.wasm_below.specs.Source.{BeginsWith}
 use Rattle.wasm_instr_ops.specs.Numeric.{numeric_opcode}
 use Rattle.wasm_instr_ops.specs.declared.numeric.NumericOperator.{NumericOperator}
 use Rattle.wasm_instr_ops.specs.declared.numeric.NumericOperator.TheVariants as numeric

@@ -1,11 +1,11 @@
 -- Written by tools/lists.py from tools/operators.tsv.
 use denote.Signature.{static_lft}
-use Rattle.wasm_instr_ops.specs.below.Equality.{IsExact}
+use Rattle.wasm_below.specs.Equality.{IsExact}
 use Rattle.std.proofs.lemmas.Bool.Decides.{Decides-eqb, Decides-int_eq}
-use Rattle.wasm_instr_ops.proofs.of_below.TypeEquality.{heap_exact, value_exact}
-use Rattle.wasm_instr_ops.proofs.of_imm.ControlEquality.{block_exact, table_exact, types_exact, try_exact, resume_exact}
-use Rattle.wasm_instr_ops.proofs.of_imm.ImmediateEquality.{argument_exact}
-use Rattle.wasm_instr_ops.proofs.of_below.EnumEquality.{enum_exact, ◌▸◌, none, one, two, three}
+use Rattle.wasm_below.proofs.TypeEquality.{heap_exact, value_exact}
+use Rattle.wasm_imm.proofs.ControlEquality.{block_exact, table_exact, types_exact, try_exact, resume_exact}
+use Rattle.wasm_imm.proofs.ImmediateEquality.{argument_exact}
+use Rattle.wasm_below.proofs.EnumEquality.{enum_exact, ◌▸◌, none, one, two, three}
 use Rattle.wasm_instr_ops.proofs.NumericEquality.{numeric_exact}
 use Rattle.wasm_instr_ops.proofs.GcEquality.{gc_exact}
 use Rattle.wasm_instr_ops.proofs.MiscEquality.{misc_exact}

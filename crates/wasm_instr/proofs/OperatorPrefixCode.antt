@@ -1,9 +1,9 @@
 use Rattle.std.proofs.Common.{◌≡◌, ℕ, true, false, cond, eqb, ltb, List, [], ◌∷◌, ◌++◌, Option, Some, None, map, refl, sym, ap, ◌∙◌, append_assoc}
-use Rattle.wasm_instr_ops.specs.below.bytes.features.WasmFeatures.{WasmFeatures}
-use Rattle.wasm_instr_ops.proofs.of_below.PrefixCode.{unsigned_prefix_code}
-use Rattle.wasm_instr_ops.proofs.of_below.TakesLemmas.{same_rest}
-use Rattle.wasm_instr_ops.specs.imm.Immediate.{Immediate, Kind, kind_of}
-use Rattle.wasm_instr_ops.proofs.of_imm.ImmediatePrefixCodes.{immediates_prefix_code}
+use Rattle.wasm_below.specs.declared.features.WasmFeatures.{WasmFeatures}
+use Rattle.wasm_below.proofs.PrefixCode.{unsigned_prefix_code}
+use Rattle.wasm_below.proofs.TakesLemmas.{same_rest}
+use Rattle.wasm_imm.specs.Immediate.{Immediate, Kind, kind_of}
+use Rattle.wasm_imm.proofs.ImmediatePrefixCodes.{immediates_prefix_code}
 use Rattle.wasm_instr_ops.specs.Numeric.{numeric_opcode, numeric_immediates}
 use Rattle.wasm_instr_ops.proofs.NumericByOpcode.{numeric_at, numeric_by_opcode, numeric_kinds, numeric_range, numeric_short, is_numeric}
 use Rattle.wasm_instr_ops.proofs.GcByOpcode.{gc_at, gc_by_opcode, gc_kinds}

@@ -5,8 +5,8 @@ use Rattle.std.specs.Prelude.{ℕ, ◌+◌, ◌-◌, ◌*◌, ◌^◌, ◌==◌,
 use Rattle.std.specs.Option.{option_map, option_and_then}
 use Rattle.wasm_grammar.specs.declared.frame_kind.FrameKind.{FrameKind}
 use Rattle.wasm_grammar.specs.declared.frame_kind.FrameKind.TheVariants as frame
-use Rattle.wasm_instr_ops.specs.imm.control.block_type.BlockType.{BlockType}
-use Rattle.wasm_instr_ops.specs.imm.control.block_type.BlockType.TheVariants as block
+use Rattle.wasm_imm.specs.declared.block_type.BlockType.{BlockType}
+use Rattle.wasm_imm.specs.declared.block_type.BlockType.TheVariants as block
 use Rattle.wasm_instr_ops.specs.declared.gc.GcOperator.{GcOperator}
 use Rattle.wasm_instr_ops.specs.declared.gc.GcOperator.TheVariants as gc
 use Rattle.wasm_instr.specs.declared.operator.Operator.{Operator}

@@ -1,12 +1,12 @@
 -- Specification: Binary Format, Instructions; proposal legacy exception handling.
 use Rattle.std.specs.Prelude.{◌≡◌, ℕ, List, [], ◌∷◌, ◌++◌, Option, Some, None}
-use Rattle.wasm_instr_ops.specs.below.bytes.features.WasmFeatures.{WasmFeatures}
-use Rattle.wasm_instr_ops.specs.below.Features.{HasFeature, legacy_exceptions}
-use Rattle.wasm_instr_ops.specs.below.Number.{EncodesUnsigned}
+use Rattle.wasm_below.specs.declared.features.WasmFeatures.{WasmFeatures}
+use Rattle.wasm_below.specs.Features.{HasFeature, legacy_exceptions}
+use Rattle.wasm_below.specs.Number.{EncodesUnsigned}
 use Rattle.wasm_instr.specs.declared.operator.Operator.{Operator}
 use Rattle.wasm_instr.specs.declared.operator.Operator.TheVariants as operator
 use Rattle.wasm_instr.specs.Row.{prefix_of, opcode_of, immediates_of}
-use Rattle.wasm_instr_ops.specs.imm.Immediate.{EncodesImmediates}
+use Rattle.wasm_imm.specs.Immediate.{EncodesImmediates}
 
 -- The opcode, or the prefix byte and the subopcode (u32).
 abbrev pub EncodesOpcode : Option ℕ → List ℕ → ℕ → Type 0

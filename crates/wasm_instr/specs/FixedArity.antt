@@ -1,9 +1,9 @@
 -- Written by tools/lists.py from tools/operators.tsv.
 -- Specification: Appendix, Index of Instructions. An access to an array also takes the array: proposal multibyte array access.
 use Rattle.std.specs.Prelude.{ℕ, ◌+◌, Option, Some, None}
-use Rattle.wasm_instr_ops.specs.imm.declared.memory_argument.MemArg.{MemArg}
-use Rattle.wasm_instr_ops.specs.imm.declared.memory_argument.MemArgTarget.{MemArgTarget}
-use Rattle.wasm_instr_ops.specs.imm.declared.memory_argument.MemArgTarget.TheVariants as target
+use Rattle.wasm_imm.specs.declared.memory_argument.MemArg.{MemArg}
+use Rattle.wasm_imm.specs.declared.memory_argument.MemArgTarget.{MemArgTarget}
+use Rattle.wasm_imm.specs.declared.memory_argument.MemArgTarget.TheVariants as target
 use Rattle.wasm_instr_ops.specs.declared.numeric.NumericOperator.{NumericOperator}
 use Rattle.wasm_instr_ops.specs.declared.numeric.NumericOperator.TheVariants as numeric
 use Rattle.wasm_instr_ops.specs.declared.gc.GcOperator.{GcOperator}

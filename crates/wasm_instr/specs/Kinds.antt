@@ -1,5 +1,5 @@
 use Rattle.std.specs.Prelude.{◌≡◌, ◌⊎◌}
-use Rattle.wasm_instr_ops.specs.imm.declared.proposal.Proposal.TheVariants as proposal
+use Rattle.wasm_imm.specs.declared.proposal.Proposal.TheVariants as proposal
 use Rattle.wasm_instr.specs.declared.operator.Operator.{Operator}
 use Rattle.wasm_instr.specs.declared.operator.Operator.TheVariants as operator
 use Rattle.wasm_instr.specs.Row.{proposal_of}

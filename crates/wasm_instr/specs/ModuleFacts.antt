@@ -1,6 +1,6 @@
 use Rattle.std.specs.Prelude.{ℕ, Option}
 use Rattle.wasm_grammar.specs.declared.frame_kind.FrameKind.{FrameKind}
-use Rattle.wasm_instr_ops.specs.imm.control.block_type.BlockType.{BlockType}
+use Rattle.wasm_imm.specs.declared.block_type.BlockType.{BlockType}
 
 -- The results of the methods of `ModuleArity`.
 pub record ModuleFacts : Type 0 where

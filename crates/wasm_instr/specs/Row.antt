@@ -2,10 +2,10 @@
 -- The table of all operators: a function for each column.
 -- Specification: Binary Format, Instructions; Appendix, Index of Instructions.
 use Rattle.std.specs.Prelude.{ℕ, List, [], ◌∷◌, Option, Some, None, codes}
-use Rattle.wasm_instr_ops.specs.imm.declared.memory_argument.MemArgKind.TheVariants as kind
-use Rattle.wasm_instr_ops.specs.imm.control.select.Select.TheVariants as select
-use Rattle.wasm_instr_ops.specs.imm.declared.proposal.Proposal.{Proposal}
-use Rattle.wasm_instr_ops.specs.imm.declared.proposal.Proposal.TheVariants as proposal
+use Rattle.wasm_imm.specs.declared.memory_argument.MemArgKind.TheVariants as kind
+use Rattle.wasm_imm.specs.declared.select.Select.TheVariants as select
+use Rattle.wasm_imm.specs.declared.proposal.Proposal.{Proposal}
+use Rattle.wasm_imm.specs.declared.proposal.Proposal.TheVariants as proposal
 use Rattle.wasm_instr.specs.declared.operator.Operator.{Operator}
 use Rattle.wasm_instr.specs.declared.operator.Operator.TheVariants as operator
 use Rattle.wasm_instr_ops.specs.Numeric.{numeric_proposal, numeric_name, numeric_opcode, numeric_immediates}
@@ -13,7 +13,7 @@ use Rattle.wasm_instr_ops.specs.Gc.{gc_proposal, gc_name, gc_subopcode, gc_immed
 use Rattle.wasm_instr_ops.specs.Misc.{misc_proposal, misc_name, misc_subopcode, misc_immediates}
 use Rattle.wasm_instr_simd.specs.Simd.{simd_proposal, simd_name, simd_subopcode, simd_immediates}
 use Rattle.wasm_instr_ops.specs.Atomic.{atomic_proposal, atomic_name, atomic_subopcode, atomic_immediates}
-use Rattle.wasm_instr_ops.specs.imm.Immediate.{Immediate, unsigned_32, signed_32, signed_64, float_32, float_64, memory_argument, memory_index, table_index_32, heap_type, block_type, branch_table, select_types, try_clauses, resume_clauses}
+use Rattle.wasm_imm.specs.Immediate.{Immediate, unsigned_32, signed_32, signed_64, float_32, float_64, memory_argument, memory_index, table_index_32, heap_type, block_type, branch_table, select_types, try_clauses, resume_clauses}
 
 -- The operator's proposal.
 abbrev pub proposal_of : Operator → Proposal

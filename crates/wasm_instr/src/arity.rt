@@ -5,8 +5,8 @@ ghost use Rattle.wasm_instr.specs.Arity.{arity_of, sum_within, taking_more, arit
 use crate::fixed_arity::gc_fixed_arity;
 use crate::operator::Operator;
 use wasm_grammar::FrameKind;
+use wasm_imm::BlockType;
 use wasm_instr_ops::GcOperator;
-use wasm_instr_ops::imm::BlockType;
 
 /// A module, as far as arities depend on it. A pair is the numbers of parameters and results.
 pub trait ModuleArity {

@@ -3,7 +3,7 @@ ghost use Rattle.std.specs.Prelude.{◌≡◌, ◌<◌};
 ghost use Rattle.wasm_instr.specs.FixedArity.{reaching as reaching_of, numeric_pair, gc_pair, misc_pair, simd_pair, atomic_pair, fixed_arity as pair_of};
 
 use crate::operator::Operator;
-use wasm_instr_ops::imm::{MemArg, MemArgTarget};
+use wasm_imm::{MemArg, MemArgTarget};
 use wasm_instr_ops::{AtomicOperator, GcOperator, MiscOperator, NumericOperator};
 use wasm_instr_simd::SimdOperator;
 

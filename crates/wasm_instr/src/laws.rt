@@ -2,9 +2,9 @@ ghost use Rattle.std.specs.Prelude.{◌≡◌, ◌≤◌, ◌⊎◌, ℕ, List, 
 ghost use Rattle.wasm_grammar.specs.declared.frame_change.FrameChange.{FrameChange};
 ghost use Rattle.wasm_grammar.specs.declared.frame_kind.FrameKind.{FrameKind};
 ghost use Rattle.wasm_grammar.specs.Frames.{Allows, change_of, frames_after, frames_changed, innermost};
-ghost use Rattle.wasm_instr_ops.specs.below.bytes.features.WasmFeatures.{WasmFeatures};
-ghost use Rattle.wasm_instr_ops.specs.below.Equality.{IsExact};
-ghost use Rattle.wasm_instr_ops.specs.below.Source.{BeginsWith};
+ghost use Rattle.wasm_below.specs.declared.features.WasmFeatures.{WasmFeatures};
+ghost use Rattle.wasm_below.specs.Equality.{IsExact};
+ghost use Rattle.wasm_below.specs.Source.{BeginsWith};
 ghost use Rattle.wasm_instr.specs.declared.operator.Operator.{Operator};
 ghost use Rattle.wasm_instr.specs.Kinds.{IsTypedSelect};
 ghost use Rattle.wasm_instr.specs.Row.{prefix_of, opcode_of, name_of};
@@ -12,7 +12,7 @@ ghost use Rattle.wasm_instr.specs.Encoding.{EncodesOperator};
 ghost use Rattle.wasm_instr.specs.Roles.{change_at, role_of};
 
 use crate::Operator;
-use wasm_instr_ops::below::WasmFeatures;
+use wasm_below::WasmFeatures;
 
 /// States that the encodings of operators are a prefix code, under one set of features.
 pub fn operators(features: WasmFeatures)

@@ -1,13 +1,13 @@
 //! Written by tools/lists.py from tools/operators.tsv.
 ghost use Rattle.std.specs.Prelude.{◌≡◌, ◌↔◌, IsTrue, IfOk, IfErr};
-ghost use Rattle.wasm_instr_ops.specs.imm.OutOfMemory.{IsOutOfMemoryAt};
+ghost use Rattle.wasm_imm.specs.OutOfMemory.{IsOutOfMemoryAt};
 ghost use Rattle.wasm_instr.specs.Row.{proposal_of, name_of, prefix_of, opcode_of};
 ghost use Rattle.wasm_instr.specs.Kinds.{IsSimd, IsVector, HoldsList};
 
 use std::alloc::Global;
 use std::fmt::{self, Debug, Formatter};
-use wasm_instr_ops::below::{HeapType, Result, ValType};
-use wasm_instr_ops::imm::{
+use wasm_below::{HeapType, Result, ValType};
+use wasm_imm::{
     BlockType, BrTable, Ieee32, Ieee64, MemArg, OperatorInfo, Proposal, ResumeTable, SelectTypes,
     TryTable,
 };

@@ -1,10 +1,10 @@
 -- Written by tools/lists.py from tools/operators.tsv.
 use Rattle.std.proofs.Common.{◌==◌, ap}
 use Rattle.std.proofs.lemmas.Bool.Decides.{Decides-and, Decides-like}
-use Rattle.wasm_imm.specs.below.Equality.{IsExact}
+use Rattle.wasm_below.specs.Equality.{IsExact}
 use Rattle.std.proofs.lemmas.Bool.Decides.{Decides-eqb}
 use Rattle.wasm_imm.proofs.ImmediateEquality.{argument_exact, order_exact}
-use Rattle.wasm_imm.proofs.of_below.EnumEquality.{enum_exact, ◌▸◌, none, one, two, three}
+use Rattle.wasm_below.proofs.EnumEquality.{enum_exact, ◌▸◌, none, one, two, three}
 use Rattle.wasm_instr_ops.specs.contracts.atomic.AtomicFields as atomic_fields_type
 use Rattle.wasm_instr_ops.specs.contracts.atomic.AtomicFieldsPartialEq.TheImpl as atomic_fields_eq
 use Rattle.wasm_instr_ops.specs.contracts.atomic.AtomicOperatorPartialEq.TheImpl as atomic_eq

@@ -1,8 +1,8 @@
 -- Written by tools/lists.py from tools/operators.tsv.
-use Rattle.wasm_imm.specs.below.Equality.{IsExact}
+use Rattle.wasm_below.specs.Equality.{IsExact}
 use Rattle.std.proofs.lemmas.Bool.Decides.{Decides-eqb}
-use Rattle.wasm_imm.proofs.of_below.TypeEquality.{heap_exact, ref_exact}
-use Rattle.wasm_imm.proofs.of_below.EnumEquality.{enum_exact, ◌▸◌, none, one, two, three}
+use Rattle.wasm_below.proofs.TypeEquality.{heap_exact, ref_exact}
+use Rattle.wasm_below.proofs.EnumEquality.{enum_exact, ◌▸◌, none, one, two, three}
 use Rattle.wasm_instr_ops.specs.contracts.gc.GcOperator as gc_type
 use Rattle.wasm_instr_ops.specs.contracts.gc.GcOperatorPartialEq.TheImpl as gc_eq
 

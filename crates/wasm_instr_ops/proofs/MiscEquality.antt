@@ -1,7 +1,7 @@
 -- Written by tools/lists.py from tools/operators.tsv.
-use Rattle.wasm_imm.specs.below.Equality.{IsExact}
+use Rattle.wasm_below.specs.Equality.{IsExact}
 use Rattle.std.proofs.lemmas.Bool.Decides.{Decides-eqb}
-use Rattle.wasm_imm.proofs.of_below.EnumEquality.{enum_exact, ◌▸◌, none, one, two}
+use Rattle.wasm_below.proofs.EnumEquality.{enum_exact, ◌▸◌, none, one, two}
 use Rattle.wasm_instr_ops.specs.contracts.misc.MiscOperator as misc_type
 use Rattle.wasm_instr_ops.specs.contracts.misc.MiscOperatorPartialEq.TheImpl as misc_eq
 

@@ -1,6 +1,6 @@
 -- Written by tools/lists.py from tools/operators.tsv.
-use Rattle.wasm_imm.specs.below.Equality.{IsExact}
-use Rattle.wasm_imm.proofs.of_below.EnumEquality.{bare_exact}
+use Rattle.wasm_below.specs.Equality.{IsExact}
+use Rattle.wasm_below.proofs.EnumEquality.{bare_exact}
 use Rattle.wasm_instr_ops.specs.contracts.numeric.NumericOperator as numeric_type
 use Rattle.wasm_instr_ops.specs.contracts.numeric.NumericOperatorPartialEq.TheImpl as numeric_eq
 

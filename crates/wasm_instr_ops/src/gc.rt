@@ -2,7 +2,7 @@
 ghost use Rattle.std.specs.Prelude.{◌≡◌};
 ghost use Rattle.wasm_instr_ops.specs.Gc.{gc_proposal, gc_name, gc_subopcode};
 
-use wasm_imm::below::{HeapType, RefType};
+use wasm_below::{HeapType, RefType};
 use wasm_imm::{OperatorInfo, Proposal};
 
 /// The operators with the prefix byte 0xfb: structures, arrays and casts. Aggregate Instructions;

@@ -1,8 +1,8 @@
 -- Written by tools/lists.py from tools/operators.tsv.
-use Rattle.wasm_imm.specs.below.Equality.{IsExact}
+use Rattle.wasm_below.specs.Equality.{IsExact}
 use Rattle.std.proofs.lemmas.Bool.Decides.{Decides-eqb}
 use Rattle.wasm_imm.proofs.ImmediateEquality.{lanes_exact, vector_exact, argument_exact}
-use Rattle.wasm_imm.proofs.of_below.EnumEquality.{enum_exact, ◌▸◌, none, one, two}
+use Rattle.wasm_below.proofs.EnumEquality.{enum_exact, ◌▸◌, none, one, two}
 use Rattle.wasm_instr_simd.specs.contracts.simd.SimdOperator as simd_type
 use Rattle.wasm_instr_simd.specs.contracts.simd.SimdOperatorPartialEq.TheImpl as simd_eq
 

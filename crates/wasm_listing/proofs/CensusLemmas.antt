@@ -1,15 +1,15 @@
 use Rattle.std.proofs.Common.{◌≡◌, ◌≢◌, ℕ, ◌+◌, ◌-◌, ◌^◌, ◌≤◌, List, [], ◌∷◌, length, map, refl, sym, subst, ap, ◌∙◌, arith, cond, Bool, true, false, nat_eq, Result, Ok, Err}
 use Rattle.std.proofs.lemmas.List.{length-append}
 use Rattle.std.specs.Cmp.Lexicographic.{pointwise}
-use Rattle.wasm_operators.specs.below.bytes.error.Error.{Error}
+use Rattle.wasm_operators.specs.below.declared.error.Error.{Error}
 use Rattle.wasm_operators.specs.Laws.{IsNoLonger}
-use Rattle.wasm_operators.specs.below.bytes.message.Message.TheVariants as message
+use Rattle.wasm_operators.specs.below.declared.message.Message.TheVariants as message
 use Rattle.wasm_operators.specs.below.Source.{Reader, rest, offset_of}
 use Rattle.wasm_operators.specs.instr.declared.operator.Operator.{Operator}
 use Rattle.wasm_operators.specs.imm.Proposal.{proposal_name}
 use Rattle.wasm_operators.specs.instr.Row.{proposal_of}
-use Rattle.wasm_operators.specs.readers.Expression.{Placed}
-use Rattle.wasm_operators.specs.readers.Visiting.{VisitRun, Visited}
+use Rattle.wasm_operators.specs.Expression.{Placed}
+use Rattle.wasm_operators.specs.Visiting.{VisitRun, Visited}
 use Rattle.wasm_operators.specs.Locals.{Declaration}
 use Rattle.wasm_operators.specs.Body.{StopsBody, ReadsBody}
 use Rattle.wasm_listing.specs.declared.fault.DumpFault.TheVariants as fault

@@ -1,9 +1,9 @@
 -- What the program writes for a body.
 use Rattle.std.specs.Prelude.{◌≡◌, ◌≢◌, ℕ, List, [], ◌∷◌, ◌++◌, Option, Result, Ok, Err, codes, decimal, flat_map}
 use Rattle.std.specs.Io.KnownBytes.{Appends}
-use Rattle.wasm_operators.specs.below.bytes.error.Error.{Error}
-use Rattle.wasm_operators.specs.below.bytes.features.WasmFeatures.{WasmFeatures}
-use Rattle.wasm_operators.specs.below.bytes.message.Message.TheVariants as message
+use Rattle.wasm_operators.specs.below.declared.error.Error.{Error}
+use Rattle.wasm_operators.specs.below.declared.features.WasmFeatures.{WasmFeatures}
+use Rattle.wasm_operators.specs.below.declared.message.Message.TheVariants as message
 use Rattle.wasm_operators.specs.below.Source.{Reader, reader_of, source_of}
 use Rattle.wasm_operators.specs.instr.declared.operator.Operator.{Operator}
 use Rattle.wasm_operators.specs.instr.Row.{name_of}

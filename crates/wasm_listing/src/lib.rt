@@ -17,5 +17,4 @@ pub use counting::{Census, proposal_at};
 pub use dump::run;
 pub use fault::DumpFault;
 pub use lines::lines_of;
-pub use wasm_operators as operators;
 pub use words::features_of;

@@ -1,8 +1,8 @@
 use Rattle.std.proofs.Common.{◌≡◌, ℕ, ◌<◌, ◌≤◌, ◌⊎◌, Bool, true, false, List, [], ◌∷◌, ◌++◌, inl, inr, Err, refl, ap, sym, ◌∙◌, arith}
-use Rattle.wasm_below.specs.bytes.error.Error.{Error}
-use Rattle.wasm_below.specs.bytes.message.Message.{Message}
-use Rattle.wasm_below.specs.bytes.message.Message.TheVariants as message
-use Rattle.wasm_below.specs.bytes.message.TypeName.TheVariants as type_name
+use Rattle.wasm_below.specs.declared.error.Error.{Error}
+use Rattle.wasm_below.specs.declared.message.Message.{Message}
+use Rattle.wasm_below.specs.declared.message.Message.TheVariants as message
+use Rattle.wasm_below.specs.declared.message.TypeName.TheVariants as type_name
 use Rattle.wasm_below.specs.declared.types.AbstractHeapType.{AbstractHeapType}
 use Rattle.wasm_below.specs.declared.types.AbstractHeapType.TheVariants as ty
 use Rattle.wasm_below.specs.declared.types.HeapType.{HeapType}

@@ -2,8 +2,8 @@
 use Rattle.std.proofs.Common.{◌≡◌, ℕ, ◌+◌, List, ◌++◌, length, Result, Ok, Err, inl, inr, refl, ap, sym, subst, ◌∙◌, append_assoc, arith}
 use Rattle.std.proofs.lemmas.List.{append_cancel_left}
 use Rattle.std.specs.Prelude.{IsErrAnd}
-use Rattle.wasm_below.specs.bytes.error.Error.{Error}
-use Rattle.wasm_below.specs.bytes.message.Message.{Message}
+use Rattle.wasm_below.specs.declared.error.Error.{Error}
+use Rattle.wasm_below.specs.declared.message.Message.{Message}
 use Rattle.wasm_below.specs.Fault.{ThenFault}
 use Rattle.wasm_below.specs.Sequence.{Then, PrefixCode}
 use Rattle.wasm_below.specs.Source.{Reader, rest, end_of, IsRefusal, HasRead, Reads}

@@ -1,6 +1,6 @@
 -- Specification: Binary Format, Modules: Indices, Export Section.
 use Rattle.std.specs.Prelude.{ℕ, List}
-use Rattle.wasm_below.specs.bytes.message.Message.{Message}
+use Rattle.wasm_below.specs.declared.message.Message.{Message}
 use Rattle.wasm_below.specs.Fault.{ThenFault}
 use Rattle.wasm_below.specs.Number.{EncodesUnsigned}
 use Rattle.wasm_below.specs.Source.{Reader, IsByte, EndFault, U32Fault}

@@ -4,4 +4,11 @@ pub mod Imports
 pub mod Module
 pub mod Names
 pub mod Types
-pub use Rattle.wasm_below.specs as below
+pub mod Faults
+pub mod Sections
+pub mod Items
+pub mod Parameters
+pub mod FunctionNames
+pub mod ModuleFunctions
+pub mod Refusals
+pub mod Bodies

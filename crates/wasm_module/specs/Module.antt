@@ -1,8 +1,8 @@
 -- Specification: Binary Format, Modules.
 use Rattle.std.specs.Prelude.{◌==◌, ℕ, List, if◌then◌else◌}
 use Rattle.std.specs.Int.{w32}
-use Rattle.wasm_below.specs.bytes.features.WasmFeatures.{WasmFeatures}
-use Rattle.wasm_below.specs.bytes.message.Message.{Message}
+use Rattle.wasm_below.specs.declared.features.WasmFeatures.{WasmFeatures}
+use Rattle.wasm_below.specs.declared.message.Message.{Message}
 use Rattle.wasm_below.specs.Fault.{ThenFault}
 use Rattle.wasm_below.specs.FromReader.{EncodesReader, ReaderFault}
 use Rattle.wasm_below.specs.Number.{EncodesFixed}

@@ -1,7 +1,7 @@
 -- Specification: Binary Format, Values, Names; Modules, Custom Section; Appendix, Custom Sections,
 -- Name Section.
 use Rattle.std.specs.Prelude.{◌≡◌, ℕ, List, length}
-use Rattle.wasm_below.specs.bytes.message.Message.{Message}
+use Rattle.wasm_below.specs.declared.message.Message.{Message}
 use Rattle.wasm_below.specs.Fault.{ThenFault}
 use Rattle.wasm_below.specs.Number.{EncodesUnsigned}
 use Rattle.wasm_below.specs.Sequence.{Then}

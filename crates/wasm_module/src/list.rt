@@ -1,6 +1,6 @@
 //! Lists of which only the length is kept.
 ghost use Rattle.std.specs.Prelude.{ℕ, List};
-ghost use Rattle.wasm_below.specs.bytes.message.Message.{Message};
+ghost use Rattle.wasm_below.specs.declared.message.Message.{Message};
 ghost use Rattle.wasm_below.specs.Number.{EncodesUnsigned};
 ghost use Rattle.wasm_below.specs.Sequence.{PrefixCode};
 ghost use Rattle.wasm_below.specs.Source.{Reader, U32Fault};

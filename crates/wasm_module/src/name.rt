@@ -1,5 +1,5 @@
 ghost use Rattle.std.specs.Prelude.{◌≡◌, ⊤, IfOk};
-ghost use Rattle.wasm_below.specs.bytes.features.WasmFeatures.{WasmFeatures};
+ghost use Rattle.wasm_below.specs.declared.features.WasmFeatures.{WasmFeatures};
 ghost use Rattle.wasm_below.specs.Fault.{DeterminesRefusal};
 ghost use Rattle.wasm_below.specs.FromReader.{ReadsValue};
 ghost use Rattle.wasm_below.specs.Sequence.{PrefixCode};

@@ -1,7 +1,7 @@
 use std::alloc::Global;
 use std::fmt;
-use wasm_module_listing::features_of;
-use wasm_module_listing::operators::WasmFeatures;
+use wasm_listing::features_of;
+use wasm_operators::WasmFeatures;
 
 /// Which functions are requested.
 #[derive(Debug, Drop)]

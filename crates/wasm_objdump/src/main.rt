@@ -1,7 +1,7 @@
 //! Lists the sections of WebAssembly modules and disassembles their functions in the form of
 //! `wasm-objdump` of wabt, or counts their operators by proposal.
 //!
-//! The main theorems are the contracts of `run` and `list_headers` of `wasm_module_listing`, which
+//! The main theorems are the contracts of `run` and `list_headers` of `wasm_disassembly`, which
 //! hold for any writer.
 #![tactic(auto)]
 
@@ -18,10 +18,10 @@ use std::env::Env;
 use std::io::{BufWriter, Write};
 use std::process::ExitCode;
 use std::{env, io};
-use wasm_module_listing::functions::Functions;
-use wasm_module_listing::{
+use wasm_disassembly::{
     Fault, ModuleRequest, before_cut, find_cut, function_named, list_headers, run,
 };
+use wasm_module::Functions;
 
 const HELP: &str = "Usage: wasm_objdump [OPTION].. [FILE]..
 

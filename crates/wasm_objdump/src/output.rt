@@ -1,6 +1,6 @@
 use std::io;
 use std::io::Write;
-use wasm_module_listing::FlushedWrite;
+use wasm_disassembly::FlushedWrite;
 
 /// A writer that keeps the last error of another writer.
 #[derive(Drop)]

@@ -3,8 +3,8 @@ ghost use Rattle.std.specs.Prelude.{⊤};
 
 use std::alloc::Global;
 use std::io;
-use wasm_module_listing::operators::Error;
-use wasm_module_listing::{Complaints, Fault};
+use wasm_disassembly::{Complaints, Fault};
+use wasm_operators::Error;
 
 /// The exit status if input, output or allocation fails.
 pub const OUTSIDE: u8 = 3;

@@ -1,13 +1,13 @@
 use Rattle.std.proofs.Common.{◌≡◌, ℕ, ◌+◌, List, [], ◌++◌, length, Ok, refl, sym, subst, ap, ◌∙◌, arith, inl, inr}
-use Rattle.wasm_operators_readers.specs.below.bytes.error.Error.{Error}
-use Rattle.wasm_operators_readers.specs.below.bytes.features.WasmFeatures.{WasmFeatures}
-use Rattle.wasm_operators_readers.specs.below.Source.{Source, Reader, rest, offset_of, source_of, Takes}
-use Rattle.wasm_operators_readers.proofs.of_below.Blocks.{refused_now}
-use Rattle.wasm_operators_readers.proofs.of_below.TakesLemmas.{same_rest}
-use Rattle.wasm_operators_readers.specs.Expression.{Placed, EncodesExpression}
-use Rattle.wasm_operators_readers.specs.Reading.{Allocating, State, StopsRun}
-use Rattle.wasm_operators_readers.specs.MainTheorem.{ReadsTree, ReadsBeginning}
-use Rattle.wasm_operators_readers.specs.Next.{adding, simd_if}
+use Rattle.wasm_below.specs.declared.error.Error.{Error}
+use Rattle.wasm_below.specs.declared.features.WasmFeatures.{WasmFeatures}
+use Rattle.wasm_below.specs.Source.{Source, Reader, rest, offset_of, source_of, Takes}
+use Rattle.wasm_below.proofs.Blocks.{refused_now}
+use Rattle.wasm_below.proofs.TakesLemmas.{same_rest}
+use Rattle.wasm_operators.specs.Expression.{Placed, EncodesExpression}
+use Rattle.wasm_operators.specs.Reading.{Allocating, State, StopsRun}
+use Rattle.wasm_operators.specs.MainTheorem.{ReadsTree, ReadsBeginning}
+use Rattle.wasm_operators.specs.Next.{adding, simd_if}
 use Rattle.wasm_operators.specs.Locals.{Declaration, EncodesLocals, RefusesLocals, IsPastLocals}
 use Rattle.wasm_operators.specs.Body.{source_after, EncodesBody, OpensBody, NoExpression, StopsBody}
 use Rattle.wasm_operators.proofs.LocalsLemmas.{locals_prefix_code}

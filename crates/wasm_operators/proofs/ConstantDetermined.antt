@@ -1,31 +1,31 @@
 use Rattle.std.proofs.Common.{◌≡◌, ℕ, ◌+◌, ◌≤◌, List, [], ◌∷◌, ◌++◌, length, Some, None, inl, inr, refl, sym, subst, ap, ◌∙◌, ◌⊎◌, arith}
 use Rattle.std.proofs.lemmas.Bool.{cases_lt}
-use Rattle.wasm_operators_readers.specs.below.bytes.features.WasmFeatures.{WasmFeatures}
-use Rattle.wasm_operators_readers.specs.below.bytes.message.Message.{Message}
-use Rattle.wasm_operators_readers.specs.below.Fault.{DeterminesRefusal}
-use Rattle.wasm_operators_readers.specs.below.FromReader.{SameReader}
-use Rattle.wasm_operators_readers.specs.below.Sequence.{PrefixCodeUpTo}
-use Rattle.wasm_operators_readers.specs.below.Source.{Reader, rest, offset_of, at_position}
-use Rattle.wasm_operators_readers.specs.grammar.declared.frame_kind.FrameKind.{FrameKind}
-use Rattle.wasm_operators_readers.specs.grammar.declared.frame_kind.FrameKind.TheVariants as frame
-use Rattle.wasm_operators_readers.specs.grammar.Frames.{Allows, replacement, frames_after, frames_along}
-use Rattle.wasm_operators_readers.proofs.of_grammar.Innermost.{may_not_step}
-use Rattle.wasm_operators_readers.proofs.of_grammar.Runs.{IsSome_of}
-use Rattle.wasm_operators_readers.specs.instr.declared.operator.Operator.{Operator}
-use Rattle.wasm_operators_readers.specs.instr.declared.operator.Operator.TheVariants as operator
-use Rattle.wasm_operators_readers.specs.instr.Encoding.{EncodesOperator}
-use Rattle.wasm_operators_readers.specs.instr.Roles.{role_of, roles_of}
-use Rattle.wasm_operators_readers.proofs.of_instr.OperatorPrefixCode.{operator_prefix_code}
-use Rattle.wasm_operators_readers.specs.opcodes.OperatorFaults.{OperatorFault}
-use Rattle.wasm_operators_readers.proofs.DecoderPremises.{takes_all}
-use Rattle.wasm_operators_readers.specs.Expression.{operators}
-use Rattle.wasm_operators_readers.proofs.LayoutLemmas.{GoesOn, laid_goes_on, laid_same, next_allowed, one_whole, operators-append}
-use Rattle.wasm_operators_readers.proofs.of_decoder.DeterminedOperatorRefusals.{operator_determines}
+use Rattle.wasm_below.specs.declared.features.WasmFeatures.{WasmFeatures}
+use Rattle.wasm_below.specs.declared.message.Message.{Message}
+use Rattle.wasm_below.specs.Fault.{DeterminesRefusal}
+use Rattle.wasm_below.specs.FromReader.{SameReader}
+use Rattle.wasm_below.specs.Sequence.{PrefixCodeUpTo}
+use Rattle.wasm_below.specs.Source.{Reader, rest, offset_of, at_position}
+use Rattle.wasm_grammar.specs.declared.frame_kind.FrameKind.{FrameKind}
+use Rattle.wasm_grammar.specs.declared.frame_kind.FrameKind.TheVariants as frame
+use Rattle.wasm_grammar.specs.Frames.{Allows, replacement, frames_after, frames_along}
+use Rattle.wasm_grammar.proofs.Innermost.{may_not_step}
+use Rattle.wasm_grammar.proofs.Runs.{IsSome_of}
+use Rattle.wasm_instr.specs.declared.operator.Operator.{Operator}
+use Rattle.wasm_instr.specs.declared.operator.Operator.TheVariants as operator
+use Rattle.wasm_instr.specs.Encoding.{EncodesOperator}
+use Rattle.wasm_instr.specs.Roles.{role_of, roles_of}
+use Rattle.wasm_instr.proofs.OperatorPrefixCode.{operator_prefix_code}
+use Rattle.wasm_decode_opcodes.specs.OperatorFaults.{OperatorFault}
+use Rattle.wasm_operators.proofs.DecoderPremises.{takes_all}
+use Rattle.wasm_operators.specs.Expression.{operators}
+use Rattle.wasm_operators.proofs.LayoutLemmas.{GoesOn, laid_goes_on, laid_same, next_allowed, one_whole, operators-append}
+use Rattle.wasm_decode.proofs.DeterminedOperatorRefusals.{operator_determines}
 use Rattle.wasm_operators.specs.Constant.{HasNoEnd, EncodesConstantReader}
 use Rattle.wasm_operators.specs.ConstantFaults.{PassesOperators, IsNoOperator, EndsInside, ConstantFault}
 use Rattle.wasm_operators.proofs.OneEnd.{constant_at}
-use Rattle.wasm_operators_readers.proofs.of_grammar.Paths.{some_is}
-use Rattle.wasm_operators_readers.proofs.Runs.{features_stay}
+use Rattle.wasm_grammar.proofs.Paths.{some_is}
+use Rattle.wasm_operators.proofs.Runs.{features_stay}
 
 pub constant_prefix_code : (f : WasmFeatures) → PrefixCodeUpTo SameReader (EncodesConstantReader f)
 constant_prefix_code f a b x y m n first second e =

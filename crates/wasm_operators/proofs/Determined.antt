@@ -1,22 +1,22 @@
 use Rattle.std.proofs.Common.{◌≡◌, ℕ, ◌+◌, List, [], ◌++◌, length, refl, sym, subst, ap, ◌∙◌, append_assoc, arith, inl, inr}
-use Rattle.wasm_operators_readers.specs.below.Fault.{DeterminesRefusal, ManyFault}
-use Rattle.wasm_operators_readers.specs.below.FromReader.{EncodesReader, SameReader}
-use Rattle.wasm_operators_readers.specs.below.Number.{EncodesUnsigned}
-use Rattle.wasm_operators_readers.specs.below.Sequence.{PrefixCodeUpTo}
-use Rattle.wasm_operators_readers.specs.below.Source.{Source, U32Fault}
-use Rattle.wasm_operators_readers.specs.below.TypeEncoding.{ValTypeFault}
-use Rattle.wasm_operators_readers.specs.below.bytes.features.WasmFeatures.{WasmFeatures}
-use Rattle.wasm_operators_readers.proofs.of_below.DeterminedRefusals.{u32_determines, then_determines}
-use Rattle.wasm_operators_readers.proofs.of_below.DeterminedTypeRefusals.{value_determines}
-use Rattle.wasm_operators_readers.proofs.of_below.Steps.{number_prefix_code}
-use Rattle.wasm_operators_readers.proofs.of_below.TakesLemmas.{same_rest}
-use Rattle.wasm_operators_readers.proofs.of_imm.DeterminedControlRefusals.{many_determines}
-use Rattle.wasm_operators_readers.specs.Expression.{Placed, EncodesExpression}
-use Rattle.wasm_operators_readers.proofs.LayoutLemmas.{one_whole}
+use Rattle.wasm_below.specs.Fault.{DeterminesRefusal, ManyFault}
+use Rattle.wasm_below.specs.FromReader.{EncodesReader, SameReader}
+use Rattle.wasm_below.specs.Number.{EncodesUnsigned}
+use Rattle.wasm_below.specs.Sequence.{PrefixCodeUpTo}
+use Rattle.wasm_below.specs.Source.{Source, U32Fault}
+use Rattle.wasm_below.specs.TypeEncoding.{ValTypeFault}
+use Rattle.wasm_below.specs.declared.features.WasmFeatures.{WasmFeatures}
+use Rattle.wasm_below.proofs.DeterminedRefusals.{u32_determines, then_determines}
+use Rattle.wasm_below.proofs.DeterminedTypeRefusals.{value_determines}
+use Rattle.wasm_below.proofs.Steps.{number_prefix_code}
+use Rattle.wasm_below.proofs.TakesLemmas.{same_rest}
+use Rattle.wasm_imm.proofs.DeterminedControlRefusals.{many_determines}
+use Rattle.wasm_operators.specs.Expression.{Placed, EncodesExpression}
+use Rattle.wasm_operators.proofs.LayoutLemmas.{one_whole}
 use Rattle.wasm_operators.specs.Body.{source_after, EncodesBody}
 use Rattle.wasm_operators.specs.Locals.{Declaration, EncodesDeclaration, DeclarationFault, LocalsFault, NumberedFault, NextFault}
 use Rattle.wasm_operators.proofs.LocalsLemmas.{declaration_prefix_code, locals_prefix_code}
-use Rattle.wasm_operators_readers.proofs.of_imm.VectorPrefixCodes.{same_length}
+use Rattle.wasm_imm.proofs.VectorPrefixCodes.{same_length}
 
 pub declaration_determines : DeterminesRefusal DeclarationFault
 declaration_determines =

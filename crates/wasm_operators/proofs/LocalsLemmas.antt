@@ -1,19 +1,19 @@
 use Rattle.std.proofs.Common.{◌≡◌, ℕ, ◌+◌, ◌<◌, List, ◌++◌, length, Err, refl, sym, ap, ◌∙◌, append_assoc, arith, inl, inr}
-use Rattle.wasm_operators_readers.specs.below.Ahead.{Fails}
-use Rattle.wasm_operators_readers.specs.below.bytes.error.Error.{Error}
-use Rattle.wasm_operators_readers.specs.below.Number.{EncodesUnsigned}
-use Rattle.wasm_operators_readers.specs.below.Sequence.{Then, PrefixCode}
-use Rattle.wasm_operators_readers.specs.below.Source.{Reader, rest, at_position, Takes, IsRefusal, HasRead, Reads, U32Fault}
-use Rattle.wasm_operators_readers.specs.below.TypeEncoding.{EncodesValType, ValTypeFault}
-use Rattle.wasm_operators_readers.proofs.of_below.Ahead.{first_fails, second_fails, fails_as}
-use Rattle.wasm_operators_readers.proofs.of_below.Blocks.{refused_now}
-use Rattle.wasm_operators_readers.proofs.of_below.Sequences.{then_prefix_code, then_first, then_second}
-use Rattle.wasm_operators_readers.proofs.of_below.Steps.{number_prefix_code, second_missing, missing_as}
-use Rattle.wasm_operators_readers.proofs.of_below.TakesLemmas.{takes_then, same_rest}
-use Rattle.wasm_operators_readers.proofs.of_below.TypePrefixCodes.{value_prefix_code}
-use Rattle.wasm_operators_readers.specs.imm.Lists.{EncodesMany}
-use Rattle.wasm_operators_readers.proofs.of_imm.Faults.{many_fault}
-use Rattle.wasm_operators_readers.proofs.of_imm.ListLemmas.{PrefixAlone, many_prefix_code, many_refused}
+use Rattle.wasm_below.specs.Ahead.{Fails}
+use Rattle.wasm_below.specs.declared.error.Error.{Error}
+use Rattle.wasm_below.specs.Number.{EncodesUnsigned}
+use Rattle.wasm_below.specs.Sequence.{Then, PrefixCode}
+use Rattle.wasm_below.specs.Source.{Reader, rest, at_position, Takes, IsRefusal, HasRead, Reads, U32Fault}
+use Rattle.wasm_below.specs.TypeEncoding.{EncodesValType, ValTypeFault}
+use Rattle.wasm_below.proofs.Ahead.{first_fails, second_fails, fails_as}
+use Rattle.wasm_below.proofs.Blocks.{refused_now}
+use Rattle.wasm_below.proofs.Sequences.{then_prefix_code, then_first, then_second}
+use Rattle.wasm_below.proofs.Steps.{number_prefix_code, second_missing, missing_as}
+use Rattle.wasm_below.proofs.TakesLemmas.{takes_then, same_rest}
+use Rattle.wasm_below.proofs.TypePrefixCodes.{value_prefix_code}
+use Rattle.wasm_imm.specs.Lists.{EncodesMany}
+use Rattle.wasm_imm.proofs.Faults.{many_fault}
+use Rattle.wasm_imm.proofs.ListLemmas.{PrefixAlone, many_prefix_code, many_refused}
 use Rattle.wasm_operators.specs.Locals.{Declaration, EncodesDeclaration, DeclarationFault, EncodesLocals, RefusesLocals, IsPastLocals}
 
 same_pair : (d e : Declaration) → d.0 ≡ e.0 → d.1 ≡ e.1 → d ≡ e

@@ -1,20 +1,20 @@
 use Rattle.std.proofs.Common.{◌≡◌, ℕ, ◌+◌, List, [], ◌∷◌, ◌++◌, length, drop, Option, Some, None, refl, sym, subst, ap, ◌∙◌, append_assoc}
 use Rattle.std.specs.Option.{option_map}
-use Rattle.wasm_operators_readers.specs.below.bytes.features.WasmFeatures.{WasmFeatures}
-use Rattle.wasm_operators_readers.specs.below.Source.{Reader, rest, offset_of}
-use Rattle.wasm_operators_readers.specs.grammar.declared.frame_kind.FrameKind.{FrameKind}
-use Rattle.wasm_operators_readers.specs.grammar.declared.frame_kind.FrameKind.TheVariants as frame
-use Rattle.wasm_operators_readers.specs.grammar.Role.{Role, plain, opens, opens_if, opens_try, turns_else, turns_catch, turns_catch_all, delegates, ends}
-use Rattle.wasm_operators_readers.specs.grammar.Frames.{kind_of_nest, replacement, frames_after_in, frames_after, frames_along}
-use Rattle.wasm_operators_readers.proofs.of_grammar.Runs.{bound}
-use Rattle.wasm_operators_readers.specs.instr.declared.operator.Operator.{Operator}
-use Rattle.wasm_operators_readers.specs.instr.declared.operator.Operator.TheVariants as operator
-use Rattle.wasm_operators_readers.specs.instr.Encoding.{EncodesOperator}
-use Rattle.wasm_operators_readers.specs.instr.Roles.{role_of, roles_of}
-use Rattle.wasm_operators_readers.specs.Expression.{Placed, operators, LaidOut, AreWalk, IsBeginningOf}
-use Rattle.wasm_operators_readers.proofs.LayoutLemmas.{operators-append}
+use Rattle.wasm_below.specs.declared.features.WasmFeatures.{WasmFeatures}
+use Rattle.wasm_below.specs.Source.{Reader, rest, offset_of}
+use Rattle.wasm_grammar.specs.declared.frame_kind.FrameKind.{FrameKind}
+use Rattle.wasm_grammar.specs.declared.frame_kind.FrameKind.TheVariants as frame
+use Rattle.wasm_grammar.specs.Role.{Role, plain, opens, opens_if, opens_try, turns_else, turns_catch, turns_catch_all, delegates, ends}
+use Rattle.wasm_grammar.specs.Frames.{kind_of_nest, replacement, frames_after_in, frames_after, frames_along}
+use Rattle.wasm_grammar.proofs.Runs.{bound}
+use Rattle.wasm_instr.specs.declared.operator.Operator.{Operator}
+use Rattle.wasm_instr.specs.declared.operator.Operator.TheVariants as operator
+use Rattle.wasm_instr.specs.Encoding.{EncodesOperator}
+use Rattle.wasm_instr.specs.Roles.{role_of, roles_of}
+use Rattle.wasm_operators.specs.Expression.{Placed, operators, LaidOut, AreWalk, IsBeginningOf}
+use Rattle.wasm_operators.proofs.LayoutLemmas.{operators-append}
 use Rattle.wasm_operators.specs.Constant.{HasNoEnd, EndsOnce, EncodesConstantReader}
-use Rattle.wasm_operators_readers.proofs.of_grammar.Paths.{some_is}
+use Rattle.wasm_grammar.proofs.Paths.{some_is}
 
 no_end_push : (ops : List Operator) (op : Operator) → HasNoEnd ops → (op ≡ operator.End → ⊥) → HasNoEnd (ops ++ op ∷ [])
 no_end_push [] op h other = (other, tt)

@@ -1,23 +1,22 @@
 -- A constant expression, after operators without `end`.
-use Rattle.std.proofs.Common.{◌≡◌, ℕ, ◌+◌, ◌-◌, ◌<◌, ◌≤◌, List, [], ◌∷◌, ◌++◌, length, Some}
-use Rattle.std.proofs.Common.{None, inl, inr, refl, sym, subst, ap, ◌∙◌, append_assoc, length-append, length-drop, arith}
+use Rattle.std.proofs.Common.{◌≡◌, ℕ, ◌+◌, ◌-◌, ◌<◌, ◌≤◌, List, [], ◌∷◌, ◌++◌, length, Some, None, inl, inr, refl, sym, subst, ap, ◌∙◌, append_assoc, length-append, length-drop, arith}
 use Rattle.std.proofs.lemmas.Bool.{cases_lt}
-use Rattle.wasm_operators_readers.specs.below.bytes.message.Message.TheVariants as message
-use Rattle.wasm_operators_readers.specs.below.Source.{Reader, rest, offset_of, end_of, Takes, NoPrefix, IsAhead, BeginsWith}
-use Rattle.wasm_operators_readers.specs.grammar.declared.frame_kind.FrameKind.TheVariants as frame
-use Rattle.wasm_operators_readers.specs.grammar.Frames.{frames_after, frames_along, without_innermost}
-use Rattle.wasm_operators_readers.proofs.of_grammar.Innermost.{frames_follow}
-use Rattle.wasm_operators_readers.proofs.of_grammar.Runs.{IsSome_of, walk_runs_out}
-use Rattle.wasm_operators_readers.specs.instr.declared.operator.Operator.{Operator}
-use Rattle.wasm_operators_readers.specs.instr.declared.operator.Operator.TheVariants as operator
-use Rattle.wasm_operators_readers.specs.instr.Encoding.{EncodesOperator}
-use Rattle.wasm_operators_readers.specs.instr.Roles.{role_of, roles_of}
-use Rattle.wasm_operators_readers.specs.opcodes.Allowed.{EncodesAllowed}
-use Rattle.wasm_operators_readers.proofs.DecoderPremises.{sound}
-use Rattle.wasm_operators_readers.specs.Expression.{Placed, operators}
-use Rattle.wasm_operators_readers.proofs.LayoutLemmas.{laid_goes_on, laid_beginning, laid_same, next_allowed}
-use Rattle.wasm_operators_readers.specs.Reading.{State, IsFresh, TakesOperators, TakesOperator}
-use Rattle.wasm_operators_readers.proofs.Runs.{features_stay, ran_push}
+use Rattle.wasm_below.specs.declared.message.Message.TheVariants as message
+use Rattle.wasm_below.specs.Source.{Reader, rest, offset_of, end_of, Takes, NoPrefix, IsAhead, BeginsWith}
+use Rattle.wasm_grammar.specs.declared.frame_kind.FrameKind.TheVariants as frame
+use Rattle.wasm_grammar.specs.Frames.{frames_after, frames_along, without_innermost}
+use Rattle.wasm_grammar.proofs.Innermost.{frames_follow}
+use Rattle.wasm_grammar.proofs.Runs.{IsSome_of, walk_runs_out}
+use Rattle.wasm_instr.specs.declared.operator.Operator.{Operator}
+use Rattle.wasm_instr.specs.declared.operator.Operator.TheVariants as operator
+use Rattle.wasm_instr.specs.Encoding.{EncodesOperator}
+use Rattle.wasm_instr.specs.Roles.{role_of, roles_of}
+use Rattle.wasm_decode_opcodes.specs.Allowed.{EncodesAllowed}
+use Rattle.wasm_operators.proofs.DecoderPremises.{sound}
+use Rattle.wasm_operators.specs.Expression.{Placed, operators}
+use Rattle.wasm_operators.proofs.LayoutLemmas.{laid_goes_on, laid_beginning, laid_same, next_allowed}
+use Rattle.wasm_operators.specs.Reading.{State, IsFresh, TakesOperators, TakesOperator}
+use Rattle.wasm_operators.proofs.Runs.{features_stay, ran_push}
 use Rattle.wasm_operators.specs.Constant.{HasNoEnd, EncodesConstantReader}
 use Rattle.wasm_operators.specs.ConstantFaults.{PassesOperators, ConstantFault}
 use Rattle.wasm_operators.proofs.OneEnd.{not_beginning, not_longer, constant_at, passed_end, end_byte}

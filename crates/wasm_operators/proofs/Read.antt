@@ -1,15 +1,15 @@
 use Rattle.std.proofs.Common.{◌≡◌, ℕ, ◌+◌, ◌-◌, List, [], ◌∷◌, ◌++◌, length, take, Result, Ok, Err, IfOk, IfErr, refl, sym, subst, ap, ◌∙◌, arith}
 use Rattle.std.proofs.Math.Seq.{take-append_seam}
-use Rattle.wasm_operators_readers.specs.below.Source.{Reader, rest, offset_of, reader_of, Takes}
-use Rattle.wasm_operators_readers.specs.grammar.OpenPath.{OpenPath}
-use Rattle.wasm_operators_readers.specs.instr.declared.operator.Operator.{Operator}
-use Rattle.wasm_operators_readers.specs.instr.declared.operator.Operator.TheVariants as operator
-use Rattle.wasm_operators_readers.specs.instr.Roles.{roles_of}
-use Rattle.wasm_operators_readers.specs.opcodes.Allowed.{EncodesAllowed}
-use Rattle.wasm_operators_readers.proofs.DecoderPremises.{sound}
-use Rattle.wasm_operators_readers.specs.Expression.{Placed, operators, LaidOut, AreWalk}
-use Rattle.wasm_operators_readers.specs.Reading.{State, IsFresh, TakesOperators, TakesOperator}
-use Rattle.wasm_operators_readers.proofs.Runs.{ran_push, fresh_before, read_further}
+use Rattle.wasm_below.specs.Source.{Reader, rest, offset_of, reader_of, Takes}
+use Rattle.wasm_grammar.specs.OpenPath.{OpenPath}
+use Rattle.wasm_instr.specs.declared.operator.Operator.{Operator}
+use Rattle.wasm_instr.specs.declared.operator.Operator.TheVariants as operator
+use Rattle.wasm_instr.specs.Roles.{roles_of}
+use Rattle.wasm_decode_opcodes.specs.Allowed.{EncodesAllowed}
+use Rattle.wasm_operators.proofs.DecoderPremises.{sound}
+use Rattle.wasm_operators.specs.Expression.{Placed, operators, LaidOut, AreWalk}
+use Rattle.wasm_operators.specs.Reading.{State, IsFresh, TakesOperators, TakesOperator}
+use Rattle.wasm_operators.proofs.Runs.{ran_push, fresh_before, read_further}
 use Rattle.wasm_operators.specs.Constant.{HasNoEnd, EncodesConstantReader}
 use Rattle.wasm_operators.specs.Passing.{PassesEnd}
 use Rattle.wasm_operators.proofs.OneEnd.{passed_end}

@@ -1,26 +1,26 @@
 -- Errors: from one operator to the constant expression.
 use Rattle.std.proofs.Common.{◌≡◌, ℕ, List, [], ◌++◌, None, true, inl, inr, refl, sym, subst, ap, ◌∙◌, arith}
 use Rattle.std.proofs.lemmas.List.{append-nil}
-use Rattle.wasm_operators_readers.specs.below.bytes.error.Error.{Error}
-use Rattle.wasm_operators_readers.specs.below.bytes.message.Message.TheVariants as message
-use Rattle.wasm_operators_readers.specs.below.Fault.{HasFault}
-use Rattle.wasm_operators_readers.specs.below.FromReader.{IsRefused}
-use Rattle.wasm_operators_readers.specs.below.Source.{rest, offset_of, NoPrefix, MayFollow, IsAhead, BeginsWith}
-use Rattle.wasm_operators_readers.proofs.of_below.TakesLemmas.{ahead_before}
-use Rattle.wasm_operators_readers.specs.grammar.Frames.{frames_after}
-use Rattle.wasm_operators_readers.specs.instr.declared.operator.Operator.{Operator}
-use Rattle.wasm_operators_readers.specs.instr.declared.operator.Operator.TheVariants as operator
-use Rattle.wasm_operators_readers.specs.instr.Encoding.{EncodesOperator}
-use Rattle.wasm_operators_readers.specs.instr.Roles.{role_of}
-use Rattle.wasm_operators_readers.specs.opcodes.Allowed.{EncodesAllowed}
-use Rattle.wasm_operators_readers.specs.opcodes.OperatorFaults.{OperatorFault}
-use Rattle.wasm_operators_readers.specs.Next.{NextMayAllocate, simd}
-use Rattle.wasm_operators_readers.proofs.DecoderPremises.{takes_all, is_reading}
-use Rattle.wasm_operators_readers.specs.Expression.{Placed, operators}
-use Rattle.wasm_operators_readers.specs.Reading.{State, IsFresh, IsUnchanged, TakesOperators, TakesOperator, StopsRead}
-use Rattle.wasm_operators_readers.proofs.MemoryLemmas.{memory_needs}
-use Rattle.wasm_operators_readers.proofs.OneRead.{is_memory, may_end, refused_none}
-use Rattle.wasm_operators_readers.proofs.Runs.{ran_unchanged}
+use Rattle.wasm_below.specs.declared.error.Error.{Error}
+use Rattle.wasm_below.specs.declared.message.Message.TheVariants as message
+use Rattle.wasm_below.specs.Fault.{HasFault}
+use Rattle.wasm_below.specs.FromReader.{IsRefused}
+use Rattle.wasm_below.specs.Source.{rest, offset_of, NoPrefix, MayFollow, IsAhead, BeginsWith}
+use Rattle.wasm_below.proofs.TakesLemmas.{ahead_before}
+use Rattle.wasm_grammar.specs.Frames.{frames_after}
+use Rattle.wasm_instr.specs.declared.operator.Operator.{Operator}
+use Rattle.wasm_instr.specs.declared.operator.Operator.TheVariants as operator
+use Rattle.wasm_instr.specs.Encoding.{EncodesOperator}
+use Rattle.wasm_instr.specs.Roles.{role_of}
+use Rattle.wasm_decode_opcodes.specs.Allowed.{EncodesAllowed}
+use Rattle.wasm_decode_opcodes.specs.OperatorFaults.{OperatorFault}
+use Rattle.wasm_operators.specs.Next.{NextMayAllocate, simd}
+use Rattle.wasm_operators.proofs.DecoderPremises.{takes_all, is_reading}
+use Rattle.wasm_operators.specs.Expression.{Placed, operators}
+use Rattle.wasm_operators.specs.Reading.{State, IsFresh, IsUnchanged, TakesOperators, TakesOperator, StopsRead}
+use Rattle.wasm_operators.proofs.MemoryLemmas.{memory_needs}
+use Rattle.wasm_operators.proofs.OneRead.{is_memory, may_end, refused_none}
+use Rattle.wasm_operators.proofs.Runs.{ran_unchanged}
 use Rattle.wasm_operators.specs.Constant.{HasNoEnd, EncodesConstantReader}
 use Rattle.wasm_operators.specs.ConstantFaults.{ConstantFault, ConstantMayAllocate}
 use Rattle.wasm_operators.proofs.OneEnd.{stays_open}

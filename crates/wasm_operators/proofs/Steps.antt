@@ -1,18 +1,18 @@
 -- Readers of locals: one declaration with those before it, and all of them by the iterator.
 use Rattle.std.proofs.Common.{◌≡◌, ℕ, ◌+◌, ◌-◌, ◌<◌, ◌≤◌, List, [], ◌∷◌, ◌++◌, length, Some, Ok, Err, refl, sym, subst, ap, ◌∙◌, append_assoc, length-append, length-drop, arith, inl, inr}
-use Rattle.wasm_operators_readers.specs.below.bytes.error.Error.{Error}
-use Rattle.wasm_operators_readers.specs.below.bytes.message.Message.TheVariants as message
-use Rattle.wasm_operators_readers.specs.below.declared.types.ValType.{ValType}
-use Rattle.wasm_operators_readers.specs.below.FromReader.{IsRefused}
-use Rattle.wasm_operators_readers.specs.below.Number.{EncodesUnsigned}
-use Rattle.wasm_operators_readers.specs.below.Source.{Reader, rest, offset_of, at_position, Takes, IsRefusal, HasRead, Reads, U32Fault}
-use Rattle.wasm_operators_readers.specs.below.TypeEncoding.{EncodesValType, ValTypeFault}
-use Rattle.wasm_operators_readers.proofs.of_below.Blocks.{refused_now}
-use Rattle.wasm_operators_readers.proofs.of_below.Steps.{number_prefix_code, unsigned_some}
-use Rattle.wasm_operators_readers.proofs.of_below.TakesLemmas.{takes_none, takes_then, back}
-use Rattle.wasm_operators_readers.specs.imm.Lists.{EncodesEach}
-use Rattle.wasm_operators_readers.proofs.of_imm.ListRefusals.{as_refused}
-use Rattle.wasm_operators_readers.proofs.of_below.Sequences.{refuses_by}
+use Rattle.wasm_below.specs.declared.error.Error.{Error}
+use Rattle.wasm_below.specs.declared.message.Message.TheVariants as message
+use Rattle.wasm_below.specs.declared.types.ValType.{ValType}
+use Rattle.wasm_below.specs.FromReader.{IsRefused}
+use Rattle.wasm_below.specs.Number.{EncodesUnsigned}
+use Rattle.wasm_below.specs.Source.{Reader, rest, offset_of, at_position, Takes, IsRefusal, HasRead, Reads, U32Fault}
+use Rattle.wasm_below.specs.TypeEncoding.{EncodesValType, ValTypeFault}
+use Rattle.wasm_below.proofs.Blocks.{refused_now}
+use Rattle.wasm_below.proofs.Steps.{number_prefix_code, unsigned_some}
+use Rattle.wasm_below.proofs.TakesLemmas.{takes_none, takes_then, back}
+use Rattle.wasm_imm.specs.Lists.{EncodesEach}
+use Rattle.wasm_imm.proofs.ListRefusals.{as_refused}
+use Rattle.wasm_below.proofs.Sequences.{refuses_by}
 use Rattle.wasm_operators.specs.Locals.{Declaration, EncodesDeclaration, EncodesNext, NextFault, max_locals, Locals, ReadsDeclaration, LocalsLeft, StepsLocals, all_left, StepsAlong, HasStepped, IsPastLocals, IsResultPastLocals}
 use Rattle.wasm_operators.proofs.LocalsLemmas.{type_refused, locals_read, one_past}
 

@@ -1,23 +1,23 @@
 -- Bytes that encode no body fail in one way, unless allocation fails.
 use Rattle.std.proofs.Common.{◌≡◌, ◌≢◌, ℕ, List, [], Some, Ok, Err, sym, ap, ◌∙◌, arith, inl, inr}
-use Rattle.wasm_operators_readers.specs.below.bytes.error.Error.{Error}
-use Rattle.wasm_operators_readers.specs.below.bytes.message.Message.TheVariants as message
-use Rattle.wasm_operators_readers.specs.below.Source.{Reader, rest, offset_of, source_of}
-use Rattle.wasm_operators_readers.proofs.of_below.Blocks.{refused_now}
-use Rattle.wasm_operators_readers.specs.grammar.declared.frame_kind.FrameKind.{FrameKind}
-use Rattle.wasm_operators_readers.specs.grammar.Frames.{frames_along}
-use Rattle.wasm_operators_readers.proofs.of_grammar.Paths.{run_path}
-use Rattle.wasm_operators_readers.specs.instr.Roles.{roles_of}
-use Rattle.wasm_operators_readers.specs.Expression.{Placed, operators}
-use Rattle.wasm_operators_readers.specs.Openings.{most_open}
-use Rattle.wasm_operators_readers.specs.Reading.{State, StopsRun, TakesOperators}
-use Rattle.wasm_operators_readers.proofs.Ends.{run_determined}
-use Rattle.wasm_operators_readers.proofs.FrameMemory.{few_frames, most_few, most_least}
-use Rattle.wasm_operators_readers.proofs.Premises.{Everything}
-use Rattle.wasm_operators_readers.proofs.Runs.{run_only, fresh_before}
-use Rattle.wasm_operators_readers.proofs.DecoderPremises.{takes_all, keeps_all}
-use Rattle.wasm_operators_readers.proofs.of_decoder.DeterminedOperatorRefusals.{operator_determines}
-use Rattle.wasm_operators_readers.specs.Next.{adding}
+use Rattle.wasm_below.specs.declared.error.Error.{Error}
+use Rattle.wasm_below.specs.declared.message.Message.TheVariants as message
+use Rattle.wasm_below.specs.Source.{Reader, rest, offset_of, source_of}
+use Rattle.wasm_below.proofs.Blocks.{refused_now}
+use Rattle.wasm_grammar.specs.declared.frame_kind.FrameKind.{FrameKind}
+use Rattle.wasm_grammar.specs.Frames.{frames_along}
+use Rattle.wasm_grammar.proofs.Paths.{run_path}
+use Rattle.wasm_instr.specs.Roles.{roles_of}
+use Rattle.wasm_operators.specs.Expression.{Placed, operators}
+use Rattle.wasm_operators.specs.Openings.{most_open}
+use Rattle.wasm_operators.specs.Reading.{State, StopsRun, TakesOperators}
+use Rattle.wasm_operators.proofs.Ends.{run_determined}
+use Rattle.wasm_operators.proofs.FrameMemory.{few_frames, most_few, most_least}
+use Rattle.wasm_operators.proofs.Premises.{Everything}
+use Rattle.wasm_operators.proofs.Runs.{run_only, fresh_before}
+use Rattle.wasm_operators.proofs.DecoderPremises.{takes_all, keeps_all}
+use Rattle.wasm_decode.proofs.DeterminedOperatorRefusals.{operator_determines}
+use Rattle.wasm_operators.specs.Next.{adding}
 use Rattle.wasm_operators.specs.Body.{EncodesBody, OpensBody, NoExpression, StopsBody}
 use Rattle.wasm_operators.specs.Locals.{Declaration, EncodesLocals, RefusesLocals}
 use Rattle.wasm_operators.proofs.Bodies.{no_body, expression_after_locals}

@@ -1,12 +1,12 @@
 -- Specification: Binary Format, Modules, Code Section.
 use Rattle.std.specs.Prelude.{◌≡◌, ◌≢◌, ℕ, ◌+◌, List, [], ◌++◌, length, Result, Ok, Err, ◌⊎◌}
-use Rattle.wasm_operators_readers.specs.below.bytes.error.Error.{Error}
-use Rattle.wasm_operators_readers.specs.below.bytes.message.Message.TheVariants as message
-use Rattle.wasm_operators_readers.specs.below.Source.{Source, Reader, source_of}
-use Rattle.wasm_operators_readers.specs.Expression.{Placed, OfPlaced, EncodesExpression}
-use Rattle.wasm_operators_readers.specs.Reading.{State, IsFresh}
-use Rattle.wasm_operators_readers.specs.MainTheorem.{ReadsBeginning}
-use Rattle.wasm_operators_readers.specs.Next.{adding}
+use Rattle.wasm_below.specs.declared.error.Error.{Error}
+use Rattle.wasm_below.specs.declared.message.Message.TheVariants as message
+use Rattle.wasm_below.specs.Source.{Source, Reader, source_of}
+use Rattle.wasm_operators.specs.Expression.{Placed, OfPlaced, EncodesExpression}
+use Rattle.wasm_operators.specs.Reading.{State, IsFresh}
+use Rattle.wasm_operators.specs.MainTheorem.{ReadsBeginning}
+use Rattle.wasm_operators.specs.Next.{adding}
 use Rattle.wasm_operators.specs.Locals.{Declaration, EncodesLocals, RefusesLocals, ReadsPastLocals}
 
 -- The bytes of a source after the prefix `text`, as a source.

@@ -1,11 +1,11 @@
 -- Specification: Binary Format, Expressions; Validation, Constant Expressions.
 use Rattle.std.specs.Prelude.{◌≡◌, ◌≢◌, ℕ, List, [], ◌∷◌, ◌++◌, length}
-use Rattle.wasm_operators_readers.specs.below.bytes.features.WasmFeatures.{WasmFeatures}
-use Rattle.wasm_operators_readers.specs.below.FromReader.{IsReaderOf}
-use Rattle.wasm_operators_readers.specs.below.Source.{Source, Reader, source_of}
-use Rattle.wasm_operators_readers.specs.instr.declared.operator.Operator.{Operator}
-use Rattle.wasm_operators_readers.specs.instr.declared.operator.Operator.TheVariants as operator
-use Rattle.wasm_operators_readers.specs.Expression.{Placed, operators, EncodesExpression}
+use Rattle.wasm_below.specs.declared.features.WasmFeatures.{WasmFeatures}
+use Rattle.wasm_below.specs.FromReader.{IsReaderOf}
+use Rattle.wasm_below.specs.Source.{Source, Reader, source_of}
+use Rattle.wasm_instr.specs.declared.operator.Operator.{Operator}
+use Rattle.wasm_instr.specs.declared.operator.Operator.TheVariants as operator
+use Rattle.wasm_operators.specs.Expression.{Placed, operators, EncodesExpression}
 
 abbrev pub HasNoEnd : List Operator → Type 0
 HasNoEnd [] = Unit {0}

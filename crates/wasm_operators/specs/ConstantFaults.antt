@@ -1,17 +1,17 @@
 -- Specification: Binary Format, Expressions.
 use Rattle.std.specs.Prelude.{◌≡◌, ◌≢◌, ℕ, ◌+◌, List, [], ◌∷◌, Some, ◌⊎◌}
-use Rattle.wasm_operators_readers.specs.below.bytes.message.Message.{Message}
-use Rattle.wasm_operators_readers.specs.below.bytes.message.Message.TheVariants as message
-use Rattle.wasm_operators_readers.specs.below.Source.{Reader, rest, offset_of, Takes, NoPrefix, BeginsWith}
-use Rattle.wasm_operators_readers.specs.grammar.declared.frame_kind.FrameKind.{FrameKind}
-use Rattle.wasm_operators_readers.specs.grammar.declared.frame_kind.FrameKind.TheVariants as frame
-use Rattle.wasm_operators_readers.specs.grammar.Frames.{frames_along, innermost, without_innermost}
-use Rattle.wasm_operators_readers.specs.instr.Roles.{roles_of}
-use Rattle.wasm_operators_readers.specs.opcodes.Allowed.{EncodesAllowed}
-use Rattle.wasm_operators_readers.specs.opcodes.OperatorFaults.{OperatorFault}
-use Rattle.wasm_operators_readers.specs.Expression.{Placed, operators, LaidOut}
-use Rattle.wasm_operators_readers.specs.Next.{NextMayAllocate}
-use Rattle.wasm_operators_readers.specs.Reading.{State, IsFresh, TakesOperators}
+use Rattle.wasm_below.specs.declared.message.Message.{Message}
+use Rattle.wasm_below.specs.declared.message.Message.TheVariants as message
+use Rattle.wasm_below.specs.Source.{Reader, rest, offset_of, Takes, NoPrefix, BeginsWith}
+use Rattle.wasm_grammar.specs.declared.frame_kind.FrameKind.{FrameKind}
+use Rattle.wasm_grammar.specs.declared.frame_kind.FrameKind.TheVariants as frame
+use Rattle.wasm_grammar.specs.Frames.{frames_along, innermost, without_innermost}
+use Rattle.wasm_instr.specs.Roles.{roles_of}
+use Rattle.wasm_decode_opcodes.specs.Allowed.{EncodesAllowed}
+use Rattle.wasm_decode_opcodes.specs.OperatorFaults.{OperatorFault}
+use Rattle.wasm_operators.specs.Expression.{Placed, operators, LaidOut}
+use Rattle.wasm_operators.specs.Next.{NextMayAllocate}
+use Rattle.wasm_operators.specs.Reading.{State, IsFresh, TakesOperators}
 use Rattle.wasm_operators.specs.Constant.{HasNoEnd}
 
 -- Between the readers are operators other than `end`, which lead from the frame of an expression to

@@ -1,13 +1,3 @@
-pub use Rattle.wasm_operators_readers.specs.Expression
-pub use Rattle.wasm_operators_readers.specs.Flat
-pub use Rattle.wasm_operators_readers.specs.Openings
-pub use Rattle.wasm_operators_readers.specs.Visiting
-pub use Rattle.wasm_operators_readers.specs.Stack
-pub use Rattle.wasm_operators_readers.specs.Reading
-pub use Rattle.wasm_operators_readers.specs.MainTheorem
-pub use Rattle.wasm_operators_readers.specs.Next
-pub use Rattle.wasm_operators_readers.specs.Iterating
-pub use Rattle.wasm_operators_readers.specs.Laws
 pub mod Locals
 pub mod Body
 pub mod Constant
@@ -16,9 +6,23 @@ pub mod ConstantFaults
 pub mod Passing
 pub mod Section
 pub mod Single
-pub use Rattle.wasm_operators_readers.specs.below as below
-pub use Rattle.wasm_operators_readers.specs.imm as imm
-pub use Rattle.wasm_operators_readers.specs.grammar as grammar
-pub use Rattle.wasm_operators_readers.specs.instr as instr
-pub use Rattle.wasm_operators_readers.specs.opcodes as opcodes
-pub use Rattle.wasm_operators_readers.specs as readers
+pub use Rattle.wasm_below.specs as below
+pub use Rattle.wasm_imm.specs as imm
+pub use Rattle.wasm_grammar.specs as grammar
+pub use Rattle.wasm_instr.specs as instr
+pub use Rattle.wasm_decode_opcodes.specs as opcodes
+pub use Rattle.wasm_instr_ops.specs as instr_ops
+pub use Rattle.wasm_instr_simd.specs as instr_simd
+pub use Rattle.wasm_decode.specs as decoder
+pub mod Iterating
+pub mod Expression
+pub mod Flat
+pub mod Openings
+pub mod Visiting
+pub mod Collecting
+pub mod Stack
+pub mod Reading
+pub mod MainTheorem
+pub mod Next
+pub mod Guarded
+pub mod Laws

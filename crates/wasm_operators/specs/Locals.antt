@@ -1,16 +1,16 @@
 -- Specification: Binary Format, Modules, Code Section.
 use Rattle.std.specs.Prelude.{◌≡◌, ℕ, ◌+◌, ◌<◌, ◌≤◌, List, [], ◌∷◌, ◌++◌, ◌⊎◌, false, Option, Some, None, Result, Ok, Err}
-use Rattle.wasm_operators_readers.specs.below.bytes.error.Error.{Error}
-use Rattle.wasm_operators_readers.specs.below.bytes.message.Message.{Message}
-use Rattle.wasm_operators_readers.specs.below.bytes.message.Message.TheVariants as message
-use Rattle.wasm_operators_readers.specs.below.declared.types.ValType.{ValType}
-use Rattle.wasm_operators_readers.specs.below.Fault.{ThenFault, ManyFault}
-use Rattle.wasm_operators_readers.specs.below.FromReader.{ReadsValue}
-use Rattle.wasm_operators_readers.specs.below.Number.{EncodesUnsigned}
-use Rattle.wasm_operators_readers.specs.below.Sequence.{Then}
-use Rattle.wasm_operators_readers.specs.below.Source.{Reader, offset_of, Takes, IsRefusal, U32Fault, HasRead}
-use Rattle.wasm_operators_readers.specs.below.TypeEncoding.{EncodesValType, ValTypeFault}
-use Rattle.wasm_operators_readers.specs.imm.Lists.{EncodesMany}
+use Rattle.wasm_below.specs.declared.error.Error.{Error}
+use Rattle.wasm_below.specs.declared.message.Message.{Message}
+use Rattle.wasm_below.specs.declared.message.Message.TheVariants as message
+use Rattle.wasm_below.specs.declared.types.ValType.{ValType}
+use Rattle.wasm_below.specs.Fault.{ThenFault, ManyFault}
+use Rattle.wasm_below.specs.FromReader.{ReadsValue}
+use Rattle.wasm_below.specs.Number.{EncodesUnsigned}
+use Rattle.wasm_below.specs.Sequence.{Then}
+use Rattle.wasm_below.specs.Source.{Reader, offset_of, Takes, IsRefusal, U32Fault, HasRead}
+use Rattle.wasm_below.specs.TypeEncoding.{EncodesValType, ValTypeFault}
+use Rattle.wasm_imm.specs.Lists.{EncodesMany}
 
 -- A declaration: the number of locals, and their type.
 abbrev pub Declaration : Type 0

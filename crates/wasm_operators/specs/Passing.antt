@@ -1,11 +1,11 @@
 use Rattle.std.specs.Prelude.{◌≡◌, ◌↔◌, IsTrue, Bool, Result, Ok, Err}
-use Rattle.wasm_operators_readers.specs.below.bytes.error.Error.{Error}
-use Rattle.wasm_operators_readers.specs.instr.declared.operator.Operator.{Operator}
-use Rattle.wasm_operators_readers.specs.instr.declared.operator.Operator.TheVariants as operator
-use Rattle.wasm_operators_readers.specs.opcodes.Allowed.{EncodesAllowed}
-use Rattle.wasm_operators_readers.specs.Next.{simd}
-use Rattle.wasm_operators_readers.specs.Expression.{Placed, operators}
-use Rattle.wasm_operators_readers.specs.Reading.{State, IsUnchanged, TakesOperator, StopsRead, TakesOperators}
+use Rattle.wasm_below.specs.declared.error.Error.{Error}
+use Rattle.wasm_instr.specs.declared.operator.Operator.{Operator}
+use Rattle.wasm_instr.specs.declared.operator.Operator.TheVariants as operator
+use Rattle.wasm_decode_opcodes.specs.Allowed.{EncodesAllowed}
+use Rattle.wasm_operators.specs.Next.{simd}
+use Rattle.wasm_operators.specs.Expression.{Placed, operators}
+use Rattle.wasm_operators.specs.Reading.{State, IsUnchanged, TakesOperator, StopsRead, TakesOperators}
 use Rattle.wasm_operators.specs.Constant.{EndsOnce}
 
 -- An operator was read, and the result is whether it is `end`; or the read failed.

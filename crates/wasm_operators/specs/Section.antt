@@ -1,10 +1,10 @@
 -- Specification: Binary Format, Lists; Modules, Sections.
 use Rattle.std.specs.Prelude.{◌≡◌, ℕ, ◌+◌, ◌<◌, ◌⊎◌, Bool, true, false, List, [], Option, Some, None, Result, Ok, Err}
-use Rattle.wasm_operators_readers.specs.below.bytes.error.Error.{Error}
-use Rattle.wasm_operators_readers.specs.below.bytes.message.Message.{Message}
-use Rattle.wasm_operators_readers.specs.below.bytes.message.Message.TheVariants as message
-use Rattle.wasm_operators_readers.specs.below.FromReader.{IsRefused}
-use Rattle.wasm_operators_readers.specs.below.Source.{Reader, rest, offset_of, HasRead}
+use Rattle.wasm_below.specs.declared.error.Error.{Error}
+use Rattle.wasm_below.specs.declared.message.Message.{Message}
+use Rattle.wasm_below.specs.declared.message.Message.TheVariants as message
+use Rattle.wasm_below.specs.FromReader.{IsRefused}
+use Rattle.wasm_below.specs.Source.{Reader, rest, offset_of, HasRead}
 
 pub record Section : Type 0 where
   pub count : ℕ

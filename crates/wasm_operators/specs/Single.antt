@@ -1,11 +1,11 @@
 -- Specification: Binary Format, Instructions and Expressions.
 use Rattle.std.specs.Prelude.{◌≡◌, Option, None, Result}
-use Rattle.wasm_operators_readers.specs.below.bytes.error.Error.{Error}
-use Rattle.wasm_operators_readers.specs.below.Source.{Reader}
-use Rattle.wasm_operators_readers.specs.decoder.Reading.{DecodesOperatorIn}
-use Rattle.wasm_operators_readers.specs.grammar.declared.frame_kind.FrameKind.{FrameKind}
-use Rattle.wasm_operators_readers.specs.instr.declared.operator.Operator.{Operator}
-use Rattle.wasm_operators_readers.specs.Reading.{EndsExpression}
+use Rattle.wasm_below.specs.declared.error.Error.{Error}
+use Rattle.wasm_below.specs.Source.{Reader}
+use Rattle.wasm_decode.specs.Reading.{DecodesOperatorIn}
+use Rattle.wasm_grammar.specs.declared.frame_kind.FrameKind.{FrameKind}
+use Rattle.wasm_instr.specs.declared.operator.Operator.{Operator}
+use Rattle.wasm_operators.specs.Reading.{EndsExpression}
 
 -- The result of reading the next operator; `frame` is the innermost, if one is open.
 abbrev pub PeeksOperator : Option FrameKind → Result Operator Error → Reader → Type 0

@@ -1,16 +1,16 @@
 ghost use Rattle.std.specs.Prelude.{◌≡◌, ◌≢◌, ℕ, List, [], ◌∷◌, ◌++◌, Some, Ok};
-ghost use Rattle.wasm_operators_readers.specs.below.bytes.error.Error.{Error};
-ghost use Rattle.wasm_operators_readers.specs.below.Fault.{DeterminesRefusal};
-ghost use Rattle.wasm_operators_readers.specs.below.Sequence.{PrefixCode};
-ghost use Rattle.wasm_operators_readers.specs.below.Source.{Source, Reader, source_of};
-ghost use Rattle.wasm_operators_readers.specs.Expression.{Placed, EncodesExpression};
-ghost use Rattle.wasm_operators_readers.specs.MainTheorem.{ReadsTree, ReadsBeginning};
-ghost use Rattle.wasm_operators_readers.specs.Next.{simd, adding};
-ghost use Rattle.wasm_operators_readers.specs.Reading.{State};
+ghost use Rattle.wasm_below.specs.declared.error.Error.{Error};
+ghost use Rattle.wasm_below.specs.Fault.{DeterminesRefusal};
+ghost use Rattle.wasm_below.specs.Sequence.{PrefixCode};
+ghost use Rattle.wasm_below.specs.Source.{Source, Reader, source_of};
+ghost use Rattle.wasm_operators.specs.Expression.{Placed, EncodesExpression};
+ghost use Rattle.wasm_operators.specs.MainTheorem.{ReadsTree, ReadsBeginning};
+ghost use Rattle.wasm_operators.specs.Next.{simd, adding};
+ghost use Rattle.wasm_operators.specs.Reading.{State};
 ghost use Rattle.wasm_operators.specs.Body.{EncodesBody, OpensBody, StopsBody};
 ghost use Rattle.wasm_operators.specs.Locals.{Declaration, EncodesDeclaration, EncodesLocals, DeclarationFault, LocalsFault, NextFault, RefusesLocals, IsPastLocals, Locals, LocalsLeft, OpensLocals, StepsLocals, HasStepped, all_left};
 
-use wasm_operators_readers::below::Message;
+use wasm_below::Message;
 
 /// States that no encoding of a declaration, or of locals, is a proper prefix of another, and each
 /// has one value.

@@ -1,22 +1,20 @@
 ghost use Rattle.std.specs.Prelude.{◌≡◌, ⊤, [], IfOk};
-ghost use Rattle.wasm_operators_readers.specs.below.bytes.features.WasmFeatures.{WasmFeatures};
-ghost use Rattle.wasm_operators_readers.specs.below.Fault.{DeterminesRefusal};
-ghost use Rattle.wasm_operators_readers.specs.below.FromReader.{ReadsValue, EncodesReader, ReaderFault, SameReader};
-ghost use Rattle.wasm_operators_readers.specs.below.Sequence.{PrefixCodeUpTo};
-ghost use Rattle.wasm_operators_readers.specs.below.Source.{Reads, rest, offset_of, end_of};
-ghost use Rattle.wasm_operators_readers.specs.MainTheorem.{ReadSoFar};
+ghost use Rattle.wasm_below.specs.declared.features.WasmFeatures.{WasmFeatures};
+ghost use Rattle.wasm_below.specs.Fault.{DeterminesRefusal};
+ghost use Rattle.wasm_below.specs.FromReader.{ReadsValue, EncodesReader, ReaderFault, SameReader};
+ghost use Rattle.wasm_below.specs.Sequence.{PrefixCodeUpTo};
+ghost use Rattle.wasm_below.specs.Source.{Reads, rest, offset_of, end_of};
+ghost use Rattle.wasm_operators.specs.MainTheorem.{ReadSoFar};
 ghost use Rattle.wasm_operators.specs.Body.{OpensBody};
 ghost use Rattle.wasm_operators.specs.Locals.{OpensLocals, ReadsPastLocals};
 
+use crate::OperatorsReader;
 use crate::declarations::read_declaration;
 use crate::locals::LocalsReader;
 use std::alloc::{AllocError, Global};
 use std::marker::Model;
 use std::ops::Range;
-use wasm_operators_readers::OperatorsReader;
-use wasm_operators_readers::below::{
-    BinaryReader, FromReader, MemoryUse, Never, Result, UsesMemory,
-};
+use wasm_below::{BinaryReader, FromReader, MemoryUse, Never, Result, UsesMemory};
 
 /// A body of a function: a reader of its bytes.
 #[derive(Debug, Drop)]
@@ -25,7 +23,7 @@ pub struct FunctionBody<'a> {
 }
 
 impl<'a> Model for FunctionBody<'a> {
-    ghost use Rattle.wasm_operators_readers.specs.below.Source.{Reader};
+    ghost use Rattle.wasm_below.specs.Source.{Reader};
 
     ghost Value = { Reader };
 

@@ -1,21 +1,19 @@
 ghost use Rattle.std.specs.Prelude.{◌≡◌, [], IfOk};
-ghost use Rattle.wasm_operators_readers.specs.below.FromReader.{ReadsValue, SameReader};
-ghost use Rattle.wasm_operators_readers.specs.below.bytes.features.WasmFeatures.{WasmFeatures};
-ghost use Rattle.wasm_operators_readers.specs.below.Sequence.{PrefixCodeUpTo};
-ghost use Rattle.wasm_operators_readers.specs.below.Fault.{DeterminesRefusal};
-ghost use Rattle.wasm_operators_readers.specs.below.Source.{offset_of};
-ghost use Rattle.wasm_operators_readers.specs.Reading.{IsFresh};
-ghost use Rattle.wasm_operators_readers.specs.MainTheorem.{ReadSoFar};
+ghost use Rattle.wasm_below.specs.FromReader.{ReadsValue, SameReader};
+ghost use Rattle.wasm_below.specs.declared.features.WasmFeatures.{WasmFeatures};
+ghost use Rattle.wasm_below.specs.Sequence.{PrefixCodeUpTo};
+ghost use Rattle.wasm_below.specs.Fault.{DeterminesRefusal};
+ghost use Rattle.wasm_below.specs.Source.{offset_of};
+ghost use Rattle.wasm_operators.specs.Reading.{IsFresh};
+ghost use Rattle.wasm_operators.specs.MainTheorem.{ReadSoFar};
 ghost use Rattle.wasm_operators.specs.Constant.{EncodesConstantReader};
 ghost use Rattle.wasm_operators.specs.ConstantFaults.{ConstantFault, ConstantMayAllocate};
 
+use crate::OperatorsReader;
 use crate::passing::pass_constant;
 use std::alloc::{AllocError, Global};
 use std::marker::Model;
-use wasm_operators_readers::OperatorsReader;
-use wasm_operators_readers::below::{
-    BinaryReader, FromReader, May, MemoryUse, Message, Result, UsesMemory,
-};
+use wasm_below::{BinaryReader, FromReader, May, MemoryUse, Message, Result, UsesMemory};
 
 /// A constant expression: a reader of its bytes. Two are equal if the bytes that are left are.
 #[derive(Debug, Drop)]
@@ -24,7 +22,7 @@ pub struct ConstExpr<'a> {
 }
 
 impl<'a> Model for ConstExpr<'a> {
-    ghost use Rattle.wasm_operators_readers.specs.below.Source.{Reader};
+    ghost use Rattle.wasm_below.specs.Source.{Reader};
 
     ghost Value = { Reader };
 

@@ -1,10 +1,10 @@
-ghost use Rattle.wasm_operators_readers.specs.below.Fault.{DeterminesRefusal};
-ghost use Rattle.wasm_operators_readers.specs.below.FromReader.{SameReader};
-ghost use Rattle.wasm_operators_readers.specs.below.Sequence.{PrefixCodeUpTo};
+ghost use Rattle.wasm_below.specs.Fault.{DeterminesRefusal};
+ghost use Rattle.wasm_below.specs.FromReader.{SameReader};
+ghost use Rattle.wasm_below.specs.Sequence.{PrefixCodeUpTo};
 ghost use Rattle.wasm_operators.specs.Constant.{EncodesConstantReader};
 ghost use Rattle.wasm_operators.specs.ConstantFaults.{ConstantFault};
 
-use wasm_operators_readers::below::WasmFeatures;
+use wasm_below::WasmFeatures;
 
 /// States that no constant expression is a proper prefix of another.
 pub fn constant_expressions(features: WasmFeatures)

@@ -1,7 +1,7 @@
-ghost use Rattle.wasm_operators_readers.specs.below.Source.{Reads};
+ghost use Rattle.wasm_below.specs.Source.{Reads};
 ghost use Rattle.wasm_operators.specs.Locals.{EncodesDeclaration, DeclarationFault};
 
-use wasm_operators_readers::below::{BinaryReader, Result, ValType};
+use wasm_below::{BinaryReader, Result, ValType};
 
 /// Reads the number of locals and their type. Fails as `read_var_u32` or `ValType::read` does.
 #[inline(always)]

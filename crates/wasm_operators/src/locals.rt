@@ -1,15 +1,15 @@
 ghost use Rattle.std.specs.Prelude.{◌≡◌, List, [], IfSome, Some};
 ghost use Rattle.std.specs.Iterator.{at_most, UpTo};
 ghost use Rattle.std.specs.Iterator.SizeHint.{IsWithinCount};
-ghost use Rattle.wasm_operators_readers.specs.below.Source.{Reader, offset_of};
+ghost use Rattle.wasm_below.specs.Source.{Reader, offset_of};
 ghost use Rattle.wasm_operators.specs.Locals.{Declaration, IsPastLocals, IsResultPastLocals, OpensLocals, ReadsDeclaration, StepsLocals, HasStepped, all_left};
-ghost use Rattle.wasm_operators_readers.specs.Reading.{IsFresh};
-ghost use Rattle.wasm_operators_readers.specs.MainTheorem.{ReadSoFar};
+ghost use Rattle.wasm_operators.specs.Reading.{IsFresh};
+ghost use Rattle.wasm_operators.specs.MainTheorem.{ReadSoFar};
 
+use crate::OperatorsReader;
 use std::alloc::Global;
 use std::marker::Model;
-use wasm_operators_readers::OperatorsReader;
-use wasm_operators_readers::below::{BinaryReader, Error, Message, Result, ValType};
+use wasm_below::{BinaryReader, Error, Message, Result, ValType};
 
 /// A reader of the declarations of a body's locals, which it counts.
 #[derive(Debug, Drop)]

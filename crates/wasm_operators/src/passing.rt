@@ -1,16 +1,16 @@
 ghost use Rattle.std.specs.Prelude.{◌≡◌, ◌≢◌, [], true, IfOk, IfErr};
-ghost use Rattle.wasm_operators_readers.specs.below.Fault.{HasFault};
-ghost use Rattle.wasm_operators_readers.specs.below.FromReader.{IsRefused};
-ghost use Rattle.wasm_operators_readers.specs.below.Source.{offset_of};
-ghost use Rattle.wasm_operators_readers.specs.Reading.{IsFresh};
+ghost use Rattle.wasm_below.specs.Fault.{HasFault};
+ghost use Rattle.wasm_below.specs.FromReader.{IsRefused};
+ghost use Rattle.wasm_below.specs.Source.{offset_of};
+ghost use Rattle.wasm_operators.specs.Reading.{IsFresh};
 ghost use Rattle.wasm_operators.specs.Constant.{EncodesConstantReader};
 ghost use Rattle.wasm_operators.specs.ConstantFaults.{ConstantFault, ConstantMayAllocate};
 ghost use Rattle.wasm_operators.specs.Passing.{PassesOne, PassesEnd};
 
-use wasm_operators_readers::OperatorsReader;
-use wasm_operators_readers::below::{Error, Message, Result};
-use wasm_operators_readers::instr::FrameStack;
-use wasm_operators_readers::visitors::IsEndOperatorVisitor;
+use crate::OperatorsReader;
+use wasm_below::{Error, Message, Result};
+use wasm_instr::FrameStack;
+use wasm_visit::IsEndOperatorVisitor;
 
 /// Skips the operators up to the first `end`. Fails as `ConstExpr::read` does.
 pub fn pass_constant(operators: &mut OperatorsReader<'_>) -> Result<()>

@@ -1,12 +1,11 @@
-ghost use Rattle.wasm_operators_readers.specs.below.Source.{Reader};
-ghost use Rattle.wasm_operators_readers.specs.opcodes.Decoding.{DecodesIn, DecodesScalarIn};
+ghost use Rattle.wasm_below.specs.Source.{Reader};
+ghost use Rattle.wasm_decode_opcodes.specs.Decoding.{DecodesIn, DecodesScalarIn};
 ghost use Rattle.wasm_operators.specs.Single.{PeeksOperator, FinishesExpression};
 
 use std::alloc::Global;
-use wasm_operators_readers::below::{BinaryReader, Error, Message, Result};
-use wasm_operators_readers::decoder;
-use wasm_operators_readers::instr::{FrameStack, Operator};
-use wasm_operators_readers::visitors::VisitOperator;
+use wasm_below::{BinaryReader, Error, Message, Result};
+use wasm_instr::{FrameStack, Operator};
+use wasm_visit::VisitOperator;
 
 /// Reading of single operators, with frames that the caller keeps: each call asks once for the
 /// innermost, before anything else.
@@ -31,7 +30,7 @@ impl<'a> ReadOperators<'a> for BinaryReader<'a> {
     #[inline(always)]
     fn peek_operator<S: FrameStack>(&self, alloc: Global, stack: &S) -> Result<Operator<'a>> {
         let mut ahead = self.clone();
-        decoder::read_operator(alloc, &mut ahead, stack.current_frame())
+        wasm_decode::read_operator(alloc, &mut ahead, stack.current_frame())
     }
 
     fn finish_expression<S: FrameStack>(&self, stack: &S) -> Result<()> {
@@ -62,7 +61,7 @@ impl<'a, V: VisitOperator<'a> + FrameStack> ReadVisits<'a, V> for BinaryReader<'
     #[inline(always)]
     fn visit_operator(&mut self, alloc: Global, v: &mut V) -> Result<V::Output> {
         let frame = v.current_frame();
-        decoder::visit_operator(alloc, v, self, frame)
+        wasm_decode::visit_operator(alloc, v, self, frame)
     }
 }
 
@@ -78,6 +77,6 @@ impl<'a, V: VisitOperator<'a> + FrameStack> ReadSimdVisits<'a, V> for BinaryRead
     #[inline(always)]
     fn visit_operator_simd(&mut self, alloc: Global, v: &mut V) -> Result<V::Output> {
         let frame = v.current_frame();
-        decoder::visit_operator_simd(alloc, v, self, frame)
+        wasm_decode::visit_operator_simd(alloc, v, self, frame)
     }
 }

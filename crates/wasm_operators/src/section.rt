@@ -1,13 +1,13 @@
 ghost use Rattle.std.specs.Prelude.{◌≡◌, ◌+◌, cond, Ok, IfOk, IfErr};
 ghost use Rattle.std.specs.Iterator.{at_most};
-ghost use Rattle.wasm_operators_readers.specs.below.FromReader.{AllocatesIf};
-ghost use Rattle.wasm_operators_readers.specs.below.Number.{EncodesUnsigned};
-ghost use Rattle.wasm_operators_readers.specs.below.Source.{HasRead, IsRefusal, U32Fault};
+ghost use Rattle.wasm_below.specs.FromReader.{AllocatesIf};
+ghost use Rattle.wasm_below.specs.Number.{EncodesUnsigned};
+ghost use Rattle.wasm_below.specs.Source.{HasRead, IsRefusal, U32Fault};
 ghost use Rattle.wasm_operators.specs.Section.{StepsSection, items_of};
 
 use std::alloc::Global;
 use std::marker::{Model, PhantomData};
-use wasm_operators_readers::below::{BinaryReader, Error, FromReader, Message, Result};
+use wasm_below::{BinaryReader, Error, FromReader, Message, Result};
 
 /// A section: a number, and that many items of one type.
 #[derive(Drop)]

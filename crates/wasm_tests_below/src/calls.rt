@@ -9,7 +9,7 @@ use crate::failure::{Failure, Written};
 use crate::row::{Input, Row};
 use std::alloc::Global;
 use std::fmt::Debug;
-use wasm_imm::below::{BinaryReader, Error, Message, Result};
+use wasm_below::{BinaryReader, Error, Message, Result};
 
 #[derive(Clone, Copy)]
 enum Call {

@@ -1,6 +1,6 @@
 use std::alloc::{AllocError, AllocFailed};
 use std::num::ParseIntError;
-use wasm_imm::below::{Error, ErrorKind};
+use wasm_below::{Error, ErrorKind};
 
 #[derive(Clone, Copy, Debug)]
 pub enum Failure {

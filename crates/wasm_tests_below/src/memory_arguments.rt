@@ -6,7 +6,7 @@ mod slow;
 use crate::extent::Extent;
 use bitflags::Flags;
 use std::io::{self, Print};
-use wasm_imm::below::{BinaryReader, WasmFeatures};
+use wasm_below::{BinaryReader, WasmFeatures};
 use wasm_imm::{MemArg, MemArgKind};
 
 const TAILS: [[u8; 6]; 4] = [

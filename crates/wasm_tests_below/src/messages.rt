@@ -1,5 +1,5 @@
 use crate::failure::{Failure, Written};
-use wasm_imm::below::{
+use wasm_below::{
     Error, FrameName, InstructionName, LeadingByteName, Message, NumberName, SizeName, TypeName,
 };
 

@@ -1,5 +1,5 @@
 use crate::extent::Extent;
-use wasm_imm::below::{BinaryReader, Error, Message, NumberName};
+use wasm_below::{BinaryReader, Error, Message, NumberName};
 
 #[derive(Clone, Copy)]
 pub struct Tally {

@@ -1,7 +1,7 @@
 use crate::failure::Failure;
 use bitflags::Flags;
 use std::alloc::Global;
-use wasm_imm::below::{BinaryReader, WasmFeatures};
+use wasm_below::{BinaryReader, WasmFeatures};
 
 #[derive(Clone, Copy)]
 pub struct Row<'r> {

@@ -1,10 +1,10 @@
 ghost use Rattle.std.specs.Prelude.{◌≡◌};
-ghost use Rattle.wasm_imm.specs.below.Features.{HasFeature, memory64};
+ghost use Rattle.wasm_below.specs.Features.{HasFeature, memory64};
 
 use crate::failure::{Failure, Written};
 use bitflags::Flags;
 use std::alloc::Global;
-use wasm_imm::below::{BinaryReader, HeapType, RefType, TakesMemory, WasmFeatures};
+use wasm_below::{BinaryReader, HeapType, RefType, TakesMemory, WasmFeatures};
 use wasm_imm::{BrTable, Cast, Ieee32, Members, ReadImmediates, V128};
 
 pub fn write_scenario(alloc: Global, text: &mut String, name: &str) -> Written {

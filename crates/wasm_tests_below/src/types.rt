@@ -1,6 +1,6 @@
 use crate::extent::Extent;
 use crate::numbers::{Tally, slow_signed, slow_unsigned};
-use wasm_imm::below::{AbstractHeapType, BinaryReader, HeapType, RefType, ValType};
+use wasm_below::{AbstractHeapType, BinaryReader, HeapType, RefType, ValType};
 
 const ABSTRACT: [AbstractHeapType; 14] = [
     AbstractHeapType::Cont,

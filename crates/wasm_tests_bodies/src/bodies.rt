@@ -1,7 +1,7 @@
 use crate::row::Given;
 use crate::words::{write_bytes, write_error, write_position};
 use std::alloc::Global;
-use wasm_listing::operators::{FunctionBody, LocalsReader};
+use wasm_operators::{FunctionBody, LocalsReader};
 use wasm_tests_texts::{Written, write_value_type};
 
 /// Writes the count of local declarations, the results of as many reads as the row's argument says,

@@ -1,7 +1,7 @@
 use crate::row::Given;
 use crate::words::{is_lacking, write_bytes, write_error, write_position};
 use std::alloc::{AllocError, Global};
-use wasm_listing::operators::{BinaryReader, ConstExpr, Result, SectionLimited};
+use wasm_operators::{BinaryReader, ConstExpr, Result, SectionLimited};
 use wasm_tests_texts::Written;
 
 /// Writes a constant expression and the position after it. If allocation failed and nothing was

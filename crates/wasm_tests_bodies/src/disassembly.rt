@@ -2,15 +2,14 @@ use crate::row::Given;
 use crate::single::Under;
 use crate::words::{write_error, write_lines};
 use std::alloc::{AllocError, Global};
-use wasm_disassembly::lines::text;
 use wasm_disassembly::{DisassemblyFault, disassemble};
-use wasm_listing::operators::{FunctionBody, ReadOperators};
+use wasm_operators::{FunctionBody, ReadOperators};
 use wasm_tests_texts::Written;
 
 pub fn write_text(alloc: Global, given: Given<'_>, out: &mut String) -> Written {
     let reader = given.reader();
     match reader.peek_operator(alloc, &Under(given.frame())) {
-        Ok(op) => text::write_operator(out, &op),
+        Ok(op) => wasm_text::write_operator(out, &op),
         Err(e) => write_error(out, e),
     }
 }

@@ -2,8 +2,8 @@ use crate::listing::write_run;
 use crate::row::Given;
 use std::alloc::{AllocError, Global};
 use std::io::{self, Read, Write};
-use wasm_listing::operators::WasmFeatures;
 use wasm_listing::{DumpFault, run};
+use wasm_operators::WasmFeatures;
 use wasm_tests_texts::Written;
 
 /// Gives one byte a call, and fails at one call.

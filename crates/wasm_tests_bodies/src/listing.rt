@@ -2,8 +2,8 @@ use crate::row::Given;
 use crate::words::{write_error, write_lines};
 use bitflags::Flags;
 use std::alloc::{AllocError, Global};
-use wasm_listing::operators::WasmFeatures;
 use wasm_listing::{DumpFault, census, features_of, proposal_at, run};
+use wasm_operators::WasmFeatures;
 use wasm_tests_texts::Written;
 
 pub fn write_listing(

@@ -1,11 +1,11 @@
 use crate::row::Given;
 use crate::words::{write_error, write_name, write_position};
 use std::alloc::AllocError;
-use wasm_listing::operators::{BinaryReader, Result};
 use wasm_module::{
     CompositeType, CustomSection, Export, Import, NameAssociation, read_preamble,
     read_rec_type_len, read_section,
 };
+use wasm_operators::{BinaryReader, Result};
 use wasm_tests_texts::Written;
 
 const ITEMS: u32 = 8;

@@ -1,5 +1,5 @@
 use wasm_listing::features_of;
-use wasm_listing::operators::{BinaryReader, FrameKind, WasmFeatures};
+use wasm_operators::{BinaryReader, FrameKind, WasmFeatures};
 use wasm_tests_texts::frame_named;
 
 #[derive(Clone, Copy, Debug)]

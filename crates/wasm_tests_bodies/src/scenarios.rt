@@ -3,8 +3,8 @@
 use crate::constants::write_equal_constants;
 use crate::row::Given;
 use std::alloc::Global;
-use wasm_listing::operators::{Error, Message, OperatorsReaderAllocations};
 use wasm_listing::{Census, DumpFault};
+use wasm_operators::{Error, Message, OperatorsReaderAllocations};
 use wasm_tests_texts::Written;
 
 pub fn write_scenario(alloc: Global, given: Given<'_>, out: &mut String) -> Written {

@@ -1,7 +1,7 @@
 use crate::row::Given;
 use crate::words::{write_bytes, write_error};
 use std::alloc::Global;
-use wasm_listing::operators::{CodeSectionReader, FunctionBody, Operator, Result, SectionLimited};
+use wasm_operators::{CodeSectionReader, FunctionBody, Operator, Result, SectionLimited};
 use wasm_tests_texts::Written;
 
 pub fn write_numbers(alloc: Global, given: Given<'_>, out: &mut String) -> Written {

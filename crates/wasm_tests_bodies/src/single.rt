@@ -1,7 +1,7 @@
 use crate::row::Given;
 use crate::words::{is_lacking, write_error, write_position};
 use std::alloc::Global;
-use wasm_listing::operators::{
+use wasm_operators::{
     BinaryReader, BrTable, ByAny, FrameKind, FrameStack, Operator, OperatorsReader, ReadOperators,
     ReadSimdVisits, ReadVisits, Result, VisitOperator, Visitor, visit_operator_with_simd,
 };

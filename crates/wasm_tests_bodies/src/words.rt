@@ -1,5 +1,5 @@
 use std::alloc::AllocError;
-use wasm_listing::operators::{BinaryReader, Error, Message, Result};
+use wasm_operators::{BinaryReader, Error, Message, Result};
 use wasm_tests_texts::Written;
 
 pub fn write_error(out: &mut String, e: Error) -> Written {

@@ -1,7 +1,7 @@
 use Rattle.std.proofs.Common.{◌≡◌, ℕ, suc, ◌+◌, [], ◌∷◌, length, Some, refl, sym, subst, ap, ◌∙◌, arith}
-use Rattle.wasm_decode.specs.below.Number.{EncodesUnsigned}
-use Rattle.wasm_decode.specs.below.Source.{Reader, at_position, Takes, HasRead, IsByte}
-use Rattle.wasm_decode.specs.opcodes.Decoding.{IsAfterCode}
+use Rattle.wasm_below.specs.Number.{EncodesUnsigned}
+use Rattle.wasm_below.specs.Source.{Reader, at_position, Takes, HasRead, IsByte}
+use Rattle.wasm_decode_opcodes.specs.Decoding.{IsAfterCode}
 
 pub after_both : (old mid new : Reader) (start byte code : ℕ) → start ≡ old.position → HasRead IsByte byte old mid → HasRead (EncodesUnsigned 32) code mid new →
     IsAfterCode start (Some byte) code new

@@ -7,9 +7,9 @@ use crate::runs::{
 use crate::task::Task;
 use crate::teller::Teller;
 use std::alloc::{AllocError, Global};
-use wasm_decode::instr::Operator;
-use wasm_decode::visitors::visit_operator_with_simd;
+use wasm_instr::Operator;
 use wasm_tests_texts::Written;
+use wasm_visit::visit_operator_with_simd;
 
 #[derive(Drop)]
 pub struct Texts {

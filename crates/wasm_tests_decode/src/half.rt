@@ -1,13 +1,14 @@
 //! Visits a SIMD operator by the call for its half of the subopcodes: below 0x80, or from 0x80 on.
 //! A visit from bytes makes that call only for operators with immediates.
 ghost use Rattle.std.specs.Prelude.{◌≡◌, Some, IfSome};
-ghost use Rattle.wasm_decode.specs.opcodes.Decoding.{IsAfterCode};
+ghost use Rattle.wasm_decode_opcodes.specs.Decoding.{IsAfterCode};
 
 use crate::runs::{Reported, reader_at};
 use crate::task::Task;
 use crate::teller::Teller;
-use wasm_decode::below::{BinaryReader, Result};
-use wasm_decode::visitors::{GroupSimdHigh, GroupSimdLow, Visitor};
+use wasm_below::{BinaryReader, Result};
+use wasm_visit::{GroupSimdHigh, GroupSimdLow};
+use wasm_visit_groups::Visitor;
 
 /// Returns the decoding call's result and the position; `None` without the byte 0xfd and a
 /// subopcode.

@@ -1,11 +1,11 @@
 //! The visits that `Teller` overrides: some of each group, with its first and its last operator.
 
 use crate::teller::Teller;
-use wasm_decode::imm::{MemArg, Ordering};
-use wasm_decode::instr::{
-    AtomicOperator, GcOperator, MiscOperator, NumericOperator, Operator, SimdOperator,
-};
-use wasm_decode::visitors::{
+use wasm_imm::{MemArg, Ordering};
+use wasm_instr::Operator;
+use wasm_instr_ops::{AtomicOperator, GcOperator, MiscOperator, NumericOperator};
+use wasm_instr_simd::SimdOperator;
+use wasm_visit_groups::{
     VisitAtomic, VisitGc, VisitMisc, VisitNumeric, VisitOneByte, VisitSimdHigh, VisitSimdLow,
     Visitor,
 };

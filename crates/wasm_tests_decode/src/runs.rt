@@ -4,11 +4,11 @@ use crate::own::Call;
 use crate::task::Task;
 use crate::teller::Teller;
 use std::alloc::Global;
-use wasm_decode::below::{BinaryReader, Error, Result};
-use wasm_decode::instr::Operator;
-use wasm_decode::visitors::OperatorFactory;
+use wasm_below::{BinaryReader, Error, Result};
 use wasm_decode::{read_operator, visit_operator, visit_operator_simd};
+use wasm_instr::Operator;
 use wasm_tests_texts::{Written, write_operator};
+use wasm_visit::OperatorFactory;
 
 /// Creates a reader at a task's operator, or at the start of data that is too short.
 pub fn reader_at<'a>(task: Task, bytes: &'a [u8]) -> BinaryReader<'a> {

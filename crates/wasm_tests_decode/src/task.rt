@@ -1,6 +1,6 @@
 use bitflags::Flags;
-use wasm_decode::below::WasmFeatures;
-use wasm_decode::instr::FrameKind;
+use wasm_below::WasmFeatures;
+use wasm_grammar::FrameKind;
 use wasm_tests_texts::frame_named;
 
 #[derive(Clone, Copy, Debug)]

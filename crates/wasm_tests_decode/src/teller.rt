@@ -1,16 +1,20 @@
 use crate::own::Call;
 use std::alloc::Global;
-use wasm_decode::below::{BinaryReader, Result};
-use wasm_decode::grammar::FrameKind;
-use wasm_decode::instr::{
-    AtomicOperator, BrTable, GcOperator, MiscOperator, NumericOperator, Operator, SimdOperator,
-};
-use wasm_decode::visitors::{
-    ByAny, CallAtomic, CallGc, CallMisc, CallNumeric, CallOneByte, CallSimdHigh, CallSimdLow,
-    OnceAtomic, OnceGc, OnceMisc, OnceNumeric, OnceOneByte, OnceSimdHigh, OnceSimdLow,
-    VisitOperator, Visitor, decode, dispatch,
-};
+use wasm_below::{BinaryReader, Result};
+use wasm_grammar::FrameKind;
+use wasm_imm::BrTable;
+use wasm_instr::Operator;
+use wasm_instr_ops::{AtomicOperator, GcOperator, MiscOperator, NumericOperator};
+use wasm_instr_simd::SimdOperator;
 use wasm_tests_texts::write_operator;
+use wasm_visit::{
+    CallAtomic, CallGc, CallMisc, CallNumeric, CallOneByte, CallSimdHigh, CallSimdLow,
+    VisitOperator, dispatch,
+};
+use wasm_visit_groups::{
+    ByAny, OnceAtomic, OnceGc, OnceMisc, OnceNumeric, OnceOneByte, OnceSimdHigh, OnceSimdLow,
+    Visitor,
+};
 
 /// Writes the operators that it visits, and returns which call it received. It overrides all
 /// visits; ten functions pass it on, so its calls compare the visits once.
@@ -65,7 +69,7 @@ impl CallOneByte for Teller {
         frame: FrameKind,
         code: u8,
     ) -> Result<Self::Output> {
-        decode::one_byte(alloc, self, reader, start, frame, code)
+        wasm_decode_groups::one_byte(alloc, self, reader, start, frame, code)
     }
 }
 
@@ -75,7 +79,7 @@ impl CallNumeric for Teller {
     }
 
     fn decode_numeric(&mut self, code: u8) -> Self::Output {
-        decode::numeric(self, code)
+        wasm_decode_groups::numeric(self, code)
     }
 }
 
@@ -90,7 +94,7 @@ impl CallGc for Teller {
         start: usize,
         code: u32,
     ) -> Result<Self::Output> {
-        decode::gc(self, reader, start, code)
+        wasm_decode_groups::gc(self, reader, start, code)
     }
 }
 
@@ -105,7 +109,7 @@ impl CallMisc for Teller {
         start: usize,
         code: u32,
     ) -> Result<Self::Output> {
-        decode::misc(self, reader, start, code)
+        wasm_decode_groups::misc(self, reader, start, code)
     }
 }
 
@@ -120,7 +124,7 @@ impl CallAtomic for Teller {
         start: usize,
         code: u32,
     ) -> Result<Self::Output> {
-        decode::atomic(self, reader, start, code)
+        wasm_decode_groups::atomic(self, reader, start, code)
     }
 }
 
@@ -135,7 +139,7 @@ impl CallSimdLow for Teller {
         start: usize,
         code: u32,
     ) -> Result<Self::Output> {
-        decode::simd_low(self, reader, start, code)
+        wasm_decode_groups::simd_low(self, reader, start, code)
     }
 }
 
@@ -150,7 +154,7 @@ impl CallSimdHigh for Teller {
         start: usize,
         code: u32,
     ) -> Result<Self::Output> {
-        decode::simd_high(self, reader, start, code)
+        wasm_decode_groups::simd_high(self, reader, start, code)
     }
 }
 

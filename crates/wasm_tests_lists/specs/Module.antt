@@ -1,7 +1,7 @@
 use Rattle.std.specs.Prelude.{ℕ, ◌==◌, if◌then◌else◌, Option, Some, None}
-use Rattle.wasm_decode.specs.grammar.declared.frame_kind.FrameKind.TheVariants as frame
-use Rattle.wasm_decode.specs.imm.control.block_type.BlockType.TheVariants as block
-use Rattle.wasm_decode.specs.instr.ModuleFacts.{ModuleFacts}
+use Rattle.wasm_grammar.specs.declared.frame_kind.FrameKind.TheVariants as frame
+use Rattle.wasm_imm.specs.declared.block_type.BlockType.TheVariants as block
+use Rattle.wasm_instr.specs.ModuleFacts.{ModuleFacts}
 use Rattle.wasm_tests_lists.specs.declared.uniform.Uniform.{Uniform}
 
 abbrev pub at_index : {X : Type 0} → ℕ → X → (ℕ → Option X) → ℕ → Option X

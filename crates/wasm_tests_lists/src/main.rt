@@ -14,13 +14,13 @@ use crate::rows::print_rows;
 use crate::visitors::print_visitors;
 use std::alloc::Global;
 use std::io::{self, Print};
-use wasm_decode::below::BinaryReader;
-use wasm_decode::instr::Operator;
+use wasm_below::BinaryReader;
 use wasm_decode::read_operator;
-use wasm_decode::visitors::{
+use wasm_instr::Operator;
+use wasm_tests_texts::{frame_named, read_hex, read_input};
+use wasm_visit::{
     IsEndOperatorVisitor, OperatorFactory, visit_operator_with_simd, visit_owned_simd,
 };
-use wasm_tests_texts::{frame_named, read_hex, read_input};
 
 fn main(rt: HostRuntime) -> io::Result<()> {
     let alloc = rt.alloc();

@@ -1,5 +1,6 @@
-use wasm_decode::imm::BlockType;
-use wasm_decode::instr::{FrameKind, ModuleArity};
+use wasm_grammar::FrameKind;
+use wasm_imm::BlockType;
+use wasm_instr::ModuleArity;
 
 /// A module whose methods return `Some` only for the index 0, or for the indices listed here.
 ///

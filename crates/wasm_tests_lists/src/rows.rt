@@ -1,8 +1,10 @@
 use crate::module::Module;
 use crate::uniform::Uniform;
 use std::io::{self, Print};
-use wasm_decode::imm::{BlockType, MemArg, MemArgTarget};
-use wasm_decode::instr::{AtomicOperator, GcOperator, ModuleArity, Operator, SimdOperator};
+use wasm_imm::{BlockType, MemArg, MemArgTarget};
+use wasm_instr::{ModuleArity, Operator};
+use wasm_instr_ops::{AtomicOperator, GcOperator};
+use wasm_instr_simd::SimdOperator;
 
 /// Prints arities in edge cases: queries without a result, numbers out of range, and targets that
 /// are arrays.

@@ -1,5 +1,6 @@
-use wasm_decode::imm::BlockType;
-use wasm_decode::instr::{FrameKind, ModuleArity};
+use wasm_grammar::FrameKind;
+use wasm_imm::BlockType;
+use wasm_instr::ModuleArity;
 
 #[derive(Drop)]
 pub struct Uniform {

@@ -15,9 +15,10 @@ use crate::visitors::printer::Printer;
 use crate::visitors::reports::Reports;
 use std::alloc::Global;
 use std::io::{self, Print};
-use wasm_decode::below::ValType;
-use wasm_decode::instr::{Operator, SelectTypes};
-use wasm_decode::visitors::{
+use wasm_below::ValType;
+use wasm_imm::SelectTypes;
+use wasm_instr::Operator;
+use wasm_visit::{
     OperatorFactory, OperatorMaker, visit_operator, visit_operator_with_simd, visit_owned_simd,
 };
 

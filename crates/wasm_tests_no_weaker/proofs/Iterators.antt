@@ -1,9 +1,9 @@
 -- The steps of an iterator, and what its drop reads.
 use Rattle.std.proofs.Common.{ℕ, zero, suc, Bool, List, inl, inr, Option, Some, None, Result, Ok, Err}
-use Rattle.wasm_imm.specs.below.bytes.error.Error.{Error}
-use Rattle.wasm_imm.specs.below.bytes.message.Message.{Message}
-use Rattle.wasm_imm.specs.below.FromReader.{AllocatesIf, StepsItems, ReadsOn}
-use Rattle.wasm_imm.specs.below.Source.{Reader}
+use Rattle.wasm_below.specs.declared.error.Error.{Error}
+use Rattle.wasm_below.specs.declared.message.Message.{Message}
+use Rattle.wasm_below.specs.FromReader.{AllocatesIf, StepsItems, ReadsOn}
+use Rattle.wasm_below.specs.Source.{Reader}
 use Rattle.wasm_tests_no_weaker.specs.Before.{StepsItemsBefore, ReadOnBefore}
 use Rattle.wasm_tests_no_weaker.proofs.Memory.{value_before}
 

@@ -1,8 +1,8 @@
 use Rattle.std.proofs.Common.{◌≡◌, ℕ, Bool, true, false, List, Err, refl}
-use Rattle.wasm_imm.specs.below.bytes.error.Error.{Error}
-use Rattle.wasm_imm.specs.below.bytes.message.Message.{Message}
-use Rattle.wasm_imm.specs.below.FromReader.{AllocatesIf, ReadsValue}
-use Rattle.wasm_imm.specs.below.Source.{Reader}
+use Rattle.wasm_below.specs.declared.error.Error.{Error}
+use Rattle.wasm_below.specs.declared.message.Message.{Message}
+use Rattle.wasm_below.specs.FromReader.{AllocatesIf, ReadsValue}
+use Rattle.wasm_below.specs.Source.{Reader}
 use Rattle.wasm_tests_no_weaker.specs.Before.{NeedsMemory, ReadValueBefore}
 
 takes : (b : Bool) (M : Reader → Type 0) (r : Reader) → AllocatesIf b M r → b ≡ true

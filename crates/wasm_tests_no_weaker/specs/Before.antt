@@ -1,10 +1,10 @@
 -- The definitions before readings had one clause, word for word.
 use Rattle.std.specs.Prelude.{◌≡◌, ◌≢◌, ℕ, zero, suc, ◌+◌, ◌<◌, ◌≤◌, ◌⊎◌, Bool, true, List, Result, Ok, Err, Option, Some, None}
-use Rattle.wasm_imm.specs.below.bytes.error.Error.{Error}
-use Rattle.wasm_imm.specs.below.bytes.message.Message.{Message}
-use Rattle.wasm_imm.specs.below.bytes.message.Message.TheVariants as message
-use Rattle.wasm_imm.specs.below.Refusal.{IsReadFault}
-use Rattle.wasm_imm.specs.below.Source.{Reader, rest, offset_of, end_of, Takes, Refuses, IsAhead, IsRefusal, EndFault, EndsWithin}
+use Rattle.wasm_below.specs.declared.error.Error.{Error}
+use Rattle.wasm_below.specs.declared.message.Message.{Message}
+use Rattle.wasm_below.specs.declared.message.Message.TheVariants as message
+use Rattle.wasm_below.specs.Refusal.{IsReadFault}
+use Rattle.wasm_below.specs.Source.{Reader, rest, offset_of, end_of, Takes, Refuses, IsAhead, IsRefusal, EndFault, EndsWithin}
 
 abbrev pub HasFault : (Message → Reader → ℕ → Type 0) → Error → Reader → Type 0
 HasFault Fault e r = e.message ≢ message.OutOfMemory → Fault e.message r e.offset

@@ -3,10 +3,10 @@
 
 ghost use Rattle.std.specs.Prelude.{◌≡◌, ◌≤◌, IfOk, IfErr, true};
 ghost use Rattle.std.specs.Int.{w32, w64};
-ghost use Rattle.wasm_imm.specs.below.Number.{EncodesUnsigned, EncodesSigned, EncodesFixed, EncodesSize};
-ghost use Rattle.wasm_imm.specs.below.FromReader.{EncodesReader, ReaderFault};
-ghost use Rattle.wasm_imm.specs.below.Source.{IsByte, IsBlock, U32Fault, U64Fault, I32Fault, S33Fault, I64Fault, CountFault, NoPrefix, SomePrefix, rest, offset_of};
-ghost use Rattle.wasm_imm.specs.below.TypeEncoding.{EncodesHeapType, EncodesRefType, EncodesValType, HeapTypeFault, RefTypeFault, ValTypeFault};
+ghost use Rattle.wasm_below.specs.Number.{EncodesUnsigned, EncodesSigned, EncodesFixed, EncodesSize};
+ghost use Rattle.wasm_below.specs.FromReader.{EncodesReader, ReaderFault};
+ghost use Rattle.wasm_below.specs.Source.{IsByte, IsBlock, U32Fault, U64Fault, I32Fault, S33Fault, I64Fault, CountFault, NoPrefix, SomePrefix, rest, offset_of};
+ghost use Rattle.wasm_below.specs.TypeEncoding.{EncodesHeapType, EncodesRefType, EncodesValType, HeapTypeFault, RefTypeFault, ValTypeFault};
 ghost use Rattle.wasm_imm.specs.BlockTypes.{EncodesBlockType};
 ghost use Rattle.wasm_imm.specs.BlockTypeFaults.{BlockTypeFault};
 ghost use Rattle.wasm_imm.specs.BranchTables.{EncodesBranchTable};
@@ -25,7 +25,7 @@ ghost use Rattle.wasm_imm.specs.Vectors.{EncodesSixteen, EncodesVector, LanesFau
 ghost use Rattle.wasm_tests_no_weaker.specs.Before.{HasFault, NeedsMemory, IsEndHere, IsShort, ReadBefore, ReadFromBefore, ReadValueBefore};
 
 use std::alloc::Global;
-use wasm_imm::below::{
+use wasm_below::{
     BinaryReader, FromReader, HeapType, MemoryUse, Message, RefType, Result, SizeName, UsesMemory,
     ValType,
 };

@@ -1,14 +1,14 @@
 use Rattle.std.proofs.Common.{◌≡◌, ◌≤◌, ℕ, true, false, List, Result, Ok, Err, IfErr, refl}
-use Rattle.wasm_operators_readers.specs.below.bytes.error.Error.{Error}
-use Rattle.wasm_operators_readers.specs.below.bytes.message.Message.{Message}
-use Rattle.wasm_operators_readers.specs.below.bytes.message.Message.TheVariants as message
-use Rattle.wasm_operators_readers.specs.below.FromReader.{IsRefused}
-use Rattle.wasm_operators_readers.specs.below.Source.{Reader, rest, NoPrefix, SomePrefix}
-use Rattle.wasm_operators_readers.specs.instr.declared.operator.Operator.{Operator}
-use Rattle.wasm_operators_readers.specs.instr.Immediate.{Immediate, Kind}
-use Rattle.wasm_operators_readers.specs.opcodes.Decoding.{DecodesOperator, Decodes, ReadsKinds, GoesBack, StaysAhead}
-use Rattle.wasm_operators_readers.specs.opcodes.Owners.{EncodesWithoutList}
-use Rattle.wasm_operators_readers.specs.opcodes.Refused.{MayAllocate, EncodesToCount, KindsMayAllocate}
+use Rattle.wasm_operators.specs.below.declared.error.Error.{Error}
+use Rattle.wasm_operators.specs.below.declared.message.Message.{Message}
+use Rattle.wasm_operators.specs.below.declared.message.Message.TheVariants as message
+use Rattle.wasm_operators.specs.below.FromReader.{IsRefused}
+use Rattle.wasm_operators.specs.below.Source.{Reader, rest, NoPrefix, SomePrefix}
+use Rattle.wasm_operators.specs.instr.declared.operator.Operator.{Operator}
+use Rattle.wasm_operators.specs.imm.Immediate.{Immediate, Kind}
+use Rattle.wasm_operators.specs.opcodes.Decoding.{DecodesOperator, Decodes, ReadsKinds, GoesBack, StaysAhead}
+use Rattle.wasm_operators.specs.opcodes.Owners.{EncodesWithoutList}
+use Rattle.wasm_operators.specs.opcodes.Refused.{MayAllocate, EncodesToCount, KindsMayAllocate}
 use Rattle.wasm_tests_old_clauses.specs.Before.{IsRefusedOperator, DecodesBefore, DecodesOperatorBefore, KindsBefore, ImmediatesBefore}
 
 refused : (E : List ℕ → Operator → Type 0) (F : Message → Reader → ℕ → Type 0) (e : Error) (old : Reader) → IsRefused E F (MayAllocate E) e old → IsRefusedOperator E e old

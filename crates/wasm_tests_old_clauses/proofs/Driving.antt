@@ -1,12 +1,12 @@
 use Rattle.std.proofs.Common.{◌≡◌, ℕ, List, Result, Ok, Err, IfErr, ◌⊎◌}
-use Rattle.wasm_operators_readers.specs.below.bytes.error.Error.{Error}
-use Rattle.wasm_operators_readers.specs.below.bytes.message.Message.{Message}
-use Rattle.wasm_operators_readers.specs.below.bytes.message.Message.TheVariants as message
-use Rattle.wasm_operators_readers.specs.below.Source.{Source, Reader, source_of}
-use Rattle.wasm_operators_readers.specs.instr.declared.operator.Operator.{Operator}
-use Rattle.wasm_operators_readers.specs.Expression.{Placed, OfPlaced, IsAny, IsLongestAfter}
-use Rattle.wasm_operators_readers.specs.Reading.{Decoder, State, RunsToEnd}
-use Rattle.wasm_operators_readers.specs.MainTheorem.{BeginningAt, ReadsBeginning, ReadsFlat, ReadsRestAfter}
+use Rattle.wasm_operators.specs.below.declared.error.Error.{Error}
+use Rattle.wasm_operators.specs.below.declared.message.Message.{Message}
+use Rattle.wasm_operators.specs.below.declared.message.Message.TheVariants as message
+use Rattle.wasm_operators.specs.below.Source.{Source, Reader, source_of}
+use Rattle.wasm_operators.specs.instr.declared.operator.Operator.{Operator}
+use Rattle.wasm_operators.specs.Expression.{Placed, OfPlaced, IsAny, IsLongestAfter}
+use Rattle.wasm_operators.specs.Reading.{Decoder, State, RunsToEnd}
+use Rattle.wasm_operators.specs.MainTheorem.{BeginningAt, ReadsBeginning, ReadsFlat, ReadsRestAfter}
 use Rattle.wasm_tests_old_clauses.specs.Before.{IsLongestOf, RunsBefore, BeginningAt as BeginningBefore, ReadsBeginning as ReadsBeginningBefore, FlatBefore, RestBefore}
 
 at_before : (Kept : OfPlaced) (m : Message) (before : List Operator) (r : Reader) (placed : Placed) → BeginningAt Kept m before r placed → BeginningBefore Kept m before r placed

@@ -1,21 +1,21 @@
 -- The definitions before each idea was one relation, word for word.
 use Rattle.std.specs.Prelude.{◌≡◌, ◌↔◌, ℕ, ◌+◌, ◌≤◌, Bool, true, List, [], ◌++◌, length, Option, Result, Ok, Err, IsOk, IfErr, OnOk, ◌⊎◌}
-use Rattle.wasm_operators_readers.specs.below.bytes.error.Error.{Error}
-use Rattle.wasm_operators_readers.specs.below.bytes.message.Message.{Message}
-use Rattle.wasm_operators_readers.specs.below.bytes.message.Message.TheVariants as message
-use Rattle.wasm_operators_readers.specs.below.Fault.{HasFault}
-use Rattle.wasm_operators_readers.specs.below.Source.{Source, Reader, rest, offset_of, source_of, at_position, Takes, Refuses, IsAhead}
-use Rattle.wasm_operators_readers.specs.grammar.declared.frame_kind.FrameKind.{FrameKind}
-use Rattle.wasm_operators_readers.specs.instr.declared.operator.Operator.{Operator}
-use Rattle.wasm_operators_readers.specs.instr.Immediate.{Immediate, Kind}
-use Rattle.wasm_operators_readers.specs.opcodes.Allowed.{EncodesAllowed, EncodesScalar, EncodesIn}
-use Rattle.wasm_operators_readers.specs.opcodes.Kinds.{EncodesKinds}
-use Rattle.wasm_operators_readers.specs.opcodes.OperatorFaults.{KindsFault, OperatorFault, ScalarOperatorFault, FaultIn}
-use Rattle.wasm_operators_readers.specs.opcodes.Refused.{MayAllocate}
-use Rattle.wasm_operators_readers.specs.Expression.{Placed, OfPlaced, IsAny, operators, LaidOut, EncodesRest, IsPrefixAfter}
-use Rattle.wasm_operators_readers.specs.Flat.{IsAllowedFrom}
-use Rattle.wasm_operators_readers.specs.Reading.{Taking, Refusing, Allocating, State, NoFrameOpen, IsRefusedThere, NoMemory, FramesLeft, TakesOperators}
-use Rattle.wasm_operators_readers.specs.MainTheorem.{ReadSoFar, ReadsTree, SomeCame, IsNotOutOfMemory, ClosesFrom, IsCut, CutFault, IsCompletedIfCut}
+use Rattle.wasm_operators.specs.below.declared.error.Error.{Error}
+use Rattle.wasm_operators.specs.below.declared.message.Message.{Message}
+use Rattle.wasm_operators.specs.below.declared.message.Message.TheVariants as message
+use Rattle.wasm_operators.specs.below.Fault.{HasFault}
+use Rattle.wasm_operators.specs.below.Source.{Source, Reader, rest, offset_of, source_of, at_position, Takes, Refuses, IsAhead}
+use Rattle.wasm_operators.specs.grammar.declared.frame_kind.FrameKind.{FrameKind}
+use Rattle.wasm_operators.specs.instr.declared.operator.Operator.{Operator}
+use Rattle.wasm_operators.specs.imm.Immediate.{Immediate, Kind}
+use Rattle.wasm_operators.specs.opcodes.Allowed.{EncodesAllowed, EncodesScalar, EncodesIn}
+use Rattle.wasm_operators.specs.opcodes.Kinds.{EncodesKinds}
+use Rattle.wasm_operators.specs.opcodes.OperatorFaults.{KindsFault, OperatorFault, ScalarOperatorFault, FaultIn}
+use Rattle.wasm_operators.specs.opcodes.Refused.{MayAllocate}
+use Rattle.wasm_operators.specs.Expression.{Placed, OfPlaced, IsAny, operators, LaidOut, EncodesRest, IsPrefixAfter}
+use Rattle.wasm_operators.specs.Flat.{IsAllowedFrom}
+use Rattle.wasm_operators.specs.Reading.{Taking, Refusing, Allocating, State, NoFrameOpen, IsRefusedThere, NoMemory, FramesLeft, TakesOperators}
+use Rattle.wasm_operators.specs.MainTheorem.{ReadSoFar, ReadsTree, SomeCame, IsNotOutOfMemory, ClosesFrom, IsCut, CutFault, IsCompletedIfCut}
 
 pub record IsRefusedOperator (Encodes : List ℕ → Operator → Type 0) (e : Error) (old : Reader) : Type 0 where
   pub refuses : Refuses Encodes (rest old) e.message

@@ -3,29 +3,25 @@
 #![tactic(auto)]
 
 ghost use Rattle.std.specs.Prelude.{◌≡◌, ℕ, true, false, List, Result, IfErr};
-ghost use Rattle.wasm_operators_readers.specs.below.bytes.error.Error.{Error};
-ghost use Rattle.wasm_operators_readers.specs.below.bytes.message.Message.TheVariants as message;
-ghost use Rattle.wasm_operators_readers.specs.below.Source.{Reader, rest, NoPrefix, SomePrefix};
-ghost use Rattle.wasm_operators_readers.specs.instr.declared.operator.Operator.{Operator};
-ghost use Rattle.wasm_operators_readers.specs.instr.Immediate.{Immediate, Kind};
-ghost use Rattle.wasm_operators_readers.specs.opcodes.Allowed.{EncodesAllowed, EncodesScalar};
-ghost use Rattle.wasm_operators_readers.specs.opcodes.Decoding.{ReadsKinds, GoesBack, StaysAhead};
-ghost use Rattle.wasm_operators_readers.specs.opcodes.OperatorFaults.{OperatorFault, ScalarOperatorFault};
-ghost use Rattle.wasm_operators_readers.specs.opcodes.Owners.{EncodesWithoutList};
-ghost use Rattle.wasm_operators_readers.specs.opcodes.Refused.{EncodesToCount, KindsMayAllocate};
-ghost use Rattle.wasm_operators_readers.specs.Expression.{IsAny};
-ghost use Rattle.wasm_operators_readers.specs.MainTheorem.{ReadSoFar};
-ghost use Rattle.wasm_operators_readers.specs.Next.{NextMayAllocate};
-ghost use Rattle.wasm_operators_readers.specs.Reading.{Adds, Anywhere};
-ghost use Rattle.wasm_operators_readers.specs.Visiting.{Visited, VisitedScalar, IsScalar};
+ghost use Rattle.wasm_operators.specs.below.declared.error.Error.{Error};
+ghost use Rattle.wasm_operators.specs.below.declared.message.Message.TheVariants as message;
+ghost use Rattle.wasm_operators.specs.below.Source.{Reader, rest, NoPrefix, SomePrefix};
+ghost use Rattle.wasm_operators.specs.instr.declared.operator.Operator.{Operator};
+ghost use Rattle.wasm_operators.specs.imm.Immediate.{Immediate, Kind};
+ghost use Rattle.wasm_operators.specs.opcodes.Allowed.{EncodesAllowed, EncodesScalar};
+ghost use Rattle.wasm_operators.specs.opcodes.Decoding.{ReadsKinds, GoesBack, StaysAhead};
+ghost use Rattle.wasm_operators.specs.opcodes.OperatorFaults.{OperatorFault, ScalarOperatorFault};
+ghost use Rattle.wasm_operators.specs.opcodes.Owners.{EncodesWithoutList};
+ghost use Rattle.wasm_operators.specs.opcodes.Refused.{EncodesToCount, KindsMayAllocate};
+ghost use Rattle.wasm_operators.specs.Expression.{IsAny};
+ghost use Rattle.wasm_operators.specs.MainTheorem.{ReadSoFar};
+ghost use Rattle.wasm_operators.specs.Next.{NextMayAllocate};
+ghost use Rattle.wasm_operators.specs.Reading.{Adds, Anywhere};
+ghost use Rattle.wasm_operators.specs.Visiting.{Visited, VisitedScalar, IsScalar};
 ghost use Rattle.wasm_tests_old_clauses.specs.Before.{DecodesOperatorInBefore, DecodesInBefore, DecodesScalarInBefore, KindsBefore, ImmediatesBefore, RestBefore, RunsBefore, FlatBefore};
 
 use std::alloc::Global;
-use wasm_operators_readers::below::{BinaryReader, Result};
-use wasm_operators_readers::grammar::FrameKind;
-use wasm_operators_readers::instr::Operator;
-use wasm_operators_readers::visitors::VisitOperator;
-use wasm_operators_readers::{OperatorsReader, decoder};
+use wasm_operators::{BinaryReader, FrameKind, Operator, OperatorsReader, Result, VisitOperator};
 
 pub fn read_operator<'a>(
     alloc: Global,
@@ -34,7 +30,7 @@ pub fn read_operator<'a>(
 ) -> Result<Operator<'a>>
     ensures { DecodesOperatorInBefore frame result reader.old reader.new }
 {
-    decoder::read_operator(alloc, reader, frame)
+    wasm_decode::read_operator(alloc, reader, frame)
 }
 
 pub fn visit_operator_simd<'a, V: VisitOperator<'a>>(
@@ -45,7 +41,7 @@ pub fn visit_operator_simd<'a, V: VisitOperator<'a>>(
 ) -> Result<V::Output>
     ensures { DecodesInBefore V.visits frame result reader.old reader.new v.old v.new }
 {
-    decoder::visit_operator_simd(alloc, v, reader, frame)
+    wasm_decode::visit_operator_simd(alloc, v, reader, frame)
 }
 
 pub fn visit_operator<'a, V: VisitOperator<'a>>(
@@ -56,7 +52,7 @@ pub fn visit_operator<'a, V: VisitOperator<'a>>(
 ) -> Result<V::Output>
     ensures { DecodesScalarInBefore V.visits frame result reader.old reader.new v.old v.new }
 {
-    decoder::visit_operator(alloc, v, reader, frame)
+    wasm_decode::visit_operator(alloc, v, reader, frame)
 }
 
 pub fn read_all<'a>(

@@ -1,7 +1,7 @@
 use crate::outcomes::fingerprint;
 use std::alloc::Global;
-use wasm_listing::operators::{Error, WasmFeatures};
 use wasm_listing::{DumpFault, run};
+use wasm_operators::{Error, WasmFeatures};
 use wasm_tests_texts::Written;
 
 #[derive(Drop)]

@@ -1,4 +1,4 @@
-use wasm_listing::operators::{Error, Result};
+use wasm_operators::{Error, Result};
 use wasm_tests_texts::Written;
 
 pub fn write_refusal(out: &mut String, e: Error) -> Written {

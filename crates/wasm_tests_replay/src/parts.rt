@@ -1,6 +1,6 @@
 use crate::outcomes::write_refusal;
 use std::alloc::Global;
-use wasm_listing::operators::{
+use wasm_operators::{
     BinaryReader, CodeSectionReader, ConstExpr, Error, FunctionBody, LocalsReader, WasmFeatures,
 };
 use wasm_tests_texts::{Written, write_value_type};

@@ -1,5 +1,5 @@
 use std::alloc::{AllocError, Global};
-use wasm_listing::operators::{BinaryReader, FunctionBody, Operator, Result, WasmFeatures};
+use wasm_operators::{BinaryReader, FunctionBody, Operator, Result, WasmFeatures};
 use wasm_tests_texts::{Written, write_operator};
 
 pub fn write_fields(

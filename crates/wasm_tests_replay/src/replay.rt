@@ -7,7 +7,7 @@ use crate::visits::{write_all, write_plain};
 use bitflags::Flags;
 use std::alloc::Global;
 use std::io::{self, Print};
-use wasm_listing::operators::WasmFeatures;
+use wasm_operators::WasmFeatures;
 use wasm_tests_texts::read_hex;
 
 #[derive(Drop)]

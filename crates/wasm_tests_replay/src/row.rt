@@ -1,7 +1,7 @@
 //! The lines of the input: columns, separated by tabs.
 
 use bitflags::Flags;
-use wasm_listing::operators::WasmFeatures;
+use wasm_operators::WasmFeatures;
 
 #[derive(Clone, Copy, Debug)]
 pub struct Row<'r> {

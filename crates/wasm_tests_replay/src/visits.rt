@@ -1,6 +1,6 @@
 use crate::outcomes::write_visits;
 use std::alloc::Global;
-use wasm_listing::operators::{
+use wasm_operators::{
     BinaryReader, BrTable, ByAny, FunctionBody, Operator, OperatorsReader, Result, VisitOperator,
     Visitor, WasmFeatures,
 };

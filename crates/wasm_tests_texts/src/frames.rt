@@ -1,4 +1,4 @@
-use wasm_instr::FrameKind;
+use wasm_grammar::FrameKind;
 
 /// Returns the kind of frame with this name.
 pub fn frame_named(name: &str) -> Option<FrameKind> {

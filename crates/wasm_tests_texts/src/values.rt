@@ -1,8 +1,8 @@
 //! Values of fields, as in `tools/original/samples.tsv`.
 
 use std::alloc::AllocError;
-use wasm_instr::below::{HeapType, RefType, ValType};
-use wasm_instr::imm::{
+use wasm_below::{HeapType, RefType, ValType};
+use wasm_imm::{
     BlockType, BrTable, Catch, Handle, Ieee32, Ieee64, MemArg, MemArgOrdering, MemArgTarget,
     Ordering, ResumeTable, SelectTypes, TryTable, V128,
 };

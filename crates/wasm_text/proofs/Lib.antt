@@ -2,3 +2,4 @@ pub mod Fractions
 pub mod Pieces
 pub mod Tables
 pub mod Targets
+pub mod Steps

@@ -2,4 +2,5 @@ pub mod Names
 pub mod Values
 pub mod Floats
 pub mod Operands
-pub use Rattle.wasm_instr.specs as instr
+pub mod Rows
+pub mod Lines

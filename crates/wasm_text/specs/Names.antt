@@ -4,16 +4,16 @@
 use Rattle.std.specs.Prelude.{ℕ, List, codes}
 use Rattle.wasm_instr.specs.declared.operator.Operator.{Operator}
 use Rattle.wasm_instr.specs.declared.operator.Operator.TheVariants as operator
-use Rattle.wasm_instr.specs.ops.numeric.NumericOperator.{NumericOperator}
-use Rattle.wasm_instr.specs.ops.numeric.NumericOperator.TheVariants as numeric
-use Rattle.wasm_instr.specs.ops.gc.GcOperator.{GcOperator}
-use Rattle.wasm_instr.specs.ops.gc.GcOperator.TheVariants as gc
-use Rattle.wasm_instr.specs.ops.misc.MiscOperator.{MiscOperator}
-use Rattle.wasm_instr.specs.ops.misc.MiscOperator.TheVariants as misc
-use Rattle.wasm_instr.specs.simd.simd.SimdOperator.{SimdOperator}
-use Rattle.wasm_instr.specs.simd.simd.SimdOperator.TheVariants as simd
-use Rattle.wasm_instr.specs.ops.atomic.AtomicOperator.{AtomicOperator}
-use Rattle.wasm_instr.specs.ops.atomic.AtomicOperator.TheVariants as atomic
+use Rattle.wasm_instr_ops.specs.declared.numeric.NumericOperator.{NumericOperator}
+use Rattle.wasm_instr_ops.specs.declared.numeric.NumericOperator.TheVariants as numeric
+use Rattle.wasm_instr_ops.specs.declared.gc.GcOperator.{GcOperator}
+use Rattle.wasm_instr_ops.specs.declared.gc.GcOperator.TheVariants as gc
+use Rattle.wasm_instr_ops.specs.declared.misc.MiscOperator.{MiscOperator}
+use Rattle.wasm_instr_ops.specs.declared.misc.MiscOperator.TheVariants as misc
+use Rattle.wasm_instr_simd.specs.declared.simd.SimdOperator.{SimdOperator}
+use Rattle.wasm_instr_simd.specs.declared.simd.SimdOperator.TheVariants as simd
+use Rattle.wasm_instr_ops.specs.declared.atomic.AtomicOperator.{AtomicOperator}
+use Rattle.wasm_instr_ops.specs.declared.atomic.AtomicOperator.TheVariants as atomic
 
 abbrev pub numeric_text_name : NumericOperator → List ℕ
 numeric_text_name numeric.I32Eqz = codes "i32.eqz"

@@ -1,14 +1,14 @@
 -- Specification: Text Format, Instructions.
 use Rattle.std.specs.Prelude.{ℕ, true, false, List, ◌++◌, codes, decimal, flat_map}
-use Rattle.wasm_instr.specs.Immediate.{Immediate, unsigned_32, signed_32, signed_64, float_32, float_64, vector, one_lane, sixteen_lanes, memory_argument, memory_index, table_index_32, order, fence_order, heap_type, cast, block_type, branch_table, select_types, try_clauses, resume_clauses}
+use Rattle.wasm_imm.specs.Immediate.{Immediate, unsigned_32, signed_32, signed_64, float_32, float_64, vector, one_lane, sixteen_lanes, memory_argument, memory_index, table_index_32, order, fence_order, heap_type, cast, block_type, branch_table, select_types, try_clauses, resume_clauses}
 use Rattle.wasm_instr.specs.Row.{immediates_of}
 use Rattle.wasm_instr.specs.declared.operator.Operator.{Operator}
 use Rattle.wasm_instr.specs.declared.operator.Operator.TheVariants as operator
-use Rattle.wasm_instr.specs.ops.gc.GcOperator.{GcOperator}
-use Rattle.wasm_instr.specs.ops.gc.GcOperator.TheVariants as gc
-use Rattle.wasm_instr.specs.imm.control.cast.Cast.{Cast}
-use Rattle.wasm_instr.specs.imm.control.select.Select.{Select}
-use Rattle.wasm_instr.specs.imm.control.select.Select.TheVariants as select
+use Rattle.wasm_instr_ops.specs.declared.gc.GcOperator.{GcOperator}
+use Rattle.wasm_instr_ops.specs.declared.gc.GcOperator.TheVariants as gc
+use Rattle.wasm_imm.specs.declared.cast.Cast.{Cast}
+use Rattle.wasm_imm.specs.declared.select.Select.{Select}
+use Rattle.wasm_imm.specs.declared.select.Select.TheVariants as select
 use Rattle.wasm_text.specs.Floats.{float_32_text, float_64_text}
 use Rattle.wasm_text.specs.Names.{text_name}
 use Rattle.wasm_text.specs.Values.{number_text, signed_text, words_text, heap_type_text, reference_text, value_type_text, block_type_text, branch_table_text, try_table_text, resume_table_text, order_text, fence_text, memory_argument_text}

@@ -2,28 +2,28 @@
 -- shared-everything threads. Comments in parentheses say where the text format has another form.
 use Rattle.std.specs.Prelude.{ℕ, ℤ, ◌+◌, ◌/◌, ◌%◌, eqb, Bool, true, false, List, [], ◌∷◌, ◌++◌, Option, Some, None, codes, decimal, flat_map, cond, slice_index}
 use Rattle.std.specs.Fmt.{digit_glyph, signed_decimal}
-use Rattle.wasm_instr.specs.below.declared.types.AbstractHeapType.{AbstractHeapType}
-use Rattle.wasm_instr.specs.below.declared.types.AbstractHeapType.TheVariants as ty
-use Rattle.wasm_instr.specs.below.declared.types.HeapType.{HeapType}
-use Rattle.wasm_instr.specs.below.declared.types.HeapType.TheVariants as heap
-use Rattle.wasm_instr.specs.below.declared.types.ValType.{ValType}
-use Rattle.wasm_instr.specs.below.declared.types.ValType.TheVariants as value
-use Rattle.wasm_instr.specs.imm.BranchTables.{BranchTable, numbers_of}
-use Rattle.wasm_instr.specs.imm.control.block_type.BlockType.{BlockType}
-use Rattle.wasm_instr.specs.imm.control.block_type.BlockType.TheVariants as block
-use Rattle.wasm_instr.specs.imm.control.handler_tables.ResumeTable.{ResumeTable}
-use Rattle.wasm_instr.specs.imm.control.handler_tables.TryTable.{TryTable}
-use Rattle.wasm_instr.specs.imm.control.handlers.Catch.{Catch}
-use Rattle.wasm_instr.specs.imm.control.handlers.Catch.TheVariants as clause
-use Rattle.wasm_instr.specs.imm.control.handlers.Handle.{Handle}
-use Rattle.wasm_instr.specs.imm.control.handlers.Handle.TheVariants as handle
-use Rattle.wasm_instr.specs.imm.declared.memory_argument.MemArg.{MemArg}
-use Rattle.wasm_instr.specs.imm.declared.memory_argument.MemArgOrdering.{MemArgOrdering}
-use Rattle.wasm_instr.specs.imm.declared.memory_argument.MemArgOrdering.TheVariants as ordering
-use Rattle.wasm_instr.specs.imm.declared.memory_argument.MemArgTarget.{MemArgTarget}
-use Rattle.wasm_instr.specs.imm.declared.memory_argument.MemArgTarget.TheVariants as target
-use Rattle.wasm_instr.specs.imm.declared.ordering.Ordering.{Ordering}
-use Rattle.wasm_instr.specs.imm.declared.ordering.Ordering.TheVariants.{AcqRel, SeqCst}
+use Rattle.wasm_below.specs.declared.types.AbstractHeapType.{AbstractHeapType}
+use Rattle.wasm_below.specs.declared.types.AbstractHeapType.TheVariants as ty
+use Rattle.wasm_below.specs.declared.types.HeapType.{HeapType}
+use Rattle.wasm_below.specs.declared.types.HeapType.TheVariants as heap
+use Rattle.wasm_below.specs.declared.types.ValType.{ValType}
+use Rattle.wasm_below.specs.declared.types.ValType.TheVariants as value
+use Rattle.wasm_imm.specs.BranchTables.{BranchTable, numbers_of}
+use Rattle.wasm_imm.specs.declared.block_type.BlockType.{BlockType}
+use Rattle.wasm_imm.specs.declared.block_type.BlockType.TheVariants as block
+use Rattle.wasm_imm.specs.declared.handler_tables.ResumeTable.{ResumeTable}
+use Rattle.wasm_imm.specs.declared.handler_tables.TryTable.{TryTable}
+use Rattle.wasm_imm.specs.declared.handlers.Catch.{Catch}
+use Rattle.wasm_imm.specs.declared.handlers.Catch.TheVariants as clause
+use Rattle.wasm_imm.specs.declared.handlers.Handle.{Handle}
+use Rattle.wasm_imm.specs.declared.handlers.Handle.TheVariants as handle
+use Rattle.wasm_imm.specs.declared.memory_argument.MemArg.{MemArg}
+use Rattle.wasm_imm.specs.declared.memory_argument.MemArgOrdering.{MemArgOrdering}
+use Rattle.wasm_imm.specs.declared.memory_argument.MemArgOrdering.TheVariants as ordering
+use Rattle.wasm_imm.specs.declared.memory_argument.MemArgTarget.{MemArgTarget}
+use Rattle.wasm_imm.specs.declared.memory_argument.MemArgTarget.TheVariants as target
+use Rattle.wasm_imm.specs.declared.ordering.Ordering.{Ordering}
+use Rattle.wasm_imm.specs.declared.ordering.Ordering.TheVariants.{AcqRel, SeqCst}
 
 -- An index or another unsigned number.
 abbrev pub number_text : ℕ → List ℕ

@@ -3,7 +3,7 @@ ghost use Rattle.wasm_text.specs.Floats.{fraction_digits, fraction_text, exponen
 
 use crate::digits::write_digit;
 use crate::values::Written;
-use wasm_instr::{Ieee32, Ieee64};
+use wasm_imm::{Ieee32, Ieee64};
 
 /// The weight of the first hexadecimal digit of a fraction of 52 bits.
 const FIRST_DIGIT: u64 = 0x1_0000_0000_0000;

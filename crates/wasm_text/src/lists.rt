@@ -3,9 +3,8 @@ ghost use Rattle.wasm_text.specs.Values.{catch_text, handle_text, value_type_tex
 
 use crate::types::write_value_type;
 use crate::values::{Written, write_number};
-use wasm_instr::below::ValType;
-use wasm_instr::imm::control_laws;
-use wasm_instr::{BrTable, Catch, Handle};
+use wasm_below::ValType;
+use wasm_imm::{BrTable, Catch, Handle, control_laws};
 
 pub fn write_branch_table(out: &mut String, table: &BrTable<'_>) -> Written
     ensures { OnOk result (string_bytes out.new ≡ string_bytes out.old ++ branch_table_text table.now) }

@@ -2,9 +2,9 @@
 ghost use Rattle.std.specs.Prelude.{◌≡◌};
 ghost use Rattle.wasm_text.specs.Names.{text_name, numeric_text_name, gc_text_name, misc_text_name, simd_text_name, atomic_text_name};
 
-use wasm_instr::{
-    AtomicOperator, GcOperator, MiscOperator, NumericOperator, Operator, SimdOperator,
-};
+use wasm_instr::Operator;
+use wasm_instr_ops::{AtomicOperator, GcOperator, MiscOperator, NumericOperator};
+use wasm_instr_simd::SimdOperator;
 
 /// Returns the operator's name in the text format.
 pub fn text_name(op: &Operator<'_>) -> &'static str

@@ -1,7 +1,7 @@
 //! Writes operands by the kinds of their immediates, each after a space.
 ghost use Rattle.std.specs.Prelude.{◌≡◌, ◌++◌, ◌∷◌, [], true, false, OnOk, string_bytes};
-ghost use Rattle.wasm_instr.specs.Immediate.{unsigned_32, signed_32, signed_64, float_32, float_64, vector, one_lane, sixteen_lanes, order, fence_order, heap_type, cast, block_type, branch_table, select_types, try_clauses, resume_clauses};
-ghost use Rattle.wasm_instr.specs.imm.control.select.Select.TheVariants as select;
+ghost use Rattle.wasm_imm.specs.Immediate.{unsigned_32, signed_32, signed_64, float_32, float_64, vector, one_lane, sixteen_lanes, order, fence_order, heap_type, cast, block_type, branch_table, select_types, try_clauses, resume_clauses};
+ghost use Rattle.wasm_imm.specs.declared.select.Select.TheVariants as select;
 ghost use Rattle.wasm_text.specs.Operands.{immediates_text, indirect_text};
 ghost use Rattle.wasm_text.specs.Values.{memory_argument_text, reference_text};
 
@@ -13,8 +13,8 @@ use crate::types::{
 };
 pub use crate::values::Written;
 use crate::values::{write_fence, write_memory_argument, write_number, write_order, write_signed};
-use wasm_instr::below::{HeapType, RefType, ValType};
-use wasm_instr::{
+use wasm_below::{HeapType, RefType, ValType};
+use wasm_imm::{
     BlockType, BrTable, Ieee32, Ieee64, MemArg, Ordering, ResumeTable, SelectTypes, TryTable, V128,
 };
 

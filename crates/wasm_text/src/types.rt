@@ -3,8 +3,8 @@ ghost use Rattle.std.specs.Prelude.{◌≡◌, ◌++◌, OnOk, string_bytes};
 ghost use Rattle.wasm_text.specs.Values.{abstract_name, heap_type_text, reference_words, reference_text, value_type_text, block_type_text};
 
 use crate::values::{Written, write_number};
-use wasm_instr::BlockType;
-use wasm_instr::below::{AbstractHeapType, HeapType, RefType, ValType};
+use wasm_below::{AbstractHeapType, HeapType, RefType, ValType};
+use wasm_imm::BlockType;
 
 fn abstract_name(ty: AbstractHeapType) -> &'static str
     ensures { result.now ≡ abstract_name ty }

@@ -3,7 +3,7 @@ ghost use Rattle.std.specs.Prelude.{◌≡◌, ◌++◌, OnOk, string_bytes};
 ghost use Rattle.wasm_text.specs.Values.{number_text, signed_text, order_text, fence_text, target_text, announced_text, memory_argument_text};
 
 use std::alloc::AllocError;
-use wasm_instr::{MemArg, MemArgOrdering, MemArgTarget, Ordering};
+use wasm_imm::{MemArg, MemArgOrdering, MemArgTarget, Ordering};
 
 /// The result of writing into a `String`.
 pub type Written = Result<(), AllocError>;

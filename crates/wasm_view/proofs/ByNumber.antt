@@ -1,23 +1,23 @@
 use Rattle.std.proofs.Common.{◌≡◌, ℕ, ◌<◌, List, [], Option, Some, None, map, refl, sym, ap, ◌∙◌, arith, lit<}
-use Rattle.wasm_instr.specs.Immediate.{Kind, kind_of}
-use Rattle.wasm_instr.specs.Atomic.{atomic_subopcode}
-use Rattle.wasm_instr.specs.Gc.{gc_subopcode}
-use Rattle.wasm_instr.specs.Misc.{misc_subopcode}
-use Rattle.wasm_instr.specs.Numeric.{numeric_opcode}
-use Rattle.wasm_instr.specs.Simd.{simd_subopcode}
+use Rattle.wasm_imm.specs.Immediate.{Kind, kind_of}
+use Rattle.wasm_instr_ops.specs.Atomic.{atomic_subopcode}
+use Rattle.wasm_instr_ops.specs.Gc.{gc_subopcode}
+use Rattle.wasm_instr_ops.specs.Misc.{misc_subopcode}
+use Rattle.wasm_instr_ops.specs.Numeric.{numeric_opcode}
+use Rattle.wasm_instr_simd.specs.Simd.{simd_subopcode}
 use Rattle.wasm_instr.specs.Row.{prefix_of, opcode_of, immediates_of}
 use Rattle.wasm_instr.specs.declared.operator.Operator.{Operator}
 use Rattle.wasm_instr.specs.declared.operator.Operator.TheVariants as operator
-use Rattle.wasm_instr.specs.ops.atomic.AtomicOperator.{AtomicOperator}
-use Rattle.wasm_instr.specs.ops.atomic.AtomicOperator.TheVariants as atomic
-use Rattle.wasm_instr.specs.ops.gc.GcOperator.{GcOperator}
-use Rattle.wasm_instr.specs.ops.gc.GcOperator.TheVariants as gc
-use Rattle.wasm_instr.specs.ops.misc.MiscOperator.{MiscOperator}
-use Rattle.wasm_instr.specs.ops.misc.MiscOperator.TheVariants as misc
-use Rattle.wasm_instr.specs.ops.numeric.NumericOperator.{NumericOperator}
-use Rattle.wasm_instr.specs.ops.numeric.NumericOperator.TheVariants as numeric
-use Rattle.wasm_instr.specs.simd.simd.SimdOperator.{SimdOperator}
-use Rattle.wasm_instr.specs.simd.simd.SimdOperator.TheVariants as simd
+use Rattle.wasm_instr_ops.specs.declared.atomic.AtomicOperator.{AtomicOperator}
+use Rattle.wasm_instr_ops.specs.declared.atomic.AtomicOperator.TheVariants as atomic
+use Rattle.wasm_instr_ops.specs.declared.gc.GcOperator.{GcOperator}
+use Rattle.wasm_instr_ops.specs.declared.gc.GcOperator.TheVariants as gc
+use Rattle.wasm_instr_ops.specs.declared.misc.MiscOperator.{MiscOperator}
+use Rattle.wasm_instr_ops.specs.declared.misc.MiscOperator.TheVariants as misc
+use Rattle.wasm_instr_ops.specs.declared.numeric.NumericOperator.{NumericOperator}
+use Rattle.wasm_instr_ops.specs.declared.numeric.NumericOperator.TheVariants as numeric
+use Rattle.wasm_instr_simd.specs.declared.simd.SimdOperator.{SimdOperator}
+use Rattle.wasm_instr_simd.specs.declared.simd.SimdOperator.TheVariants as simd
 use Rattle.wasm_instr.proofs.OperatorPrefixCode.{operator_at}
 use Rattle.wasm_view.specs.View.{opcode_number}
 

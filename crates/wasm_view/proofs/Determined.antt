@@ -1,20 +1,20 @@
 use Rattle.std.proofs.Common.{◌≡◌, ◌⊎◌, ℕ, inl, inr, refl, sym, ap, ◌∙◌, arith}
-use Rattle.wasm_instr.specs.Gc.{gc_immediates}
-use Rattle.wasm_instr.specs.Misc.{misc_immediates}
-use Rattle.wasm_instr.specs.Simd.{simd_immediates}
-use Rattle.wasm_instr.specs.Atomic.{atomic_immediates}
+use Rattle.wasm_instr_ops.specs.Gc.{gc_immediates}
+use Rattle.wasm_instr_ops.specs.Misc.{misc_immediates}
+use Rattle.wasm_instr_simd.specs.Simd.{simd_immediates}
+use Rattle.wasm_instr_ops.specs.Atomic.{atomic_immediates}
 use Rattle.wasm_instr.specs.Kinds.{IsTypedSelect}
 use Rattle.wasm_instr.specs.Row.{prefix_of, opcode_of, immediates_of, name_of}
 use Rattle.wasm_instr.specs.declared.operator.Operator.{Operator}
 use Rattle.wasm_instr.specs.declared.operator.Operator.TheVariants as operator
-use Rattle.wasm_instr.specs.ops.atomic.AtomicOperator.{AtomicOperator}
-use Rattle.wasm_instr.specs.ops.atomic.AtomicOperator.TheVariants as atomic
-use Rattle.wasm_instr.specs.ops.gc.GcOperator.{GcOperator}
-use Rattle.wasm_instr.specs.ops.gc.GcOperator.TheVariants as gc
-use Rattle.wasm_instr.specs.ops.misc.MiscOperator.{MiscOperator}
-use Rattle.wasm_instr.specs.ops.misc.MiscOperator.TheVariants as misc
-use Rattle.wasm_instr.specs.simd.simd.SimdOperator.{SimdOperator}
-use Rattle.wasm_instr.specs.simd.simd.SimdOperator.TheVariants as simd
+use Rattle.wasm_instr_ops.specs.declared.atomic.AtomicOperator.{AtomicOperator}
+use Rattle.wasm_instr_ops.specs.declared.atomic.AtomicOperator.TheVariants as atomic
+use Rattle.wasm_instr_ops.specs.declared.gc.GcOperator.{GcOperator}
+use Rattle.wasm_instr_ops.specs.declared.gc.GcOperator.TheVariants as gc
+use Rattle.wasm_instr_ops.specs.declared.misc.MiscOperator.{MiscOperator}
+use Rattle.wasm_instr_ops.specs.declared.misc.MiscOperator.TheVariants as misc
+use Rattle.wasm_instr_simd.specs.declared.simd.SimdOperator.{SimdOperator}
+use Rattle.wasm_instr_simd.specs.declared.simd.SimdOperator.TheVariants as simd
 use Rattle.wasm_instr.proofs.SharedOpcodes.{shared}
 use Rattle.wasm_view.specs.Determined.{IsWhole}
 use Rattle.wasm_view.specs.View.{opcode_number, view_of}

@@ -2,24 +2,24 @@
 use Rattle.std.proofs.Common.{◌≡◌, ℕ, ℤ, ◌-◌, Bool, true, false, cond, eqb, ltb, List, [], ◌∷◌, Option, Some, None, map, refl, sym, ap, ◌∙◌, FitsSigned}
 use Rattle.std.specs.Int.{w64, cast_signed}
 use Rattle.std.proofs.lemmas.Int.{to_z-of_z}
-use Rattle.wasm_instr.specs.below.declared.types.AbstractHeapType.{AbstractHeapType}
-use Rattle.wasm_instr.specs.below.declared.types.AbstractHeapType.TheVariants as ty
-use Rattle.wasm_instr.specs.below.declared.types.HeapType.{HeapType}
-use Rattle.wasm_instr.specs.below.declared.types.HeapType.TheVariants as heap
-use Rattle.wasm_instr.specs.below.declared.types.ValType.{ValType}
-use Rattle.wasm_instr.specs.below.declared.types.ValType.TheVariants as value
-use Rattle.wasm_instr.specs.below.Reference.{Reference}
-use Rattle.wasm_instr.specs.imm.control.block_type.BlockType.{BlockType}
-use Rattle.wasm_instr.specs.imm.control.block_type.BlockType.TheVariants as block
-use Rattle.wasm_instr.specs.imm.control.select.Select.TheVariants as select
-use Rattle.wasm_instr.specs.imm.declared.memory_argument.MemArgTarget.{MemArgTarget}
-use Rattle.wasm_instr.specs.imm.declared.memory_argument.MemArgTarget.TheVariants as target
-use Rattle.wasm_instr.specs.imm.declared.memory_argument.MemArgOrdering.{MemArgOrdering}
-use Rattle.wasm_instr.specs.imm.declared.memory_argument.MemArgOrdering.TheVariants as ordering
-use Rattle.wasm_instr.specs.imm.declared.memory_argument.MemArg.{MemArg}
-use Rattle.wasm_instr.specs.imm.declared.ordering.Ordering.{Ordering}
-use Rattle.wasm_instr.specs.imm.declared.ordering.Ordering.TheVariants.{AcqRel, SeqCst}
-use Rattle.wasm_instr.specs.Immediate.{Immediate, Kind, kind_of, unsigned_32, signed_32, signed_64, float_32, float_64, vector, one_lane, sixteen_lanes, memory_argument, memory_index, table_index_32, order, fence_order, heap_type, cast, block_type, branch_table, select_types, try_clauses, resume_clauses, is_unsigned_32, is_signed_32, is_signed_64, is_float_32, is_float_64, is_vector, is_one_lane, is_sixteen_lanes, is_memory_argument, is_memory_index, is_table_index, is_order, is_fence_order, is_heap_type, is_cast, is_block_type, is_select_types}
+use Rattle.wasm_below.specs.declared.types.AbstractHeapType.{AbstractHeapType}
+use Rattle.wasm_below.specs.declared.types.AbstractHeapType.TheVariants as ty
+use Rattle.wasm_below.specs.declared.types.HeapType.{HeapType}
+use Rattle.wasm_below.specs.declared.types.HeapType.TheVariants as heap
+use Rattle.wasm_below.specs.declared.types.ValType.{ValType}
+use Rattle.wasm_below.specs.declared.types.ValType.TheVariants as value
+use Rattle.wasm_below.specs.Reference.{Reference}
+use Rattle.wasm_imm.specs.declared.block_type.BlockType.{BlockType}
+use Rattle.wasm_imm.specs.declared.block_type.BlockType.TheVariants as block
+use Rattle.wasm_imm.specs.declared.select.Select.TheVariants as select
+use Rattle.wasm_imm.specs.declared.memory_argument.MemArgTarget.{MemArgTarget}
+use Rattle.wasm_imm.specs.declared.memory_argument.MemArgTarget.TheVariants as target
+use Rattle.wasm_imm.specs.declared.memory_argument.MemArgOrdering.{MemArgOrdering}
+use Rattle.wasm_imm.specs.declared.memory_argument.MemArgOrdering.TheVariants as ordering
+use Rattle.wasm_imm.specs.declared.memory_argument.MemArg.{MemArg}
+use Rattle.wasm_imm.specs.declared.ordering.Ordering.{Ordering}
+use Rattle.wasm_imm.specs.declared.ordering.Ordering.TheVariants.{AcqRel, SeqCst}
+use Rattle.wasm_imm.specs.Immediate.{Immediate, Kind, kind_of, unsigned_32, signed_32, signed_64, float_32, float_64, vector, one_lane, sixteen_lanes, memory_argument, memory_index, table_index_32, order, fence_order, heap_type, cast, block_type, branch_table, select_types, try_clauses, resume_clauses, is_unsigned_32, is_signed_32, is_signed_64, is_float_32, is_float_64, is_vector, is_one_lane, is_sixteen_lanes, is_memory_argument, is_memory_index, is_table_index, is_order, is_fence_order, is_heap_type, is_cast, is_block_type, is_select_types}
 use Rattle.wasm_view.specs.Numbers.{heap_kind, heap_index, reference_kind, value_kind, value_index, block_kind, block_index, target_number, target_index, order_number, ordering_number}
 use Rattle.wasm_view.specs.View.{view}
 use Rattle.wasm_view.specs.declared.view.WasmOperator.{WasmOperator}

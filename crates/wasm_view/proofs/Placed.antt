@@ -1,5 +1,5 @@
 use Rattle.std.proofs.Common.{◌≡◌, ℕ, ◌-◌, ◌≤◌, ◌<◌, List, [], ◌∷◌, ◌++◌, length, drop, set, zero, suc, refl, sym, ap, subst, ◌∙◌, arith, length-append, Some}
-use Rattle.wasm_instr.specs.below.declared.types.ValType.{ValType}
+use Rattle.wasm_below.specs.declared.types.ValType.{ValType}
 use Rattle.wasm_instr.specs.declared.operator.Operator.{Operator}
 use Rattle.wasm_instr.specs.declared.operator.Operator.TheVariants as operator
 use Rattle.wasm_view.specs.Members.{type_of}

@@ -1,11 +1,11 @@
 -- Specification: Binary Format, Control and Parametric Instructions; proposal stack switching.
 use Rattle.std.specs.Prelude.{ℕ}
-use Rattle.wasm_instr.specs.below.declared.types.ValType.{ValType}
-use Rattle.wasm_instr.specs.imm.control.handlers.Catch.{Catch}
-use Rattle.wasm_instr.specs.imm.control.handlers.Catch.TheVariants as clause
-use Rattle.wasm_instr.specs.imm.control.handlers.Handle.{Handle}
-use Rattle.wasm_instr.specs.imm.control.handlers.Handle.TheVariants as handle
-use Rattle.wasm_instr.specs.imm.Handlers.{catch_byte, handle_byte}
+use Rattle.wasm_below.specs.declared.types.ValType.{ValType}
+use Rattle.wasm_imm.specs.declared.handlers.Catch.{Catch}
+use Rattle.wasm_imm.specs.declared.handlers.Catch.TheVariants as clause
+use Rattle.wasm_imm.specs.declared.handlers.Handle.{Handle}
+use Rattle.wasm_imm.specs.declared.handlers.Handle.TheVariants as handle
+use Rattle.wasm_imm.specs.Handlers.{catch_byte, handle_byte}
 use Rattle.wasm_view.specs.Numbers.{value_kind, value_index}
 use Rattle.wasm_view.specs.declared.members.WasmType.{WasmType}
 use Rattle.wasm_view.specs.declared.members.WasmHandler.{WasmHandler}

@@ -1,19 +1,19 @@
 -- Specification: Binary Format, Types; Control Instructions.
 use Rattle.std.specs.Prelude.{ℕ, ◌+◌, List, true, false, if◌then◌else◌, Option, Some, None, length, min}
-use Rattle.wasm_instr.specs.below.declared.types.HeapType.{HeapType}
-use Rattle.wasm_instr.specs.below.declared.types.HeapType.TheVariants as heap
-use Rattle.wasm_instr.specs.below.declared.types.ValType.{ValType}
-use Rattle.wasm_instr.specs.below.declared.types.ValType.TheVariants as value
-use Rattle.wasm_instr.specs.below.Reference.{Reference}
-use Rattle.wasm_instr.specs.below.TypeEncoding.{heap_type_byte}
-use Rattle.wasm_instr.specs.imm.control.block_type.BlockType.{BlockType}
-use Rattle.wasm_instr.specs.imm.control.block_type.BlockType.TheVariants as block
-use Rattle.wasm_instr.specs.imm.declared.memory_argument.MemArgTarget.{MemArgTarget}
-use Rattle.wasm_instr.specs.imm.declared.memory_argument.MemArgTarget.TheVariants as target
-use Rattle.wasm_instr.specs.imm.declared.memory_argument.MemArgOrdering.{MemArgOrdering}
-use Rattle.wasm_instr.specs.imm.declared.memory_argument.MemArgOrdering.TheVariants as ordering
-use Rattle.wasm_instr.specs.imm.declared.ordering.Ordering.{Ordering}
-use Rattle.wasm_instr.specs.imm.MemoryArgument.{ordering_byte}
+use Rattle.wasm_below.specs.declared.types.HeapType.{HeapType}
+use Rattle.wasm_below.specs.declared.types.HeapType.TheVariants as heap
+use Rattle.wasm_below.specs.declared.types.ValType.{ValType}
+use Rattle.wasm_below.specs.declared.types.ValType.TheVariants as value
+use Rattle.wasm_below.specs.Reference.{Reference}
+use Rattle.wasm_below.specs.TypeEncoding.{heap_type_byte}
+use Rattle.wasm_imm.specs.declared.block_type.BlockType.{BlockType}
+use Rattle.wasm_imm.specs.declared.block_type.BlockType.TheVariants as block
+use Rattle.wasm_imm.specs.declared.memory_argument.MemArgTarget.{MemArgTarget}
+use Rattle.wasm_imm.specs.declared.memory_argument.MemArgTarget.TheVariants as target
+use Rattle.wasm_imm.specs.declared.memory_argument.MemArgOrdering.{MemArgOrdering}
+use Rattle.wasm_imm.specs.declared.memory_argument.MemArgOrdering.TheVariants as ordering
+use Rattle.wasm_imm.specs.declared.ordering.Ordering.{Ordering}
+use Rattle.wasm_imm.specs.MemoryArgument.{ordering_byte}
 
 -- The byte of an abstract heap type, plus 256 if shared; 1 for a type index, 2 for an exact one.
 abbrev pub heap_kind : HeapType → ℕ

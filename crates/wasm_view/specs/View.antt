@@ -1,10 +1,10 @@
 -- Specification: Binary Format, Instructions.
 use Rattle.std.specs.Prelude.{ℕ, ◌+◌, ◌*◌, List, [], ◌∷◌, Option, Some, None, map, replicate}
 use Rattle.std.specs.Int.{w64, cast_unsigned}
-use Rattle.wasm_instr.specs.Immediate.{Immediate, unsigned_32, signed_32, signed_64, float_32, float_64, vector, one_lane, sixteen_lanes, memory_argument, memory_index, table_index_32, order, fence_order, heap_type, cast, block_type, branch_table, select_types, try_clauses, resume_clauses}
+use Rattle.wasm_imm.specs.Immediate.{Immediate, unsigned_32, signed_32, signed_64, float_32, float_64, vector, one_lane, sixteen_lanes, memory_argument, memory_index, table_index_32, order, fence_order, heap_type, cast, block_type, branch_table, select_types, try_clauses, resume_clauses}
 use Rattle.wasm_instr.specs.Row.{prefix_of, opcode_of, immediates_of}
 use Rattle.wasm_instr.specs.declared.operator.Operator.{Operator}
-use Rattle.wasm_instr.specs.imm.control.select.Select.TheVariants as select
+use Rattle.wasm_imm.specs.declared.select.Select.TheVariants as select
 use Rattle.wasm_view.specs.Numbers.{heap_kind, heap_index, reference_kind, value_kind, value_index, block_kind, block_index, target_number, target_index, order_number, ordering_number, count}
 use Rattle.wasm_view.specs.declared.view.WasmOperator.{WasmOperator}
 

@@ -1,11 +1,12 @@
 ghost use Rattle.std.specs.Prelude.{◌<◌, map};
-ghost use Rattle.wasm_instr.specs.imm.BranchTables.{numbers_of};
+ghost use Rattle.wasm_imm.specs.BranchTables.{numbers_of};
 ghost use Rattle.wasm_view.specs.Members.{type_of, catch_of, handle_of};
 ghost use Rattle.wasm_view.specs.Lists.{targets_of, types_of, catches_of, handles_of, PlacesMembers, ReturnsMembers, PlacesOne};
 
 use crate::members::{WasmHandler, WasmType, catch_of, handle_of, type_of};
-use wasm_instr::below::ValType;
-use wasm_instr::{BrTable, Catch, Handle, Operator};
+use wasm_below::ValType;
+use wasm_imm::{BrTable, Catch, Handle};
+use wasm_instr::Operator;
 
 /// Writes the member with this index to `out[index - from]`, if that exists.
 fn place<T: Copy>(member: T, index: usize, from: usize, out: &mut [T])

@@ -2,8 +2,8 @@ ghost use Rattle.std.specs.Prelude.{◌≡◌};
 ghost use Rattle.wasm_view.specs.Members.{type_of, handler, catch_of, handle_of};
 
 use crate::numbers::{value_index, value_kind};
-use wasm_instr::below::ValType;
-use wasm_instr::{Catch, Handle};
+use wasm_below::ValType;
+use wasm_imm::{Catch, Handle};
 
 /// A value type as a C struct of 8 bytes.
 #[repr(C)]

@@ -1,9 +1,9 @@
 ghost use Rattle.std.specs.Prelude.{◌≡◌, ◌≤◌, length, min};
-ghost use Rattle.wasm_instr.specs.below.TypeEncoding.{heap_type_byte};
+ghost use Rattle.wasm_below.specs.TypeEncoding.{heap_type_byte};
 ghost use Rattle.wasm_view.specs.Numbers.{heap_kind, heap_index, reference_kind, value_kind, value_index, block_kind, block_index, target_number, target_index, order_number, ordering_number};
 
-use wasm_instr::below::{AbstractHeapType, HeapType, RefType, ValType};
-use wasm_instr::imm::{BlockType, MemArgOrdering, MemArgTarget, Ordering};
+use wasm_below::{AbstractHeapType, HeapType, RefType, ValType};
+use wasm_imm::{BlockType, MemArgOrdering, MemArgTarget, Ordering};
 
 fn heap_type_byte(ty: AbstractHeapType) -> u32
     ensures is { result ≡ heap_type_byte ty }

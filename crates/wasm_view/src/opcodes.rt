@@ -1,16 +1,16 @@
 //! Written by tools/lists.py from tools/operators.tsv.
 ghost use Rattle.std.specs.Prelude.{◌≡◌, Some};
-ghost use Rattle.wasm_instr.specs.Numeric.{numeric_opcode};
-ghost use Rattle.wasm_instr.specs.Gc.{gc_subopcode};
-ghost use Rattle.wasm_instr.specs.Misc.{misc_subopcode};
-ghost use Rattle.wasm_instr.specs.Atomic.{atomic_subopcode};
-ghost use Rattle.wasm_instr.specs.Simd.{simd_subopcode};
+ghost use Rattle.wasm_instr_ops.specs.Numeric.{numeric_opcode};
+ghost use Rattle.wasm_instr_ops.specs.Gc.{gc_subopcode};
+ghost use Rattle.wasm_instr_ops.specs.Misc.{misc_subopcode};
+ghost use Rattle.wasm_instr_ops.specs.Atomic.{atomic_subopcode};
+ghost use Rattle.wasm_instr_simd.specs.Simd.{simd_subopcode};
 ghost use Rattle.wasm_instr.specs.Row.{prefix_of, opcode_of};
 ghost use Rattle.wasm_view.specs.View.{opcode_number};
 
-use wasm_instr::{
-    AtomicOperator, GcOperator, MiscOperator, NumericOperator, Operator, SimdOperator,
-};
+use wasm_instr::Operator;
+use wasm_instr_ops::{AtomicOperator, GcOperator, MiscOperator, NumericOperator};
+use wasm_instr_simd::SimdOperator;
 
 /// Returns an operator's number, the `opcode` of its C struct.
 #[inline(always)]

@@ -1,8 +1,8 @@
 //! Constructors of the C struct, one per shape.
 ghost use Rattle.std.specs.Prelude.{◌≡◌, [], ◌∷◌};
-ghost use Rattle.wasm_instr.specs.Immediate.{unsigned_32, signed_32, signed_64, float_32, float_64, vector, one_lane, sixteen_lanes, memory_argument, memory_index, table_index_32, order, fence_order, heap_type, cast, block_type, branch_table, select_types, try_clauses, resume_clauses};
-ghost use Rattle.wasm_instr.specs.imm.declared.memory_argument.MemArgKind.TheVariants as kind;
-ghost use Rattle.wasm_instr.specs.imm.control.select.Select.TheVariants as select;
+ghost use Rattle.wasm_imm.specs.Immediate.{unsigned_32, signed_32, signed_64, float_32, float_64, vector, one_lane, sixteen_lanes, memory_argument, memory_index, table_index_32, order, fence_order, heap_type, cast, block_type, branch_table, select_types, try_clauses, resume_clauses};
+ghost use Rattle.wasm_imm.specs.declared.memory_argument.MemArgKind.TheVariants as kind;
+ghost use Rattle.wasm_imm.specs.declared.select.Select.TheVariants as select;
 ghost use Rattle.wasm_view.specs.View.{bare, view};
 
 use crate::numbers::{
@@ -10,8 +10,8 @@ use crate::numbers::{
     reference_index, reference_kind, target_index, target_number, value_index, value_kind,
 };
 use crate::view::WasmOperator;
-use wasm_instr::below::{HeapType, RefType, ValType};
-use wasm_instr::imm::{
+use wasm_below::{HeapType, RefType, ValType};
+use wasm_imm::{
     BlockType, BrTable, Ieee32, Ieee64, MemArg, Ordering, ResumeTable, SelectTypes, TryTable, V128,
 };
 

@@ -1,15 +1,17 @@
 //! Written by tools/lists.py from tools/operators.tsv.
 ghost use Rattle.std.specs.Prelude.{◌≡◌};
-ghost use Rattle.wasm_instr.specs.Gc.{gc_immediates};
-ghost use Rattle.wasm_instr.specs.Misc.{misc_immediates};
-ghost use Rattle.wasm_instr.specs.Simd.{simd_immediates};
-ghost use Rattle.wasm_instr.specs.Atomic.{atomic_immediates};
+ghost use Rattle.wasm_instr_ops.specs.Gc.{gc_immediates};
+ghost use Rattle.wasm_instr_ops.specs.Misc.{misc_immediates};
+ghost use Rattle.wasm_instr_simd.specs.Simd.{simd_immediates};
+ghost use Rattle.wasm_instr_ops.specs.Atomic.{atomic_immediates};
 ghost use Rattle.wasm_instr.specs.Row.{immediates_of};
 ghost use Rattle.wasm_view.specs.View.{view};
 
 use crate::shapes;
 use crate::view::WasmOperator;
-use wasm_instr::{AtomicOperator, GcOperator, MiscOperator, Operator, SimdOperator};
+use wasm_instr::Operator;
+use wasm_instr_ops::{AtomicOperator, GcOperator, MiscOperator};
+use wasm_instr_simd::SimdOperator;
 
 pub fn own(offset: u64, opcode: u32, op: &Operator<'_>) -> WasmOperator
     ensures { result ≡ view offset opcode (immediates_of op.now) }

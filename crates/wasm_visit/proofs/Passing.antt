@@ -3,11 +3,11 @@ use Rattle.std.proofs.Common.{◌≡◌, ℕ, List, Result, Ok, Err, refl, ap, G
 use Rattle.std.specs.Prelude.{Box, box_value}
 use Rattle.std.specs.Box.{with_value}
 use borrow.Rule.Reborrow.{re_v}
-use Rattle.wasm_decode_groups.specs.below.bytes.error.Error.{Error}
-use Rattle.wasm_decode_groups.specs.below.bytes.message.Message.{Message}
-use Rattle.wasm_decode_groups.specs.below.Source.{Reader}
-use Rattle.wasm_decode_groups.specs.instr.declared.operator.Operator.{Operator}
-use Rattle.wasm_decode_groups.specs.opcodes.Decoding.{Decodes}
+use Rattle.wasm_below.specs.declared.error.Error.{Error}
+use Rattle.wasm_below.specs.declared.message.Message.{Message}
+use Rattle.wasm_below.specs.Source.{Reader}
+use Rattle.wasm_instr.specs.declared.operator.Operator.{Operator}
+use Rattle.wasm_decode_opcodes.specs.Decoding.{Decodes}
 
 pub through_reference : {V A : Type 0} (visits : V → Operator → A → V → Type 0) (E : List ℕ → Operator → Type 0) (F : Message → Reader → ℕ → Type 0)
     (result : Result A Error) (old new : Reader) (s : MutBor V) (w : V) → Decodes visits E F result old new s.now w →

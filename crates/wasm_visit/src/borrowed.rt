@@ -1,12 +1,12 @@
 ghost use Rattle.std.specs.Prelude.{◌≡◌, IsOk, IfOk, IfErr};
-ghost use Rattle.wasm_decode_groups.specs.imm.OutOfMemory.{IsOutOfMemoryAt};
-ghost use Rattle.wasm_decode_groups.specs.instr.Kinds.{IsVector, HoldsList};
+ghost use Rattle.wasm_imm.specs.OutOfMemory.{IsOutOfMemoryAt};
+ghost use Rattle.wasm_instr.specs.Kinds.{IsVector, HoldsList};
 
 use crate::operator::VisitOperator;
 use crate::owned::{visit_owned, visit_owned_simd};
 use std::alloc::Global;
-use wasm_decode_groups::below::Result;
-use wasm_decode_groups::instr::Operator;
+use wasm_below::Result;
+use wasm_instr::Operator;
 
 /// Visits a copy of an operator that is not a SIMD operator.
 ///

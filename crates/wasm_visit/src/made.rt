@@ -1,8 +1,8 @@
 ghost use Rattle.std.specs.Prelude.{◌≡◌};
-ghost use Rattle.wasm_decode_groups.specs.instr.declared.operator.Operator.{Operator};
+ghost use Rattle.wasm_instr.specs.declared.operator.Operator.{Operator};
 
-use wasm_decode_groups::groups::{ByAny, Visitor};
-use wasm_decode_groups::instr::Operator;
+use wasm_instr::Operator;
+use wasm_visit_groups::{ByAny, Visitor};
 
 /// A visitor that returns the operator, which borrows nothing. Higher crates read operators by it.
 ///

@@ -1,9 +1,10 @@
 ghost use Rattle.std.specs.Prelude.{◌≡◌};
-ghost use Rattle.wasm_decode_groups.specs.instr.declared.operator.Operator.{Operator};
+ghost use Rattle.wasm_instr.specs.declared.operator.Operator.{Operator};
 
 use crate::operator::VisitOperator;
-use wasm_decode_groups::groups::{ByAny, Visitor};
-use wasm_decode_groups::instr::{BrTable, Operator};
+use wasm_imm::BrTable;
+use wasm_instr::Operator;
+use wasm_visit_groups::{ByAny, Visitor};
 
 /// A type whose values can be made from an operator that borrows nothing.
 pub trait HoldOperator {

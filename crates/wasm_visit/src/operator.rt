@@ -1,9 +1,9 @@
-ghost use Rattle.wasm_decode_groups.specs.instr.declared.operator.Operator.{Operator};
+ghost use Rattle.wasm_instr.specs.declared.operator.Operator.{Operator};
 
 use crate::routes::{
     GroupAtomic, GroupGc, GroupMisc, GroupNumeric, GroupOneByte, GroupSimdHigh, GroupSimdLow,
 };
-use wasm_decode_groups::instr::BrTable;
+use wasm_imm::BrTable;
 
 /// A visitor of all operators.
 ///

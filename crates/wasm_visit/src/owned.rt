@@ -1,9 +1,10 @@
-ghost use Rattle.wasm_decode_groups.specs.instr.declared.operator.Operator.{Operator};
-ghost use Rattle.wasm_decode_groups.specs.instr.Kinds.{IsVector};
+ghost use Rattle.wasm_instr.specs.declared.operator.Operator.{Operator};
+ghost use Rattle.wasm_instr.specs.Kinds.{IsVector};
 
 use crate::operator::VisitOperator;
 use crate::routes::{GroupSimdHigh, GroupSimdLow};
-use wasm_decode_groups::instr::{Operator, SimdOperator};
+use wasm_instr::Operator;
+use wasm_instr_simd::SimdOperator;
 
 /// Visits an operator that is not a SIMD operator. The call itself does not allocate.
 pub fn visit_owned<'a, V: VisitOperator<'a>>(v: &mut V, op: Operator<'a>) -> V::Output

@@ -1,10 +1,10 @@
 ghost use Rattle.std.specs.Prelude.{◌≡◌};
-ghost use Rattle.wasm_decode_groups.specs.instr.declared.operator.Operator.{Operator};
-ghost use Rattle.wasm_decode_groups.specs.groups.Groups.{IsOneByte};
+ghost use Rattle.wasm_instr.specs.declared.operator.Operator.{Operator};
+ghost use Rattle.wasm_visit_groups.specs.Groups.{IsOneByte};
 
 use crate::dispatch;
-use wasm_decode_groups::groups::{ByAny, OwnOneByte, VisitOneByte, Visitor};
-use wasm_decode_groups::instr::Operator;
+use wasm_instr::Operator;
+use wasm_visit_groups::{ByAny, OwnOneByte, VisitOneByte, Visitor};
 
 /// A visitor that returns the operator. It has the visits of one group, so that `dispatch` can call
 /// them.

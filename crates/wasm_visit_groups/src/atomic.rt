@@ -1,12 +1,13 @@
 //! Written by tools/lists.py from tools/operators.tsv.
 ghost use Rattle.wasm_instr.specs.declared.operator.Operator.{Operator};
-ghost use Rattle.wasm_instr.specs.ops.atomic.AtomicOperator.{AtomicOperator};
+ghost use Rattle.wasm_instr_ops.specs.declared.atomic.AtomicOperator.{AtomicOperator};
 
 use crate::route::ToOwn;
 use crate::routes::Routes;
 use crate::visitor::Visitor;
-use wasm_instr::imm::{MemArg, Ordering};
-use wasm_instr::{AtomicOperator, Operator};
+use wasm_imm::{MemArg, Ordering};
+use wasm_instr::Operator;
+use wasm_instr_ops::AtomicOperator;
 
 /// Visits of the operators with the prefix byte 0xfe. Proposal threads. By default they call
 /// `visit_any`. A visitor that overrides visits names `OwnAtomic` in its `Visits`.

@@ -1,12 +1,13 @@
 //! Written by tools/lists.py from tools/operators.tsv.
 ghost use Rattle.wasm_instr.specs.declared.operator.Operator.{Operator};
-ghost use Rattle.wasm_instr.specs.ops.gc.GcOperator.{GcOperator};
+ghost use Rattle.wasm_instr_ops.specs.declared.gc.GcOperator.{GcOperator};
 
 use crate::route::ToOwn;
 use crate::routes::Routes;
 use crate::visitor::Visitor;
-use wasm_instr::below::{HeapType, RefType};
-use wasm_instr::{GcOperator, Operator};
+use wasm_below::{HeapType, RefType};
+use wasm_instr::Operator;
+use wasm_instr_ops::GcOperator;
 
 /// Visits of the operators with the prefix byte 0xfb. Specification: Aggregate Instructions. By
 /// default they call `visit_any`. A visitor that overrides visits names `OwnGc` in its `Visits`.

@@ -25,13 +25,3 @@ pub use routes::{
 pub use simd_high::VisitSimdHigh;
 pub use simd_low::VisitSimdLow;
 pub use visitor::Visitor;
-pub use wasm_instr::{below, grammar, imm};
-
-/// Operators.
-pub mod instr {
-    pub use wasm_instr::{
-        AtomicOperator, BrTable, FrameKind, FrameStack, GcOperator, MiscOperator, ModuleArity,
-        NumericOperator, Operator, OperatorInfo, Ordering, Proposal, SelectTypes, SimdOperator,
-        laws,
-    };
-}

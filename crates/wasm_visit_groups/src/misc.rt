@@ -1,11 +1,12 @@
 //! Written by tools/lists.py from tools/operators.tsv.
 ghost use Rattle.wasm_instr.specs.declared.operator.Operator.{Operator};
-ghost use Rattle.wasm_instr.specs.ops.misc.MiscOperator.{MiscOperator};
+ghost use Rattle.wasm_instr_ops.specs.declared.misc.MiscOperator.{MiscOperator};
 
 use crate::route::ToOwn;
 use crate::routes::Routes;
 use crate::visitor::Visitor;
-use wasm_instr::{MiscOperator, Operator};
+use wasm_instr::Operator;
+use wasm_instr_ops::MiscOperator;
 
 /// Visits of the operators with the prefix byte 0xfc. Specification: Numeric, Memory and Table
 /// Instructions. By default they call `visit_any`. A visitor that overrides visits names `OwnMisc`

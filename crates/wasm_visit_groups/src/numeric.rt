@@ -1,11 +1,12 @@
 //! Written by tools/lists.py from tools/operators.tsv.
 ghost use Rattle.wasm_instr.specs.declared.operator.Operator.{Operator};
-ghost use Rattle.wasm_instr.specs.ops.numeric.NumericOperator.{NumericOperator};
+ghost use Rattle.wasm_instr_ops.specs.declared.numeric.NumericOperator.{NumericOperator};
 
 use crate::route::ToOwn;
 use crate::routes::Routes;
 use crate::visitor::Visitor;
-use wasm_instr::{NumericOperator, Operator};
+use wasm_instr::Operator;
+use wasm_instr_ops::NumericOperator;
 
 /// Visits of the numeric operators with a one-byte opcode, 0x45 to 0xc4. Specification: Numeric
 /// Instructions. By default they call `visit_any`. A visitor that overrides visits names

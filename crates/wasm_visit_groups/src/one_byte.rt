@@ -4,9 +4,9 @@ ghost use Rattle.wasm_instr.specs.declared.operator.Operator.{Operator};
 use crate::route::ToOwn;
 use crate::routes::Routes;
 use crate::visitor::Visitor;
+use wasm_below::{HeapType, ValType};
+use wasm_imm::{BlockType, Ieee32, Ieee64, MemArg, ResumeTable, SelectTypes, TryTable};
 use wasm_instr::Operator;
-use wasm_instr::below::{HeapType, ValType};
-use wasm_instr::imm::{BlockType, Ieee32, Ieee64, MemArg, ResumeTable, SelectTypes, TryTable};
 
 /// Visits of the operators with a one-byte opcode, except the numeric ones and the branch table.
 /// Specification: Instructions. By default they call `visit_any`. A visitor that overrides visits

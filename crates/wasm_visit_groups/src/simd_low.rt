@@ -1,12 +1,13 @@
 //! Written by tools/lists.py from tools/operators.tsv.
 ghost use Rattle.wasm_instr.specs.declared.operator.Operator.{Operator};
-ghost use Rattle.wasm_instr.specs.simd.simd.SimdOperator.{SimdOperator};
+ghost use Rattle.wasm_instr_simd.specs.declared.simd.SimdOperator.{SimdOperator};
 
 use crate::route::ToOwn;
 use crate::routes::Routes;
 use crate::visitor::Visitor;
-use wasm_instr::imm::{MemArg, V128};
-use wasm_instr::{Operator, SimdOperator};
+use wasm_imm::{MemArg, V128};
+use wasm_instr::Operator;
+use wasm_instr_simd::SimdOperator;
 
 /// Visits of the SIMD operators with a subopcode below 0x80. Specification: Vector Instructions. By
 /// default they call `visit_any`. A visitor that overrides visits names `OwnSimdLow` in its

@@ -1,10 +1,10 @@
 ghost use Rattle.std.specs.Prelude.{◌≡◌, ◌≢◌, IsTrue, ◌↔◌, IfSome, IfNone};
 ghost use Rattle.wasm_below.specs.declared.types.AbstractHeapType.{AbstractHeapType};
-ghost use Rattle.wasm_below_bytes.specs.Source.{Reads, BeginsWith, rest};
+ghost use Rattle.wasm_below.specs.Source.{Reads, BeginsWith, rest};
 ghost use Rattle.wasm_below.specs.TypeEncoding.{heap_type_byte, ref_byte, LeadsShort, LeadsRefType, LedBy, EncodesShort, EncodesConcrete, EncodesExact, EncodesHeapType, EncodesShortRef, EncodesLongRef, EncodesRefType, EncodesNumberType, EncodesValType, ShortFault, ByteFault, ExactFault, ConcreteFault, HeapTypeFault, RefTypeFault, ValTypeFault};
 
 use super::{AbstractHeapType, HeapType, MAX_TYPE_INDEX, RefType, ValType};
-use wasm_below_bytes::{BinaryReader, Error, Message, Result, TypeName};
+use crate::{BinaryReader, Error, Message, Result, TypeName};
 
 const SHARED: u8 = 0x65;
 

@@ -1,9 +1,9 @@
 use Rattle.std.proofs.Common.{◌+◌, ◌%◌, ◌^◌, ap}
-use Rattle.wasm_operators_readers.specs.below.Source.{rest}
-use Rattle.wasm_operators_readers.proofs.of_below.Blocks.{refused_now}
+use Rattle.wasm_operators.specs.below.Source.{rest}
+use Rattle.wasm_below.proofs.Blocks.{refused_now}
 use Rattle.wasm_bench.proofs.Reading.{one_more, summed, none_at_end, filled}
-use Rattle.wasm_operators_readers.specs.imm.BlockTypes.{EncodesBlockType}
-use Rattle.wasm_operators_readers.proofs.of_imm.BlockTypes.{block_prefix_code, block_empty}
+use Rattle.wasm_operators.specs.imm.BlockTypes.{EncodesBlockType}
+use Rattle.wasm_imm.proofs.BlockTypes.{block_prefix_code, block_empty}
 use Rattle.wasm_bench.specs.Sums.{block_counts}
 use Rattle.wasm_bench.proofs.wasm_bench_block.Goals as goal
 

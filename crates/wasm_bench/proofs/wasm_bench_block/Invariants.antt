@@ -1,6 +1,6 @@
 use Rattle.std.proofs.Common.{length}
-use Rattle.wasm_operators_readers.specs.below.Source.{rest}
-use Rattle.wasm_operators_readers.specs.imm.BlockTypes.{EncodesBlockType}
+use Rattle.wasm_operators.specs.below.Source.{rest}
+use Rattle.wasm_operators.specs.imm.BlockTypes.{EncodesBlockType}
 use Rattle.wasm_bench.specs.Sums.{block_counts}
 use Rattle.wasm_bench.proofs.Reading.{SumSoFar}
 use Rattle.wasm_bench.proofs.wasm_bench_block.Given as goal

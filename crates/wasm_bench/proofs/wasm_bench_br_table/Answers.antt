@@ -1,10 +1,10 @@
 use Rattle.std.proofs.Common.{◌≡◌, ℕ, ◌+◌, ◌%◌, ◌^◌, ◌<◌, ◌++◌, List, ap, ◌∙◌, length, length-append, arith}
-use Rattle.wasm_operators_readers.specs.below.Source.{rest}
-use Rattle.wasm_operators_readers.proofs.of_below.Blocks.{refused_now}
+use Rattle.wasm_operators.specs.below.Source.{rest}
+use Rattle.wasm_below.proofs.Blocks.{refused_now}
 use Rattle.wasm_bench.proofs.Reading.{one_more, summed, none_at_end}
-use Rattle.wasm_operators_readers.proofs.of_below.Steps.{unsigned_some}
-use Rattle.wasm_operators_readers.specs.imm.BranchTables.{BranchTable, EncodesBranchTable}
-use Rattle.wasm_operators_readers.proofs.of_imm.BranchTables.{table_prefix_code}
+use Rattle.wasm_below.proofs.Steps.{unsigned_some}
+use Rattle.wasm_operators.specs.imm.BranchTables.{BranchTable, EncodesBranchTable}
+use Rattle.wasm_imm.proofs.BranchTables.{table_prefix_code}
 use Rattle.wasm_bench.specs.Sums.{table_counts}
 use Rattle.wasm_bench.proofs.wasm_bench_br_table.Goals as goal
 

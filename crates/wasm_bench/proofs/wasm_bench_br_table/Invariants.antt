@@ -1,6 +1,6 @@
 use Rattle.std.proofs.Common.{length}
-use Rattle.wasm_operators_readers.specs.below.Source.{rest}
-use Rattle.wasm_operators_readers.specs.imm.BranchTables.{EncodesBranchTable}
+use Rattle.wasm_operators.specs.below.Source.{rest}
+use Rattle.wasm_operators.specs.imm.BranchTables.{EncodesBranchTable}
 use Rattle.wasm_bench.specs.Sums.{table_counts}
 use Rattle.wasm_bench.proofs.Reading.{SumSoFar}
 use Rattle.wasm_bench.proofs.wasm_bench_br_table.Given as goal

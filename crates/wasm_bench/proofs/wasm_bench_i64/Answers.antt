@@ -1,12 +1,12 @@
 use Rattle.std.proofs.Common.{◌+◌, ◌%◌, ◌^◌, ◌∙◌, ap, rules}
 use Rattle.std.proofs.lemmas.Int.{to_z-of_z}
 use mir.Val.{SFits}
-use Rattle.wasm_operators_readers.specs.below.Source.{rest}
-use Rattle.wasm_operators_readers.proofs.of_below.Blocks.{refused_now}
+use Rattle.wasm_operators.specs.below.Source.{rest}
+use Rattle.wasm_below.proofs.Blocks.{refused_now}
 use Rattle.wasm_bench.proofs.Reading.{one_more, summed, none_at_end}
 use Rattle.std.specs.Int.{w64, cast_unsigned}
-use Rattle.wasm_operators_readers.specs.below.Number.{EncodesSigned}
-use Rattle.wasm_operators_readers.proofs.of_below.PrefixCode.{signed_prefix_code, signed_some}
+use Rattle.wasm_operators.specs.below.Number.{EncodesSigned}
+use Rattle.wasm_below.proofs.PrefixCode.{signed_prefix_code, signed_some}
 use Rattle.wasm_bench.proofs.wasm_bench_i64.Goals as goal
 
 pub loop-reader-preserved : goal.loop-reader-preserved

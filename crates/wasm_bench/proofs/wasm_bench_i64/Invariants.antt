@@ -1,6 +1,6 @@
 use Rattle.std.proofs.Common.{length}
-use Rattle.wasm_operators_readers.specs.below.Source.{rest}
-use Rattle.wasm_operators_readers.specs.below.Number.{EncodesSigned}
+use Rattle.wasm_operators.specs.below.Source.{rest}
+use Rattle.wasm_operators.specs.below.Number.{EncodesSigned}
 use Rattle.std.specs.Int.{w64, cast_unsigned}
 use Rattle.wasm_bench.proofs.Reading.{SumSoFar}
 use Rattle.wasm_bench.proofs.wasm_bench_i64.Given as goal

@@ -1,15 +1,14 @@
-use Rattle.std.proofs.Common.{◌+◌, ◌%◌, ◌^◌, ap}
-use Rattle.std.proofs.Common.{◌≡◌, ◌∙◌, subst, Ok}
-use Rattle.wasm_operators_readers.specs.below.Source.{Reader, rest, HasRead, IsRefusal}
-use Rattle.wasm_operators_readers.specs.below.bytes.features.WasmFeatures.{WasmFeatures}
-use Rattle.wasm_operators_readers.proofs.of_below.Blocks.{refused_now}
+use Rattle.std.proofs.Common.{◌+◌, ◌%◌, ◌^◌, ap, ◌≡◌, ◌∙◌, subst, Ok}
+use Rattle.wasm_operators.specs.below.Source.{Reader, rest, HasRead, IsRefusal}
+use Rattle.wasm_operators.specs.below.declared.features.WasmFeatures.{WasmFeatures}
+use Rattle.wasm_below.proofs.Blocks.{refused_now}
 use Rattle.wasm_bench.proofs.Reading.{one_more, summed, none_at_end, then_some}
-use Rattle.wasm_operators_readers.specs.below.Number.{EncodesUnsigned}
-use Rattle.wasm_operators_readers.specs.below.Features.{all_features}
-use Rattle.wasm_operators_readers.proofs.of_below.Steps.{unsigned_some}
-use Rattle.wasm_operators_readers.specs.imm.declared.memory_argument.MemArgKind.TheVariants as kind
-use Rattle.wasm_operators_readers.specs.imm.MemoryArgument.{EncodesMemArg}
-use Rattle.wasm_operators_readers.proofs.of_imm.FlagsNumber.{memarg_prefix_code}
+use Rattle.wasm_operators.specs.below.Number.{EncodesUnsigned}
+use Rattle.wasm_operators.specs.below.Features.{all_features}
+use Rattle.wasm_below.proofs.Steps.{unsigned_some}
+use Rattle.wasm_operators.specs.imm.declared.memory_argument.MemArgKind.TheVariants as kind
+use Rattle.wasm_operators.specs.imm.MemoryArgument.{EncodesMemArg}
+use Rattle.wasm_imm.proofs.FlagsNumber.{memarg_prefix_code}
 use Rattle.wasm_bench.specs.Sums.{argument_counts}
 use Rattle.wasm_bench.proofs.wasm_bench_memarg.Goals as goal
 

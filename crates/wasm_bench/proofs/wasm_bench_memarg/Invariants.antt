@@ -1,8 +1,8 @@
 use Rattle.std.proofs.Common.{length}
-use Rattle.wasm_operators_readers.specs.below.Source.{rest}
-use Rattle.wasm_operators_readers.specs.below.Features.{all_features}
-use Rattle.wasm_operators_readers.specs.imm.declared.memory_argument.MemArgKind.TheVariants as kind
-use Rattle.wasm_operators_readers.specs.imm.MemoryArgument.{EncodesMemArg}
+use Rattle.wasm_operators.specs.below.Source.{rest}
+use Rattle.wasm_operators.specs.below.Features.{all_features}
+use Rattle.wasm_operators.specs.imm.declared.memory_argument.MemArgKind.TheVariants as kind
+use Rattle.wasm_operators.specs.imm.MemoryArgument.{EncodesMemArg}
 use Rattle.wasm_bench.specs.Sums.{argument_counts}
 use Rattle.wasm_bench.proofs.Reading.{SumSoFar}
 use Rattle.wasm_bench.proofs.wasm_bench_memarg.Given as goal

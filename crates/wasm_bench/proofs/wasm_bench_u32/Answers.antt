@@ -1,9 +1,9 @@
 use Rattle.std.proofs.Common.{◌+◌, ◌%◌, ◌^◌, ap}
-use Rattle.wasm_operators_readers.specs.below.Source.{rest}
-use Rattle.wasm_operators_readers.proofs.of_below.Blocks.{refused_now}
+use Rattle.wasm_operators.specs.below.Source.{rest}
+use Rattle.wasm_below.proofs.Blocks.{refused_now}
 use Rattle.wasm_bench.proofs.Reading.{one_more, summed, none_at_end}
-use Rattle.wasm_operators_readers.specs.below.Number.{EncodesUnsigned}
-use Rattle.wasm_operators_readers.proofs.of_below.Steps.{number_prefix_code, unsigned_some}
+use Rattle.wasm_operators.specs.below.Number.{EncodesUnsigned}
+use Rattle.wasm_below.proofs.Steps.{number_prefix_code, unsigned_some}
 use Rattle.wasm_bench.specs.Sums.{itself}
 use Rattle.wasm_bench.proofs.wasm_bench_u32.Goals as goal
 

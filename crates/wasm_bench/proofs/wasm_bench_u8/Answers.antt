@@ -1,8 +1,7 @@
 use Rattle.std.proofs.Common.{◌+◌, ◌%◌, ◌^◌, ap, length, arith}
-use Rattle.wasm_operators_readers.specs.below.Source.{rest}
+use Rattle.wasm_operators.specs.below.Source.{rest, IsByte}
 use Rattle.wasm_bench.proofs.Reading.{one_more, summed, none_at_end}
-use Rattle.wasm_operators_readers.specs.below.Source.{IsByte}
-use Rattle.wasm_operators_readers.proofs.of_below.PrefixCode.{byte_prefix_code}
+use Rattle.wasm_below.proofs.PrefixCode.{byte_prefix_code}
 use Rattle.wasm_bench.specs.Sums.{itself}
 use Rattle.wasm_bench.proofs.wasm_bench_u8.Goals as goal
 

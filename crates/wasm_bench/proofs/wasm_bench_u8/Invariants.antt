@@ -1,6 +1,5 @@
 use Rattle.std.proofs.Common.{length}
-use Rattle.wasm_operators_readers.specs.below.Source.{rest}
-use Rattle.wasm_operators_readers.specs.below.Source.{IsByte}
+use Rattle.wasm_operators.specs.below.Source.{rest, IsByte}
 use Rattle.wasm_bench.specs.Sums.{itself}
 use Rattle.wasm_bench.proofs.Reading.{SumSoFar}
 use Rattle.wasm_bench.proofs.wasm_bench_u8.Given as goal

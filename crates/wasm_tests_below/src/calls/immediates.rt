@@ -1,6 +1,6 @@
 use super::write_result;
 use crate::failure::Written;
-use wasm_imm::below::BinaryReader;
+use wasm_below::BinaryReader;
 use wasm_imm::{
     Cast, Catch, Handle, MemArg, MemArgKind, Ordering, V128, read_lane, read_lanes,
     read_memory_index, read_table_index,

@@ -1,7 +1,7 @@
 use super::{write_error, write_next, write_result};
 use crate::failure::Written;
 use std::alloc::Global;
-use wasm_imm::below::{BinaryReader, Error, FromReader, Message, Result, SizeName};
+use wasm_below::{BinaryReader, Error, FromReader, Message, Result, SizeName};
 use wasm_imm::{BrTable, ResumeTable, Select, TryTable};
 
 /// A call that reads a list. One with `Again` in its name is repeated after allocation failed.

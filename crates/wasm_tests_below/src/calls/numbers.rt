@@ -1,7 +1,7 @@
 use super::write_result;
 use crate::failure::Written;
+use wasm_below::{BinaryReader, SizeName};
 use wasm_imm::ReadImmediates;
-use wasm_imm::below::{BinaryReader, SizeName};
 
 #[derive(Clone, Copy)]
 pub enum Number {

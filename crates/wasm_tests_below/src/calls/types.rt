@@ -1,8 +1,8 @@
 use super::write_result;
 use crate::failure::Written;
 use std::alloc::Global;
+use wasm_below::{BinaryReader, HeapType, RefType, ValType};
 use wasm_imm::BlockType;
-use wasm_imm::below::{BinaryReader, HeapType, RefType, ValType};
 
 #[derive(Clone, Copy)]
 pub enum Type {

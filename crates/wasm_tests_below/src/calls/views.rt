@@ -1,6 +1,6 @@
 use super::{write_error, write_next, write_result};
 use crate::failure::Written;
-use wasm_imm::below::BinaryReader;
+use wasm_below::BinaryReader;
 
 #[derive(Clone, Copy)]
 pub enum View {

@@ -1,4 +1,4 @@
-use wasm_imm::below::WasmFeatures;
+use wasm_below::WasmFeatures;
 use wasm_imm::{MemArg, MemArgKind, MemArgOrdering, MemArgTarget, Ordering};
 
 const ORDERINGS: [(Option<MemArgOrdering>, u8); 5] = [

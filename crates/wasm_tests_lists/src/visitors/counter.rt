@@ -1,6 +1,8 @@
 use std::alloc::Global;
-use wasm_decode::instr::{BrTable, Operator};
-use wasm_decode::visitors::{ByAny, OwnMisc, VisitMisc, VisitOperator, Visitor};
+use wasm_imm::BrTable;
+use wasm_instr::Operator;
+use wasm_visit::VisitOperator;
+use wasm_visit_groups::{ByAny, OwnMisc, VisitMisc, Visitor};
 
 /// Counts its visits, and overrides the visit of `DataDrop` to keep the index.
 #[derive(Debug, Drop)]

@@ -1,8 +1,9 @@
-use wasm_decode::below::BinaryReader;
-use wasm_decode::instr::{
-    BrTable, GcOperator, MiscOperator, NumericOperator, Operator, SimdOperator,
-};
-use wasm_decode::visitors::{VisitOperator, visit_owned_simd};
+use wasm_below::BinaryReader;
+use wasm_imm::BrTable;
+use wasm_instr::Operator;
+use wasm_instr_ops::{GcOperator, MiscOperator, NumericOperator};
+use wasm_instr_simd::SimdOperator;
+use wasm_visit::{VisitOperator, visit_owned_simd};
 
 /// The target 1 and the default target 0.
 static TABLE: [u8; 3] = [1, 1, 0];

@@ -1,8 +1,10 @@
 //! A visitor with a lifetime and a type parameter, which overrides visits.
 ghost use Rattle.std.specs.Prelude.{◌≤◌};
 
-use wasm_decode::instr::{BrTable, Operator};
-use wasm_decode::visitors::{ByAny, OwnGc, VisitGc, VisitOperator, Visitor};
+use wasm_imm::BrTable;
+use wasm_instr::Operator;
+use wasm_visit::VisitOperator;
+use wasm_visit_groups::{ByAny, OwnGc, VisitGc, Visitor};
 
 #[derive(Drop)]
 pub struct Interp<'m, M> {

@@ -1,5 +1,6 @@
-use wasm_decode::instr::{BrTable, Operator};
-use wasm_decode::visitors::{HoldOperator, HoldTable};
+use wasm_imm::BrTable;
+use wasm_instr::Operator;
+use wasm_visit::{HoldOperator, HoldTable};
 
 #[derive(Drop)]
 pub struct Large {

@@ -1,11 +1,14 @@
 ghost use Rattle.std.specs.Prelude.{◌≤◌};
 
 use std::alloc::AllocError;
-use wasm_decode::below::{self, BinaryReader};
-use wasm_decode::instr::{BrTable, MiscOperator, Operator};
-use wasm_decode::visitors::{
-    ByAny, CallMisc, OnceMisc, VisitMisc, VisitOperator, Visitor, decode, dispatch,
-};
+use wasm_below as below;
+use wasm_below::BinaryReader;
+use wasm_decode_groups as decode;
+use wasm_imm::BrTable;
+use wasm_instr::Operator;
+use wasm_instr_ops::MiscOperator;
+use wasm_visit::{CallMisc, VisitOperator, dispatch};
+use wasm_visit_groups::{ByAny, OnceMisc, VisitMisc, Visitor};
 
 /// Writes the names of two operators, and counts the visits of all others.
 #[derive(Drop)]

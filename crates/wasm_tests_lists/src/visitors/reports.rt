@@ -1,5 +1,7 @@
-use wasm_decode::instr::{BrTable, Operator};
-use wasm_decode::visitors::{ByAny, OwnMisc, VisitMisc, VisitOperator, Visitor};
+use wasm_imm::BrTable;
+use wasm_instr::Operator;
+use wasm_visit::VisitOperator;
+use wasm_visit_groups::{ByAny, OwnMisc, VisitMisc, Visitor};
 
 #[derive(Clone, Copy, Debug)]
 pub enum Call {

@@ -1,5 +1,5 @@
-use Rattle.wasm_operators_readers.specs.Next.{adding}
-use Rattle.wasm_operators_readers.specs.Reading.{Adds}
+use Rattle.wasm_operators.specs.Next.{adding}
+use Rattle.wasm_operators.specs.Reading.{Adds}
 use Rattle.wasm_tests_old_clauses.proofs.Driving.{runs_before, flat_before, rest_before}
 use Rattle.wasm_tests_old_clauses.proofs.read_all.Goals as goal
 

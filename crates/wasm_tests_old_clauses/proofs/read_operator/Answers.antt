@@ -1,5 +1,5 @@
-use Rattle.wasm_operators_readers.specs.opcodes.Allowed.{EncodesAllowed, EncodesIn}
-use Rattle.wasm_operators_readers.specs.opcodes.OperatorFaults.{OperatorFault, FaultIn}
+use Rattle.wasm_operators.specs.opcodes.Allowed.{EncodesAllowed, EncodesIn}
+use Rattle.wasm_operators.specs.opcodes.OperatorFaults.{OperatorFault, FaultIn}
 use Rattle.wasm_tests_old_clauses.proofs.Decoding.{operator_before}
 use Rattle.wasm_tests_old_clauses.proofs.read_operator.Goals as goal
 

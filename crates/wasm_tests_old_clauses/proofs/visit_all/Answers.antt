@@ -1,5 +1,5 @@
-use Rattle.wasm_operators_readers.specs.Next.{scalar}
-use Rattle.wasm_operators_readers.specs.Visiting.{VisitedScalar}
+use Rattle.wasm_operators.specs.Next.{scalar}
+use Rattle.wasm_operators.specs.Visiting.{VisitedScalar}
 use Rattle.wasm_tests_old_clauses.proofs.Driving.{runs_before, flat_before, rest_before}
 use Rattle.wasm_tests_old_clauses.proofs.visit_all.Goals as goal
 

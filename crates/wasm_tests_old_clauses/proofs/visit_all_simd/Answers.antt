@@ -1,5 +1,5 @@
-use Rattle.wasm_operators_readers.specs.Next.{simd}
-use Rattle.wasm_operators_readers.specs.Visiting.{Visited}
+use Rattle.wasm_operators.specs.Next.{simd}
+use Rattle.wasm_operators.specs.Visiting.{Visited}
 use Rattle.wasm_tests_old_clauses.proofs.Driving.{runs_before, flat_before, rest_before}
 use Rattle.wasm_tests_old_clauses.proofs.visit_all_simd.Goals as goal
 

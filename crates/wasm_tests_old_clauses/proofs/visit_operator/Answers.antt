@@ -1,5 +1,5 @@
-use Rattle.wasm_operators_readers.specs.opcodes.Allowed.{EncodesScalar, EncodesIn}
-use Rattle.wasm_operators_readers.specs.opcodes.OperatorFaults.{ScalarOperatorFault, FaultIn}
+use Rattle.wasm_operators.specs.opcodes.Allowed.{EncodesScalar, EncodesIn}
+use Rattle.wasm_operators.specs.opcodes.OperatorFaults.{ScalarOperatorFault, FaultIn}
 use Rattle.wasm_tests_old_clauses.proofs.Decoding.{decodes_before}
 use Rattle.wasm_tests_old_clauses.proofs.visit_operator.Goals as goal
 

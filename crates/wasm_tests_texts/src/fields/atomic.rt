@@ -1,7 +1,7 @@
 //! Written by tools/lists.py from tools/operators.tsv.
 use crate::fields::shapes;
 use crate::values::{self, Written};
-use wasm_instr::AtomicOperator;
+use wasm_instr_ops::AtomicOperator;
 
 pub fn atomic(out: &mut String, op: &AtomicOperator) -> Written {
     match op {

@@ -1,7 +1,7 @@
 //! Written by tools/lists.py from tools/operators.tsv.
 use crate::fields::shapes;
 use crate::values::{self, Written};
-use wasm_instr::GcOperator;
+use wasm_instr_ops::GcOperator;
 
 pub fn gc(out: &mut String, op: &GcOperator) -> Written {
     match op {

@@ -1,7 +1,7 @@
 //! Written by tools/lists.py from tools/operators.tsv.
 use crate::fields::shapes;
 use crate::values::{self, Written};
-use wasm_instr::MiscOperator;
+use wasm_instr_ops::MiscOperator;
 
 pub fn misc(out: &mut String, op: &MiscOperator) -> Written {
     match op {

@@ -1,7 +1,7 @@
 //! Written by tools/lists.py from tools/operators.tsv.
 use crate::values::{self, Written};
-use wasm_instr::below::RefType;
-use wasm_instr::imm::{MemArg, Ordering, ResumeTable};
+use wasm_below::RefType;
+use wasm_imm::{MemArg, Ordering, ResumeTable};
 
 pub fn write_type_index_and_table_index(
     out: &mut String,

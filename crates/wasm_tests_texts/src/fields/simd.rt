@@ -1,7 +1,7 @@
 //! Written by tools/lists.py from tools/operators.tsv.
 use crate::fields::shapes;
 use crate::values::{self, Written};
-use wasm_instr::SimdOperator;
+use wasm_instr_simd::SimdOperator;
 
 pub fn simd(out: &mut String, op: &SimdOperator) -> Written {
     match op {

@@ -1,10 +1,10 @@
 //! Written by tools/lists.py from tools/operators.tsv.
 ghost use Rattle.std.specs.Prelude.{◌≡◌, ◌++◌, OnOk, string_bytes};
-ghost use Rattle.wasm_instr.specs.Atomic.{atomic_immediates};
+ghost use Rattle.wasm_instr_ops.specs.Atomic.{atomic_immediates};
 ghost use Rattle.wasm_text.specs.Operands.{immediates_text};
 
 use crate::operands::{self, Written};
-use wasm_instr::AtomicOperator;
+use wasm_instr_ops::AtomicOperator;
 
 pub fn atomic(out: &mut String, op: &AtomicOperator) -> Written
     ensures { OnOk result (string_bytes out.new ≡ string_bytes out.old ++ immediates_text (atomic_immediates op.now)) }

@@ -3,7 +3,7 @@ ghost use Rattle.std.specs.Prelude.{◌≡◌, ◌++◌, OnOk, string_bytes};
 ghost use Rattle.wasm_text.specs.Operands.{gc_operands};
 
 use crate::operands::{self, Written};
-use wasm_instr::GcOperator;
+use wasm_instr_ops::GcOperator;
 
 pub fn gc(out: &mut String, op: &GcOperator) -> Written
     ensures { OnOk result (string_bytes out.new ≡ string_bytes out.old ++ gc_operands op.now) }

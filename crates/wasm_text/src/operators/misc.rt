@@ -1,10 +1,10 @@
 //! Written by tools/lists.py from tools/operators.tsv.
 ghost use Rattle.std.specs.Prelude.{◌≡◌, ◌++◌, OnOk, string_bytes};
-ghost use Rattle.wasm_instr.specs.Misc.{misc_immediates};
+ghost use Rattle.wasm_instr_ops.specs.Misc.{misc_immediates};
 ghost use Rattle.wasm_text.specs.Operands.{immediates_text};
 
 use crate::operands::{self, Written};
-use wasm_instr::MiscOperator;
+use wasm_instr_ops::MiscOperator;
 
 pub fn misc(out: &mut String, op: &MiscOperator) -> Written
     ensures { OnOk result (string_bytes out.new ≡ string_bytes out.old ++ immediates_text (misc_immediates op.now)) }

@@ -1,10 +1,10 @@
 //! Written by tools/lists.py from tools/operators.tsv.
 ghost use Rattle.std.specs.Prelude.{◌≡◌, ◌++◌, OnOk, string_bytes};
-ghost use Rattle.wasm_instr.specs.Simd.{simd_immediates};
+ghost use Rattle.wasm_instr_simd.specs.Simd.{simd_immediates};
 ghost use Rattle.wasm_text.specs.Operands.{immediates_text};
 
 use crate::operands::{self, Written};
-use wasm_instr::SimdOperator;
+use wasm_instr_simd::SimdOperator;
 
 pub fn simd(out: &mut String, op: &SimdOperator) -> Written
     ensures { OnOk result (string_bytes out.new ≡ string_bytes out.old ++ immediates_text (simd_immediates op.now)) }

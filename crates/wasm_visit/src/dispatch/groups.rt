@@ -1,11 +1,10 @@
 //! Written by tools/lists.py from tools/operators.tsv.
-ghost use Rattle.wasm_decode_groups.specs.instr.declared.operator.Operator.{Operator};
-ghost use Rattle.wasm_decode_groups.specs.groups.Groups.{IsOneByte};
+ghost use Rattle.wasm_instr.specs.declared.operator.Operator.{Operator};
+ghost use Rattle.wasm_visit_groups.specs.Groups.{IsOneByte};
 
-use wasm_decode_groups::groups::{VisitAtomic, VisitGc, VisitMisc, VisitNumeric, VisitOneByte};
-use wasm_decode_groups::instr::{
-    AtomicOperator, GcOperator, MiscOperator, NumericOperator, Operator,
-};
+use wasm_instr::Operator;
+use wasm_instr_ops::{AtomicOperator, GcOperator, MiscOperator, NumericOperator};
+use wasm_visit_groups::{VisitAtomic, VisitGc, VisitMisc, VisitNumeric, VisitOneByte};
 
 /// Calls the visit of an operator with a one-byte opcode.
 pub fn one_byte<V: VisitOneByte>(v: &mut V, op: Operator<'_>) -> V::Output

@@ -1,9 +1,9 @@
 //! Written by tools/lists.py from tools/operators.tsv.
-ghost use Rattle.wasm_decode_groups.specs.instr.declared.operator.Operator.{Operator};
-ghost use Rattle.wasm_decode_groups.specs.groups.Groups.{IsSimdHigh, IsSimdLow};
+ghost use Rattle.wasm_instr.specs.declared.operator.Operator.{Operator};
+ghost use Rattle.wasm_visit_groups.specs.Groups.{IsSimdHigh, IsSimdLow};
 
-use wasm_decode_groups::groups::{VisitSimdHigh, VisitSimdLow};
-use wasm_decode_groups::instr::SimdOperator;
+use wasm_instr_simd::SimdOperator;
+use wasm_visit_groups::{VisitSimdHigh, VisitSimdLow};
 
 /// Calls the visit of a SIMD operator with a subopcode below 0x80.
 pub fn simd_low<V: VisitSimdLow>(v: &mut V, op: SimdOperator) -> V::Output

@@ -1,14 +1,15 @@
 //! The routes of the operators with prefix 0xfc. Written by tools/lists.py from tools/operators.tsv.
 ghost use Rattle.std.specs.Prelude.{Some};
-ghost use Rattle.wasm_decode_groups.specs.grammar.declared.frame_kind.FrameKind.{FrameKind};
-ghost use Rattle.wasm_decode_groups.specs.instr.declared.operator.Operator.{Operator};
-ghost use Rattle.wasm_decode_groups.specs.opcodes.Decoding.{DecodesAt, IsAfterCode};
+ghost use Rattle.wasm_grammar.specs.declared.frame_kind.FrameKind.{FrameKind};
+ghost use Rattle.wasm_instr.specs.declared.operator.Operator.{Operator};
+ghost use Rattle.wasm_decode_opcodes.specs.Decoding.{DecodesAt, IsAfterCode};
 
 use crate::dispatch;
+use wasm_below::{BinaryReader, Result};
 use wasm_decode_groups as decode;
-use wasm_decode_groups::below::{BinaryReader, Result};
-use wasm_decode_groups::groups::{ByAny, Once, Own, Routes, Through, VisitMisc, Visitor};
-use wasm_decode_groups::instr::{MiscOperator, Operator};
+use wasm_instr::Operator;
+use wasm_instr_ops::MiscOperator;
+use wasm_visit_groups::{ByAny, Once, Own, Routes, Through, VisitMisc, Visitor};
 
 /// A route for the operators with prefix 0xfc.
 pub trait RouteMisc<V: Visitor> {

@@ -1,12 +1,13 @@
 //! The routes of the numeric operators. Written by tools/lists.py from tools/operators.tsv.
 ghost use Rattle.std.specs.Prelude.{◌≤◌, [], None};
-ghost use Rattle.wasm_decode_groups.specs.instr.declared.operator.Operator.{Operator};
-ghost use Rattle.wasm_decode_groups.specs.opcodes.Decoding.{VisitsRow};
+ghost use Rattle.wasm_instr.specs.declared.operator.Operator.{Operator};
+ghost use Rattle.wasm_decode_opcodes.specs.Decoding.{VisitsRow};
 
 use crate::dispatch;
 use wasm_decode_groups as decode;
-use wasm_decode_groups::groups::{ByAny, Once, Own, Routes, Through, VisitNumeric, Visitor};
-use wasm_decode_groups::instr::{NumericOperator, Operator};
+use wasm_instr::Operator;
+use wasm_instr_ops::NumericOperator;
+use wasm_visit_groups::{ByAny, Once, Own, Routes, Through, VisitNumeric, Visitor};
 
 /// A route for the numeric operators.
 pub trait RouteNumeric<V: Visitor> {

@@ -1,18 +1,18 @@
 //! The routes of the operators with a one-byte opcode. Written by tools/lists.py from tools/operators.tsv.
 ghost use Rattle.std.specs.Prelude.{None};
-ghost use Rattle.wasm_decode_groups.specs.grammar.declared.frame_kind.FrameKind.{FrameKind};
-ghost use Rattle.wasm_decode_groups.specs.groups.Groups.{IsOneByte};
+ghost use Rattle.wasm_grammar.specs.declared.frame_kind.FrameKind.{FrameKind};
+ghost use Rattle.wasm_visit_groups.specs.Groups.{IsOneByte};
 ghost use Rattle.wasm_decode_groups.specs.OneByte.{IsOneByteCode};
-ghost use Rattle.wasm_decode_groups.specs.opcodes.Decoding.{DecodesAt, IsAfterCode};
+ghost use Rattle.wasm_decode_opcodes.specs.Decoding.{DecodesAt, IsAfterCode};
 
 use crate::dispatch;
 use crate::owned_one_byte::owned;
 use std::alloc::Global;
+use wasm_below::{BinaryReader, Result};
 use wasm_decode_groups as decode;
-use wasm_decode_groups::below::{BinaryReader, Result};
-use wasm_decode_groups::grammar::FrameKind;
-use wasm_decode_groups::groups::{ByAny, Once, Own, Routes, Through, VisitOneByte, Visitor};
-use wasm_decode_groups::instr::Operator;
+use wasm_grammar::FrameKind;
+use wasm_instr::Operator;
+use wasm_visit_groups::{ByAny, Once, Own, Routes, Through, VisitOneByte, Visitor};
 
 /// A route for the operators with a one-byte opcode.
 pub trait RouteOneByte<V: Visitor> {

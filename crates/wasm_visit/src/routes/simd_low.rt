@@ -1,15 +1,16 @@
 //! The routes of the SIMD operators below 0x80. Written by tools/lists.py from tools/operators.tsv.
 ghost use Rattle.std.specs.Prelude.{◌<◌, Some};
-ghost use Rattle.wasm_decode_groups.specs.grammar.declared.frame_kind.FrameKind.{FrameKind};
-ghost use Rattle.wasm_decode_groups.specs.instr.declared.operator.Operator.{Operator};
-ghost use Rattle.wasm_decode_groups.specs.groups.Groups.{IsSimdLow};
-ghost use Rattle.wasm_decode_groups.specs.opcodes.Decoding.{DecodesAt, IsAfterCode};
+ghost use Rattle.wasm_grammar.specs.declared.frame_kind.FrameKind.{FrameKind};
+ghost use Rattle.wasm_instr.specs.declared.operator.Operator.{Operator};
+ghost use Rattle.wasm_visit_groups.specs.Groups.{IsSimdLow};
+ghost use Rattle.wasm_decode_opcodes.specs.Decoding.{DecodesAt, IsAfterCode};
 
 use crate::dispatch;
+use wasm_below::{BinaryReader, Result};
 use wasm_decode_groups as decode;
-use wasm_decode_groups::below::{BinaryReader, Result};
-use wasm_decode_groups::groups::{ByAny, Once, Own, Routes, Through, VisitSimdLow, Visitor};
-use wasm_decode_groups::instr::{Operator, SimdOperator};
+use wasm_instr::Operator;
+use wasm_instr_simd::SimdOperator;
+use wasm_visit_groups::{ByAny, Once, Own, Routes, Through, VisitSimdLow, Visitor};
 
 /// A route for the SIMD operators below 0x80.
 pub trait RouteSimdLow<V: Visitor> {

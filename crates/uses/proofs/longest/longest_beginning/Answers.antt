@@ -1,11 +1,11 @@
 use Rattle.std.proofs.Common.{◌≢◌, ◌++◌, replicate, [], ap, sym, subst, ◌∙◌}
-use Rattle.wasm_operators.specs.below.bytes.message.Message.TheVariants as message
+use Rattle.wasm_operators.specs.below.declared.message.Message.TheVariants as message
 use Rattle.wasm_operators.specs.instr.Roles.{roles_of}
 use Rattle.wasm_operators.specs.instr.declared.operator.Operator.TheVariants as operator
 use Rattle.wasm_operators.specs.Expression.{Placed, operators, AreWalk, IsLongestBeginning}
 use Rattle.uses.specs.Frames.{open_after}
 use Rattle.uses.specs.Input.{input}
-use Rattle.uses.proofs.Beginnings.{longest_at, ends_complete}
+use Rattle.uses.proofs.FirstParts.{longest_at, ends_complete}
 use Rattle.uses.proofs.longest.longest_beginning.Goals as goal
 
 abbrev IsCompleted : Placed → Type 0

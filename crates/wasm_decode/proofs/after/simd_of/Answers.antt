@@ -1,6 +1,6 @@
 use Rattle.std.proofs.Common.{Some}
-use Rattle.wasm_visit.specs.opcodes.OperatorFaults.{OperatorFault}
-use Rattle.wasm_visit.proofs.of_opcodes.OperatorLemmas.{visited_without_immediates}
+use Rattle.wasm_decode_opcodes.specs.OperatorFaults.{OperatorFault}
+use Rattle.wasm_decode_opcodes.proofs.OperatorLemmas.{visited_without_immediates}
 use Rattle.wasm_decode.proofs.after.simd_of.Goals as goal
 
 pub visit_without_immediates-requires : goal.visit_without_immediates-requires

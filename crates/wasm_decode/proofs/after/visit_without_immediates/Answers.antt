@@ -1,5 +1,5 @@
 use Rattle.std.proofs.Common.{◌<◌, ◌≤◌, refl, sym, subst, arith}
-use Rattle.wasm_visit.specs.instr.declared.operator.Operator.TheVariants as operator
+use Rattle.wasm_instr.specs.declared.operator.Operator.TheVariants as operator
 use Rattle.wasm_decode.proofs.after.visit_without_immediates.Goals as goal
 
 pub dispatch_simd_low-requires : goal.dispatch_simd_low-requires

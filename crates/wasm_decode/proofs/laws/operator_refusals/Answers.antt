@@ -1,4 +1,4 @@
-use Rattle.wasm_visit.specs.opcodes.OperatorFaults.{OperatorFault, ScalarOperatorFault}
+use Rattle.wasm_decode_opcodes.specs.OperatorFaults.{OperatorFault, ScalarOperatorFault}
 use Rattle.wasm_decode.proofs.DeterminedOperatorRefusals.{operator_determines, scalar_determines, in_determines}
 use Rattle.wasm_decode.proofs.laws.operator_refusals.Goals as goal
 

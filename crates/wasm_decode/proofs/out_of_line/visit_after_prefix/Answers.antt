@@ -1,6 +1,6 @@
 use Rattle.std.proofs.Common.{Ok, Err}
-use Rattle.wasm_visit.proofs.of_decode.Copies.{left_within, by_copy}
-use Rattle.wasm_visit.specs.grammar.declared.frame_kind.FrameKind.TheVariants as frame_kind
+use Rattle.wasm_decode_groups.proofs.Copies.{left_within, by_copy}
+use Rattle.wasm_grammar.specs.declared.frame_kind.FrameKind.TheVariants as frame_kind
 use Rattle.wasm_decode.proofs.out_of_line.visit_after_prefix.Goals as goal
 
 pub take_back-requires : goal.take_back-requires

@@ -1,9 +1,9 @@
 use Rattle.std.proofs.Common.{◌≡◌, Ok, None, arith}
-use Rattle.wasm_visit.specs.below.Source.{at_position}
-use Rattle.wasm_visit.specs.opcodes.Allowed.{EncodesAllowed}
-use Rattle.wasm_visit.specs.opcodes.OperatorFaults.{OperatorFault}
-use Rattle.wasm_visit.proofs.of_decode.Codes.{numeric_without_immediates_45}
-use Rattle.wasm_visit.proofs.of_opcodes.OperatorLemmas.{visited_without_immediates}
+use Rattle.wasm_below.specs.Source.{at_position}
+use Rattle.wasm_decode_opcodes.specs.Allowed.{EncodesAllowed}
+use Rattle.wasm_decode_opcodes.specs.OperatorFaults.{OperatorFault}
+use Rattle.wasm_decode_groups.proofs.Codes.{numeric_without_immediates_45}
+use Rattle.wasm_decode_opcodes.proofs.OperatorLemmas.{visited_without_immediates}
 use Rattle.wasm_decode.proofs.DecodingLemmas.{as_read, prefix_bytes}
 use Rattle.wasm_decode.proofs.read.read_after_opcode.Goals as goal
 

@@ -1,6 +1,6 @@
 use Rattle.std.proofs.Common.{None, Ok, Err}
 use Rattle.wasm_decode.proofs.DecodingLemmas.{read_within, read_by_copy}
-use Rattle.wasm_visit.specs.grammar.declared.frame_kind.FrameKind.TheVariants as frame_kind
+use Rattle.wasm_grammar.specs.declared.frame_kind.FrameKind.TheVariants as frame_kind
 use Rattle.wasm_decode.proofs.read.read_gc.Goals as goal
 
 pub take_back-requires : goal.take_back-requires

@@ -1,7 +1,7 @@
 use Rattle.std.proofs.Common.{sym, subst}
-use Rattle.wasm_visit.specs.opcodes.Allowed.{EncodesAllowed, EncodesIn}
-use Rattle.wasm_visit.specs.opcodes.OperatorFaults.{OperatorFault, FaultIn}
-use Rattle.wasm_visit.specs.opcodes.Decoding.{DecodesOperator}
+use Rattle.wasm_decode_opcodes.specs.Allowed.{EncodesAllowed, EncodesIn}
+use Rattle.wasm_decode_opcodes.specs.OperatorFaults.{OperatorFault, FaultIn}
+use Rattle.wasm_decode_opcodes.specs.Decoding.{DecodesOperator}
 use Rattle.wasm_decode.proofs.DecodingLemmas.{occurs, read_from_start, read_in}
 use Rattle.wasm_decode.proofs.read.read_operator.Goals as goal
 

@@ -1,9 +1,9 @@
 use Rattle.std.proofs.Common.{◌≡◌, Some, Ok, refl}
-use Rattle.wasm_visit.specs.below.Source.{Reader, at_position}
-use Rattle.wasm_visit.specs.instr.declared.operator.Operator.TheVariants as operator
-use Rattle.wasm_visit.specs.opcodes.Allowed.{EncodesAllowed}
-use Rattle.wasm_visit.specs.opcodes.OperatorFaults.{OperatorFault}
-use Rattle.wasm_visit.proofs.of_opcodes.OperatorLemmas.{visited_without_immediates}
+use Rattle.wasm_below.specs.Source.{Reader, at_position}
+use Rattle.wasm_instr.specs.declared.operator.Operator.TheVariants as operator
+use Rattle.wasm_decode_opcodes.specs.Allowed.{EncodesAllowed}
+use Rattle.wasm_decode_opcodes.specs.OperatorFaults.{OperatorFault}
+use Rattle.wasm_decode_opcodes.proofs.OperatorLemmas.{visited_without_immediates}
 use Rattle.wasm_decode.proofs.DecodingLemmas.{as_read}
 use Rattle.wasm_decode.proofs.read.read_simd_of.Goals as goal
 

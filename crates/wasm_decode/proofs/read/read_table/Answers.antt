@@ -1,11 +1,11 @@
 use Rattle.std.proofs.Common.{◌≡◌, [], ◌∷◌, None, Ok, refl, arith}
-use Rattle.wasm_visit.specs.below.Source.{at_position}
-use Rattle.wasm_visit.specs.instr.declared.operator.Operator.{Operator}
-use Rattle.wasm_visit.specs.instr.declared.operator.Operator.TheVariants as operator
-use Rattle.wasm_visit.specs.instr.Immediate.{branch_table, is_branch_table}
-use Rattle.wasm_visit.specs.opcodes.Allowed.{EncodesAllowed}
-use Rattle.wasm_visit.specs.opcodes.OperatorFaults.{OperatorFault}
-use Rattle.wasm_visit.proofs.of_opcodes.OperatorLemmas.{refuses_free, visited_free}
+use Rattle.wasm_below.specs.Source.{at_position}
+use Rattle.wasm_instr.specs.declared.operator.Operator.{Operator}
+use Rattle.wasm_instr.specs.declared.operator.Operator.TheVariants as operator
+use Rattle.wasm_imm.specs.Immediate.{branch_table, is_branch_table}
+use Rattle.wasm_decode_opcodes.specs.Allowed.{EncodesAllowed}
+use Rattle.wasm_decode_opcodes.specs.OperatorFaults.{OperatorFault}
+use Rattle.wasm_decode_opcodes.proofs.OperatorLemmas.{refuses_free, visited_free}
 use Rattle.wasm_decode.proofs.DecodingLemmas.{as_read}
 use Rattle.wasm_decode.proofs.read.read_table.Goals as goal
 

@@ -1,8 +1,8 @@
 use Rattle.std.proofs.Common.{[], ◌∷◌, None, refl, arith}
-use Rattle.wasm_visit.specs.instr.declared.operator.Operator.TheVariants as operator
-use Rattle.wasm_visit.specs.instr.Immediate.{branch_table, is_branch_table}
-use Rattle.wasm_visit.specs.opcodes.OperatorFaults.{OperatorFault}
-use Rattle.wasm_visit.proofs.of_opcodes.OperatorLemmas.{refuses_free, visited_free}
+use Rattle.wasm_instr.specs.declared.operator.Operator.TheVariants as operator
+use Rattle.wasm_imm.specs.Immediate.{branch_table, is_branch_table}
+use Rattle.wasm_decode_opcodes.specs.OperatorFaults.{OperatorFault}
+use Rattle.wasm_decode_opcodes.proofs.OperatorLemmas.{refuses_free, visited_free}
 use Rattle.wasm_decode.proofs.visit.table_after_opcode.Goals as goal
 
 pub returns-in-Ok : goal.returns-in-Ok

@@ -1,7 +1,7 @@
 use Rattle.std.proofs.Common.{sym, subst}
-use Rattle.wasm_visit.specs.opcodes.Allowed.{EncodesScalar, EncodesIn}
-use Rattle.wasm_visit.specs.opcodes.Decoding.{Decodes}
-use Rattle.wasm_visit.specs.opcodes.OperatorFaults.{ScalarOperatorFault, FaultIn}
+use Rattle.wasm_decode_opcodes.specs.Allowed.{EncodesScalar, EncodesIn}
+use Rattle.wasm_decode_opcodes.specs.Decoding.{Decodes}
+use Rattle.wasm_decode_opcodes.specs.OperatorFaults.{ScalarOperatorFault, FaultIn}
 use Rattle.wasm_decode.proofs.DecodingLemmas.{occurs, from_start, visited_in}
 use Rattle.wasm_decode.proofs.visit.visit_operator.Goals as goal
 

@@ -1,7 +1,7 @@
 use Rattle.std.proofs.Common.{sym, subst}
-use Rattle.wasm_visit.specs.opcodes.Allowed.{EncodesAllowed, EncodesIn}
-use Rattle.wasm_visit.specs.opcodes.Decoding.{Decodes}
-use Rattle.wasm_visit.specs.opcodes.OperatorFaults.{OperatorFault, FaultIn}
+use Rattle.wasm_decode_opcodes.specs.Allowed.{EncodesAllowed, EncodesIn}
+use Rattle.wasm_decode_opcodes.specs.Decoding.{Decodes}
+use Rattle.wasm_decode_opcodes.specs.OperatorFaults.{OperatorFault, FaultIn}
 use Rattle.wasm_decode.proofs.DecodingLemmas.{occurs, from_start, visited_in}
 use Rattle.wasm_decode.proofs.visit.visit_operator_simd.Goals as goal
 

@@ -1,7 +1,7 @@
 -- Written by tools/lists.py from tools/operators.tsv.
 use Rattle.std.proofs.Common.{[], None, sym, subst, ap, arith, ◌∷◌}
-use Rattle.wasm_visit_groups.specs.imm.declared.memory_argument.MemArgKind.TheVariants as kind
-use Rattle.wasm_visit_groups.specs.instr.Immediate.{is_memory_argument}
+use Rattle.wasm_imm.specs.declared.memory_argument.MemArgKind.TheVariants as kind
+use Rattle.wasm_imm.specs.Immediate.{is_memory_argument}
 use Rattle.wasm_decode_opcodes.specs.Entry.{entry_kinds}
 use Rattle.wasm_decode_groups.specs.Arms.{HasArm}
 use Rattle.wasm_decode_groups.proofs.Codes.{one_byte_block_type_02, one_byte_unsigned_20, one_byte_memory_28}

@@ -1,5 +1,5 @@
 use Rattle.std.proofs.Common.{◌≡◌, refl, sym, subst, ap, Some, ◌∙◌}
-use Rattle.wasm_visit_groups.specs.instr.Row.{immediates_of}
+use Rattle.wasm_instr.specs.Row.{immediates_of}
 use Rattle.wasm_decode_opcodes.specs.Entry.{entry_kinds}
 use Rattle.wasm_decode_opcodes.specs.OperatorFaults.{OperatorFault}
 use Rattle.wasm_decode_opcodes.proofs.OperatorLemmas.{refuses_free, visited_free}

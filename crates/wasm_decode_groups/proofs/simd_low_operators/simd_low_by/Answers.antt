@@ -1,7 +1,7 @@
 -- Written by tools/lists.py from tools/operators.tsv.
 use Rattle.std.proofs.Common.{[], Some, sym, subst, ap, arith, ◌∷◌}
-use Rattle.wasm_visit_groups.specs.imm.declared.memory_argument.MemArgKind.TheVariants as kind
-use Rattle.wasm_visit_groups.specs.instr.Immediate.{is_one_lane, is_memory_argument}
+use Rattle.wasm_imm.specs.declared.memory_argument.MemArgKind.TheVariants as kind
+use Rattle.wasm_imm.specs.Immediate.{is_one_lane, is_memory_argument}
 use Rattle.wasm_decode_opcodes.specs.Entry.{entry_kinds}
 use Rattle.wasm_decode_groups.specs.Arms.{HasArm}
 use Rattle.wasm_decode_groups.proofs.Codes.{simd_low_memory_00, simd_low_memory_5c, simd_low_memory_lane_index_54, simd_low_lane_index_15, simd_low_without_immediates_arm}

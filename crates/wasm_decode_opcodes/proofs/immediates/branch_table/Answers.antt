@@ -1,6 +1,6 @@
 use Rattle.std.proofs.Common.{[]}
-use Rattle.wasm_instr.specs.imm.BranchTables.{EncodesBranchTable}
-use Rattle.wasm_instr.specs.Immediate.{branch_table, is_branch_table}
+use Rattle.wasm_imm.specs.BranchTables.{EncodesBranchTable}
+use Rattle.wasm_imm.specs.Immediate.{branch_table, is_branch_table}
 use Rattle.wasm_decode_opcodes.proofs.KindLemmas.{first_refused, of_branch_table}
 use Rattle.wasm_decode_opcodes.proofs.immediates.branch_table.Goals as goal
 

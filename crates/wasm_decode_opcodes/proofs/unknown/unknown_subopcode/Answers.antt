@@ -1,5 +1,5 @@
 use Rattle.std.proofs.Common.{Some, ◌+◌, refl, sym, subst, ap, ◌∙◌, arith}
-use Rattle.wasm_instr.specs.below.Refusal.{IsReadFault}
+use Rattle.wasm_below.specs.Refusal.{IsReadFault}
 use Rattle.wasm_decode_opcodes.specs.OperatorFaults.{FreeFault}
 use Rattle.wasm_decode_opcodes.proofs.GuardLemmas.{refuses_unknown}
 use Rattle.wasm_decode_opcodes.proofs.OperatorLemmas.{subopcode_fault}

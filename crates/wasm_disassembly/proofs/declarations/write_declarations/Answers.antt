@@ -1,5 +1,5 @@
 use Rattle.std.proofs.Common.{◌≡◌, ◌+◌, ◌<◌, Err, ap, ◌∙◌, arith}
-use Rattle.wasm_lines.specs.Lines.{between}
+use Rattle.wasm_text.specs.Lines.{between}
 use Rattle.wasm_disassembly.specs.LocalLines.{ListsDeclarations}
 use Rattle.wasm_disassembly.proofs.Halts.{at_halt}
 use Rattle.wasm_disassembly.proofs.Declared.{way_begins, way_goes_on, way_ends, way_stops, none_refused}

@@ -1,6 +1,6 @@
 use Rattle.std.proofs.Common.{◌≡◌, ◌∙◌, None, rules, arith}
 use Rattle.std.proofs.lemmas.Str.Pattern.{strip_prefix_char}
-use Rattle.wasm_lines.specs.text.Values.{value_type_text}
+use Rattle.wasm_text.specs.Values.{value_type_text}
 use Rattle.wasm_disassembly.proofs.Spaced.{spaced_type}
 use Rattle.wasm_disassembly.proofs.declarations.write_type_name.Goals as goal
 

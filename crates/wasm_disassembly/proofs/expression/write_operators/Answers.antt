@@ -1,9 +1,9 @@
 use Rattle.std.proofs.Common.{◌≡◌, ◌≢◌, [], Err, map, ap, ◌∙◌, sym, subst, refl, rules, inl, inr}
 use Rattle.std.specs.Prelude.{string_bytes}
-use Rattle.wasm_operators.specs.below.bytes.message.Message.TheVariants as message
+use Rattle.wasm_operators.specs.below.declared.message.Message.TheVariants as message
 use Rattle.wasm_operators.specs.below.Source.{rest, source_of}
 use Rattle.wasm_operators.specs.Expression.{EncodesExpression}
-use Rattle.wasm_lines.specs.Lines.{between}
+use Rattle.wasm_text.specs.Lines.{between}
 use Rattle.wasm_disassembly.specs.Disassembly.{ListsOperators}
 use Rattle.wasm_disassembly.specs.Faults.{IsHalt}
 use Rattle.wasm_disassembly.proofs.Halts.{at_halt, at_fault, memory_halts}

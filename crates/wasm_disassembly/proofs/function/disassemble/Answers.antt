@@ -4,7 +4,7 @@ use Rattle.std.specs.Io.KnownBytes.{Appends}
 use Rattle.wasm_operators.specs.below.Source.{offset_of, source_of}
 use Rattle.wasm_operators.specs.Expression.{EncodesExpression}
 use Rattle.wasm_operators.specs.Locals.{max_locals}
-use Rattle.wasm_lines.specs.Lines.{header_of}
+use Rattle.wasm_text.specs.Lines.{header_of}
 use Rattle.wasm_disassembly.specs.LocalLines.{declarations_of, locals_in, ListsDeclarations}
 use Rattle.wasm_disassembly.specs.Disassembly.{Heading, name_of, Disassembles, ListsOperators}
 use Rattle.wasm_disassembly.proofs.Halts.{at_halt}

@@ -1,5 +1,5 @@
 use Rattle.std.proofs.Common.{◌≤◌, length, ap, ◌∙◌, arith}
-use Rattle.wasm_imm_control.proofs.of_below.Blocks.{short_refused}
+use Rattle.wasm_below.proofs.Blocks.{short_refused}
 use Rattle.wasm_imm.specs.Vectors.{EncodesSixteen}
 use Rattle.wasm_imm.proofs.lanes.read_sixteen.Goals as goal
 

@@ -1,7 +1,7 @@
 use Rattle.std.proofs.Common.{Ok, Err, refl, ap, subst, ◌∙◌}
-use Rattle.wasm_imm_control.specs.below.Ahead.{ReadsAhead}
-use Rattle.wasm_imm_control.specs.below.Source.{at_position}
-use Rattle.wasm_imm_control.proofs.of_below.TakesLemmas.{read_to_copy}
+use Rattle.wasm_below.specs.Ahead.{ReadsAhead}
+use Rattle.wasm_below.specs.Source.{at_position}
+use Rattle.wasm_below.proofs.TakesLemmas.{read_to_copy}
 use Rattle.wasm_imm.specs.MemoryArgument.{EncodesMemArg}
 use Rattle.wasm_imm.specs.MemoryArgumentFaults.{MemArgFault}
 use Rattle.wasm_imm.proofs.memory_argument.read_announced.Goals as goal

@@ -1,11 +1,11 @@
 use Rattle.std.proofs.Common.{◌≡◌, ℕ, ◌+◌, ◌%◌, ◌∙◌, Bool, true, false, inl, inr, Err, sym, ap, subst, rules}
-use Rattle.wasm_imm_control.specs.below.bytes.features.WasmFeatures.{WasmFeatures}
-use Rattle.wasm_imm_control.specs.below.bytes.error.Error.{Error}
-use Rattle.wasm_imm_control.specs.below.Ahead.{Fails}
-use Rattle.wasm_imm_control.specs.below.Number.{EncodesUnsigned}
-use Rattle.wasm_imm_control.specs.below.Refusal.{IsReadFault}
-use Rattle.wasm_imm_control.specs.below.Source.{Reader, offset_of, at_position, IsRefusal, HasRead, Reads}
-use Rattle.wasm_imm_control.proofs.of_below.Ahead.{failed}
+use Rattle.wasm_below.specs.declared.features.WasmFeatures.{WasmFeatures}
+use Rattle.wasm_below.specs.declared.error.Error.{Error}
+use Rattle.wasm_below.specs.Ahead.{Fails}
+use Rattle.wasm_below.specs.Number.{EncodesUnsigned}
+use Rattle.wasm_below.specs.Refusal.{IsReadFault}
+use Rattle.wasm_below.specs.Source.{Reader, offset_of, at_position, IsRefusal, HasRead, Reads}
+use Rattle.wasm_below.proofs.Ahead.{failed}
 use Rattle.wasm_imm.specs.declared.memory_argument.MemArgKind.{MemArgKind}
 use Rattle.wasm_imm.specs.MemoryArgument.{EncodesOffset, EncodesMemArg}
 use Rattle.wasm_imm.specs.FlagsNumber.{NamesBoth, OrdersPlain, IsReserved}

@@ -1,5 +1,5 @@
 use Rattle.std.proofs.Common.{◌≢◌, ◌-◌, ◌^◌, ◌≤◌, length, Ok, sym, subst, ◌∙◌, arith}
-use Rattle.wasm_operators.specs.below.bytes.message.Message.TheVariants as message
+use Rattle.wasm_operators.specs.below.declared.message.Message.TheVariants as message
 use Rattle.wasm_listing.specs.Census.{Counts}
 use Rattle.wasm_listing.specs.Dump.{input_of}
 use Rattle.wasm_listing.proofs.CensusLemmas.{whole_counts, other_counts}

@@ -1,4 +1,4 @@
-use Rattle.wasm_below.specs.bytes.message.NumberName.TheVariants as number_name
+use Rattle.wasm_below.specs.declared.message.NumberName.TheVariants as number_name
 use Rattle.wasm_module.proofs.Named.{name_code, name_determines, association_code, association_determines}
 use Rattle.wasm_module.proofs.module_laws.names.Goals as goal
 

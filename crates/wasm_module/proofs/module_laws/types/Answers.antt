@@ -1,4 +1,4 @@
-use Rattle.wasm_below.specs.bytes.message.NumberName.TheVariants as number_name
+use Rattle.wasm_below.specs.declared.message.NumberName.TheVariants as number_name
 use Rattle.wasm_module.proofs.Composites.{sub_type_code, sub_type_determines, rec_type_code, rec_type_determines}
 use Rattle.wasm_module.proofs.module_laws.types.Goals as goal
 

@@ -1,7 +1,7 @@
 use Rattle.std.proofs.Common.{inr}
-use Rattle.wasm_operators_readers.specs.opcodes.Allowed.{EncodesAllowed}
-use Rattle.wasm_operators_readers.specs.Next.{NextMayAllocate}
-use Rattle.wasm_operators_readers.specs.Reading.{Anywhere}
+use Rattle.wasm_decode_opcodes.specs.Allowed.{EncodesAllowed}
+use Rattle.wasm_operators.specs.Next.{NextMayAllocate}
+use Rattle.wasm_operators.specs.Reading.{Anywhere}
 use Rattle.wasm_operators.proofs.Bodies.{body_tree, body_beginning, expression_after_locals}
 use Rattle.wasm_operators.proofs.body_laws.opened_bodies.Goals as goal
 

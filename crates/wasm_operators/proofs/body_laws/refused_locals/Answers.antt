@@ -1,5 +1,5 @@
 use Rattle.std.proofs.Common.{subst}
-use Rattle.wasm_operators_readers.specs.below.Refusal.{IsReadFault}
+use Rattle.wasm_below.specs.Refusal.{IsReadFault}
 use Rattle.wasm_operators.proofs.Bodies.{no_body, refused_stops}
 use Rattle.wasm_operators.proofs.body_laws.refused_locals.Goals as goal
 

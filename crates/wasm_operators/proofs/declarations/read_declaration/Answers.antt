@@ -1,6 +1,6 @@
 use Rattle.std.proofs.Common.{◌++◌, refl}
-use Rattle.wasm_operators_readers.proofs.of_below.Ahead.{stays, advances}
-use Rattle.wasm_operators_readers.proofs.of_below.TakesLemmas.{takes_then}
+use Rattle.wasm_below.proofs.Ahead.{stays, advances}
+use Rattle.wasm_below.proofs.TakesLemmas.{takes_then}
 use Rattle.wasm_operators.specs.Locals.{EncodesDeclaration, DeclarationFault}
 use Rattle.wasm_operators.proofs.LocalsLemmas.{number_fails, type_fails}
 use Rattle.wasm_operators.proofs.declarations.read_declaration.Goals as goal

@@ -1,9 +1,9 @@
 use Rattle.std.proofs.Common.{[], ◌∷◌, ◌++◌, subst, ◌∙◌}
-use Rattle.wasm_operators_readers.specs.below.Source.{offset_of}
-use Rattle.wasm_operators_readers.specs.opcodes.Allowed.{EncodesAllowed}
-use Rattle.wasm_operators_readers.proofs.DecoderPremises.{sound}
-use Rattle.wasm_operators_readers.specs.Reading.{TakesOperator}
-use Rattle.wasm_operators_readers.proofs.Runs.{ran_push}
+use Rattle.wasm_below.specs.Source.{offset_of}
+use Rattle.wasm_decode_opcodes.specs.Allowed.{EncodesAllowed}
+use Rattle.wasm_operators.proofs.DecoderPremises.{sound}
+use Rattle.wasm_operators.specs.Reading.{TakesOperator}
+use Rattle.wasm_operators.proofs.Runs.{ran_push}
 use Rattle.wasm_operators.proofs.OneEnd.{passed_more}
 use Rattle.wasm_operators.proofs.Read.{ok_more, err_more, end_passed}
 use Rattle.wasm_operators.proofs.Refused.{refused_there, refused_inside}

@@ -1,7 +1,7 @@
 use Rattle.std.proofs.Common.{length}
-use Rattle.wasm_operators_readers.specs.below.Source.{rest}
-use Rattle.wasm_operators_readers.specs.Expression.{Placed, operators}
-use Rattle.wasm_operators_readers.specs.Reading.{TakesOperators}
+use Rattle.wasm_below.specs.Source.{rest}
+use Rattle.wasm_operators.specs.Expression.{Placed, operators}
+use Rattle.wasm_operators.specs.Reading.{TakesOperators}
 use Rattle.wasm_operators.specs.Constant.{HasNoEnd}
 use Rattle.wasm_operators.proofs.passing.pass_constant.Given as goal
 

@@ -1,5 +1,5 @@
 use Rattle.std.proofs.Common.{Some, subst}
-use Rattle.wasm_decode.specs.opcodes.Decoding.{IsAfterCode}
+use Rattle.wasm_decode_opcodes.specs.Decoding.{IsAfterCode}
 use Rattle.wasm_tests_decode.proofs.After.{after_both}
 use Rattle.wasm_tests_decode.proofs.half.read_vector_subopcode.Goals as goal
 

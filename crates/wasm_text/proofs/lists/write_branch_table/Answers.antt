@@ -1,6 +1,6 @@
 use Rattle.std.proofs.Common.{◌++◌, string_bytes, flat_map, ap, sym, ◌∙◌}
 use Rattle.std.proofs.lemmas.Result.{on_ok_weaker}
-use Rattle.wasm_instr.specs.imm.BranchTables.{numbers_of}
+use Rattle.wasm_imm.specs.BranchTables.{numbers_of}
 use Rattle.wasm_text.specs.Values.{number_text}
 use Rattle.wasm_text.proofs.Targets.{target_written, table_written}
 use Rattle.wasm_text.proofs.lists.write_branch_table.Goals as goal

@@ -1,5 +1,5 @@
 use Rattle.std.proofs.Common.{◌≡◌, ◌++◌, string_bytes, flat_map}
-use Rattle.wasm_instr.specs.imm.BranchTables.{numbers_of}
+use Rattle.wasm_imm.specs.BranchTables.{numbers_of}
 use Rattle.wasm_text.specs.Values.{number_text}
 use Rattle.wasm_text.proofs.lists.write_branch_table.Given as goal
 

@@ -1,10 +1,10 @@
 use Rattle.std.proofs.Common.{refl, sym, ap, ◌∙◌, arith, ◌++◌, ◌∷◌, [], length}
-use Rattle.wasm_instr.specs.imm.BranchTables.{numbers_of}
+use Rattle.wasm_imm.specs.BranchTables.{numbers_of}
 use Rattle.wasm_view.proofs.Placed.{none_placed}
 use Rattle.wasm_view.proofs.Targets.{fits_below, one_fewer, one_further, none_left}
 use Rattle.wasm_view.proofs.lists.place_targets.Goals as goal
-use Rattle.wasm_instr.proofs.of_imm.BranchTables.{numbers_are}
-use Rattle.wasm_instr.proofs.of_imm.Returned.{first_returned, none_returned, never_refused}
+use Rattle.wasm_imm.proofs.BranchTables.{numbers_are}
+use Rattle.wasm_imm.proofs.Returned.{first_returned, none_returned, never_refused}
 
 pub loop-target-init : goal.loop-target-init
 loop-target-init c = (

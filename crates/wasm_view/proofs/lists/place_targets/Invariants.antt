@@ -1,5 +1,5 @@
 use Rattle.std.proofs.Common.{◌≡◌, ◌++◌, List, ℕ, length, drop}
-use Rattle.wasm_instr.specs.imm.BranchTables.{numbers_of}
+use Rattle.wasm_imm.specs.BranchTables.{numbers_of}
 use Rattle.wasm_view.specs.Lists.{written}
 use Rattle.wasm_view.proofs.lists.place_targets.Given as goal
 

@@ -1,10 +1,10 @@
 use Rattle.std.proofs.Common.{refl}
 use Rattle.std.proofs.lemmas.Bool.{both_ways}
 use Rattle.std.proofs.lemmas.Result.{err_from_is_err_and}
-use Rattle.wasm_below_bytes.specs.declared.message.TypeName.TheVariants as type_name
+use Rattle.wasm_below.specs.declared.message.TypeName.TheVariants as type_name
 use Rattle.wasm_below.specs.TypeEncoding.{LeadsShort, EncodesShort, EncodesExact, EncodesConcrete, EncodesHeapType, ShortFault, ExactFault, ConcreteFault, HeapTypeFault}
 use Rattle.wasm_below.proofs.TypeFaults.{end_heap, short_fault, exact_fault, concrete_fault}
-use Rattle.wasm_below_bytes.proofs.Prefixes.{end_refused, led_reads}
+use Rattle.wasm_below.proofs.Prefixes.{end_refused, led_reads}
 use Rattle.wasm_below.proofs.TypeEncodings.{heap_empty, heap_short, heap_exact, heap_concrete, short_heap, exact_heap, concrete_heap}
 use Rattle.wasm_below.proofs.types.HeapType.read.Goals as goal
 

@@ -1,13 +1,13 @@
 use Rattle.std.proofs.Common.{◌≡◌, ◌≤◌, ℕ, pos, inr, refl, sym, subst, arith, rules, w64}
 use Rattle.std.proofs.lemmas.Int.{ints, to_z-of_z}
 use mir.Val.{SFits}
-use Rattle.wasm_below_bytes.specs.Refusal.{IsReadFault}
+use Rattle.wasm_below.specs.Refusal.{IsReadFault}
 use Rattle.wasm_below.specs.Reference.{max_type_index}
 use Rattle.std.proofs.lemmas.Result.{err_from_is_err_and}
 use Rattle.wasm_below.specs.TypeEncoding.{EncodesConcrete}
 use Rattle.wasm_below.proofs.TypeFaults.{no_index, concrete_missing}
-use Rattle.wasm_below_bytes.proofs.Prefixes.{refused_at}
-use Rattle.wasm_below_bytes.proofs.PrefixCode.{signed_some}
+use Rattle.wasm_below.proofs.Prefixes.{refused_at}
+use Rattle.wasm_below.proofs.PrefixCode.{signed_some}
 use Rattle.wasm_below.proofs.TypeEncodings.{no_concrete}
 use Rattle.wasm_below.proofs.types.HeapType.read_concrete.Goals as goal
 use Rattle.wasm_below.proofs.types.HeapType.read_concrete.Goals.{then-index-lt0-via-then-index-lt0, then-index-lt0-via-else-index-lt0+then-index-from}

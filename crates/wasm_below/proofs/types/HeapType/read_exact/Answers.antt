@@ -1,13 +1,13 @@
 use Rattle.std.proofs.Common.{◌≡◌, ℕ, ◌+◌, ◌∷◌, [], inr, refl, sym, subst, ap, ◌∙◌, arith}
-use Rattle.wasm_below_bytes.specs.Refusal.{IsReadFault}
-use Rattle.wasm_below_bytes.specs.Fault.{ThenFault}
-use Rattle.wasm_below_bytes.specs.Source.{Reader, rest, at_position, HasRead, U32Fault}
-use Rattle.wasm_below_bytes.specs.Number.{EncodesUnsigned}
+use Rattle.wasm_below.specs.Refusal.{IsReadFault}
+use Rattle.wasm_below.specs.Fault.{ThenFault}
+use Rattle.wasm_below.specs.Source.{Reader, rest, at_position, HasRead, U32Fault}
+use Rattle.wasm_below.specs.Number.{EncodesUnsigned}
 use Rattle.wasm_below.specs.TypeEncoding.{EncodesExact, ExactFault, NoIndex}
-use Rattle.wasm_below_bytes.proofs.Ahead.{stays}
-use Rattle.wasm_below_bytes.proofs.Faults.{first_fault}
-use Rattle.wasm_below_bytes.proofs.TakesLemmas.{takes_then, rewound}
-use Rattle.wasm_below_bytes.proofs.Prefixes.{advanced, refused_at, after_refused}
+use Rattle.wasm_below.proofs.Ahead.{stays}
+use Rattle.wasm_below.proofs.Faults.{first_fault}
+use Rattle.wasm_below.proofs.TakesLemmas.{takes_then, rewound}
+use Rattle.wasm_below.proofs.Prefixes.{advanced, refused_at, after_refused}
 use Rattle.wasm_below.proofs.TypeEncodings.{no_exact, exact_after, exact_empty}
 use Rattle.wasm_below.proofs.types.HeapType.read_exact.Goals as goal
 

@@ -1,8 +1,8 @@
 use Rattle.std.proofs.Common.{true, false, subst}
-use Rattle.wasm_below_bytes.specs.declared.message.TypeName.TheVariants as type_name
-use Rattle.wasm_below_bytes.specs.Source.{rest, BeginsWith}
+use Rattle.wasm_below.specs.declared.message.TypeName.TheVariants as type_name
+use Rattle.wasm_below.specs.Source.{rest, BeginsWith}
 use Rattle.wasm_below.specs.TypeEncoding.{EncodesShortRef, EncodesLongRef, EncodesRefType, ShortFault, RefTypeFault}
-use Rattle.wasm_below_bytes.proofs.Prefixes.{led_reads}
+use Rattle.wasm_below.proofs.Prefixes.{led_reads}
 use Rattle.wasm_below.proofs.TypeEncodings.{ref_empty, ref_long, ref_short, long_ref, short_ref, short_ref_fault}
 use Rattle.wasm_below.proofs.types.RefType.read.Goals as goal
 

@@ -1,9 +1,9 @@
 use Rattle.std.proofs.Common.{◌≡◌, ◌+◌, ◌∷◌, [], inl, refl, subst, sym, ap}
-use Rattle.wasm_below_bytes.specs.Source.{Reader, at_position}
+use Rattle.wasm_below.specs.Source.{Reader, at_position}
 use Rattle.wasm_below.specs.TypeEncoding.{ref_byte, HeapTypeFault, RefTypeFault, EncodesHeapType, EncodesLongRef}
-use Rattle.wasm_below_bytes.proofs.Ahead.{stays}
-use Rattle.wasm_below_bytes.proofs.TakesLemmas.{takes_then}
-use Rattle.wasm_below_bytes.proofs.Prefixes.{advanced, after_refused}
+use Rattle.wasm_below.proofs.Ahead.{stays}
+use Rattle.wasm_below.proofs.TakesLemmas.{takes_then}
+use Rattle.wasm_below.proofs.Prefixes.{advanced, after_refused}
 use Rattle.wasm_below.proofs.TypeEncodings.{long_after, long_empty}
 use Rattle.wasm_below.proofs.types.RefType.read_long.Goals as goal
 

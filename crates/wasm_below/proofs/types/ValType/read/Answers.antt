@@ -1,7 +1,7 @@
 use Rattle.std.proofs.lemmas.Bool.{both_ways}
-use Rattle.wasm_below_bytes.specs.declared.message.TypeName.TheVariants as type_name
+use Rattle.wasm_below.specs.declared.message.TypeName.TheVariants as type_name
 use Rattle.wasm_below.specs.TypeEncoding.{EncodesNumberType, EncodesValType, LeadsRefType, ByteFault, ValTypeFault}
-use Rattle.wasm_below_bytes.proofs.Prefixes.{led_reads}
+use Rattle.wasm_below.proofs.Prefixes.{led_reads}
 use Rattle.wasm_below.proofs.TypeEncodings.{value_empty, value_number, number_value, byte_fault}
 use Rattle.wasm_below.proofs.types.ValType.read.Goals as goal
 

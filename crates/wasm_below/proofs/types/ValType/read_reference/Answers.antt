@@ -1,6 +1,6 @@
 use Rattle.std.proofs.Common.{inl}
 use Rattle.wasm_below.specs.TypeEncoding.{EncodesRefType, EncodesValType}
-use Rattle.wasm_below_bytes.proofs.Prefixes.{led_refused}
+use Rattle.wasm_below.proofs.Prefixes.{led_refused}
 use Rattle.wasm_below.proofs.TypeEncodings.{value_empty, value_ref}
 use Rattle.wasm_below.proofs.types.ValType.read_reference.Goals as goal
 

@@ -1,8 +1,8 @@
 -- Written by tools/lists.py from tools/operators.tsv.
 use Rattle.std.proofs.Common.{[], Some, refl, subst, arith, ◌≡◌, ◌∷◌}
-use Rattle.wasm_visit_groups.specs.instr.declared.operator.Operator.TheVariants as operator
-use Rattle.wasm_visit_groups.specs.instr.ops.atomic.AtomicOperator.TheVariants as atomic
-use Rattle.wasm_visit_groups.specs.instr.Immediate.{fence_order}
+use Rattle.wasm_instr.specs.declared.operator.Operator.TheVariants as operator
+use Rattle.wasm_instr_ops.specs.declared.atomic.AtomicOperator.TheVariants as atomic
+use Rattle.wasm_imm.specs.Immediate.{fence_order}
 use Rattle.wasm_decode_groups.specs.Arms.{IsRow}
 use Rattle.wasm_decode_groups.proofs.Codes.{atomic_fence_codes}
 use Rattle.wasm_decode_groups.proofs.atomic_operators.MakerMakesAtomicFenceOrdering.make.Goals as goal

@@ -1,7 +1,7 @@
 -- Written by tools/lists.py from tools/operators.tsv.
 use Rattle.std.proofs.Common.{[], Some, refl, subst, arith, ◌≡◌}
-use Rattle.wasm_visit_groups.specs.instr.declared.operator.Operator.TheVariants as operator
-use Rattle.wasm_visit_groups.specs.instr.ops.atomic.AtomicOperator.TheVariants as atomic
+use Rattle.wasm_instr.specs.declared.operator.Operator.TheVariants as operator
+use Rattle.wasm_instr_ops.specs.declared.atomic.AtomicOperator.TheVariants as atomic
 use Rattle.wasm_decode_opcodes.specs.Decoding.{VisitsRow}
 use Rattle.wasm_decode_groups.proofs.Codes.{atomic_without_immediates_codes}
 use Rattle.wasm_decode_groups.proofs.atomic_operators.OwnAtAtomicUnit.at.Goals as goal

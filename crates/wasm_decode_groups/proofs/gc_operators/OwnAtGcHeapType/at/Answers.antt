@@ -1,8 +1,8 @@
 -- Written by tools/lists.py from tools/operators.tsv.
 use Rattle.std.proofs.Common.{[], Some, refl, subst, arith, ◌≡◌, ◌∷◌}
-use Rattle.wasm_visit_groups.specs.instr.declared.operator.Operator.TheVariants as operator
-use Rattle.wasm_visit_groups.specs.instr.ops.gc.GcOperator.TheVariants as gc
-use Rattle.wasm_visit_groups.specs.instr.Immediate.{heap_type}
+use Rattle.wasm_instr.specs.declared.operator.Operator.TheVariants as operator
+use Rattle.wasm_instr_ops.specs.declared.gc.GcOperator.TheVariants as gc
+use Rattle.wasm_imm.specs.Immediate.{heap_type}
 use Rattle.wasm_decode_opcodes.specs.Decoding.{VisitsRow}
 use Rattle.wasm_decode_groups.proofs.Codes.{gc_heap_type_codes}
 use Rattle.wasm_decode_groups.proofs.gc_operators.OwnAtGcHeapType.at.Goals as goal

@@ -1,7 +1,7 @@
 -- Written by tools/lists.py from tools/operators.tsv.
 use Rattle.std.proofs.Common.{[], Some, refl, subst, arith, ◌≡◌}
-use Rattle.wasm_visit_groups.specs.instr.declared.operator.Operator.TheVariants as operator
-use Rattle.wasm_visit_groups.specs.instr.ops.misc.MiscOperator.TheVariants as misc
+use Rattle.wasm_instr.specs.declared.operator.Operator.TheVariants as operator
+use Rattle.wasm_instr_ops.specs.declared.misc.MiscOperator.TheVariants as misc
 use Rattle.wasm_decode_groups.specs.Arms.{IsRow}
 use Rattle.wasm_decode_groups.proofs.Codes.{misc_without_immediates_codes}
 use Rattle.wasm_decode_groups.proofs.misc_operators.MakerMakesMiscUnit.make.Goals as goal

@@ -1,8 +1,8 @@
 -- Written by tools/lists.py from tools/operators.tsv.
 use Rattle.std.proofs.Common.{[], Some, refl, subst, arith, ◌≡◌, ◌∷◌}
-use Rattle.wasm_visit_groups.specs.instr.declared.operator.Operator.TheVariants as operator
-use Rattle.wasm_visit_groups.specs.instr.ops.misc.MiscOperator.TheVariants as misc
-use Rattle.wasm_visit_groups.specs.instr.Immediate.{unsigned_32}
+use Rattle.wasm_instr.specs.declared.operator.Operator.TheVariants as operator
+use Rattle.wasm_instr_ops.specs.declared.misc.MiscOperator.TheVariants as misc
+use Rattle.wasm_imm.specs.Immediate.{unsigned_32}
 use Rattle.wasm_decode_opcodes.specs.Decoding.{VisitsRow}
 use Rattle.wasm_decode_groups.proofs.Codes.{misc_unsigned_codes}
 use Rattle.wasm_decode_groups.proofs.misc_operators.OwnAtMiscU32.at.Goals as goal

@@ -1,6 +1,6 @@
 use Rattle.std.proofs.Common.{[], ◌≡◌, ◌∷◌, None, refl, subst, arith}
-use Rattle.wasm_visit_groups.specs.instr.declared.operator.Operator.TheVariants as operator
-use Rattle.wasm_visit_groups.specs.instr.Immediate.{try_clauses}
+use Rattle.wasm_instr.specs.declared.operator.Operator.TheVariants as operator
+use Rattle.wasm_imm.specs.Immediate.{try_clauses}
 use Rattle.wasm_decode_opcodes.specs.Decoding.{VisitsRow}
 use Rattle.wasm_decode_groups.proofs.Codes.{try_table_codes}
 use Rattle.wasm_decode_groups.proofs.one_byte_arms.OwnAtListTryTable.at_list.Goals as goal

@@ -1,6 +1,6 @@
 use Rattle.std.proofs.Common.{[], ◌≡◌, ◌∷◌, None, refl, subst, arith}
-use Rattle.wasm_visit_groups.specs.instr.declared.operator.Operator.TheVariants as operator
-use Rattle.wasm_visit_groups.specs.instr.Immediate.{unsigned_32, resume_clauses}
+use Rattle.wasm_instr.specs.declared.operator.Operator.TheVariants as operator
+use Rattle.wasm_imm.specs.Immediate.{unsigned_32, resume_clauses}
 use Rattle.wasm_decode_opcodes.specs.Decoding.{VisitsRow}
 use Rattle.wasm_decode_groups.proofs.Codes.{resume_codes}
 use Rattle.wasm_decode_groups.proofs.one_byte_arms.OwnAtListTuple2U32ResumeTable.at_list.Goals as goal

@@ -2,8 +2,8 @@
 use Rattle.std.proofs.Common.{[], None, refl, subst, ap, arith, ◌≡◌, ◌∷◌, rules, w64, to_z, of_z}
 use Rattle.std.proofs.lemmas.Int.{to_z-of_z}
 use mir.Val.{SFits}
-use Rattle.wasm_visit_groups.specs.instr.declared.operator.Operator.TheVariants as operator
-use Rattle.wasm_visit_groups.specs.instr.Immediate.{signed_64}
+use Rattle.wasm_instr.specs.declared.operator.Operator.TheVariants as operator
+use Rattle.wasm_imm.specs.Immediate.{signed_64}
 use Rattle.wasm_decode_groups.specs.Arms.{IsRow}
 use Rattle.wasm_decode_groups.proofs.Codes.{one_byte_signed_64_codes}
 use Rattle.wasm_decode_groups.proofs.one_byte_operators.MakerMakesOneByteI64.make.Goals as goal

@@ -1,8 +1,8 @@
 -- Written by tools/lists.py from tools/operators.tsv.
 use Rattle.std.proofs.Common.{[], None, refl, subst, arith, ◌≡◌, ◌∷◌}
-use Rattle.wasm_visit_groups.specs.imm.declared.memory_argument.MemArgKind.TheVariants as kind
-use Rattle.wasm_visit_groups.specs.instr.declared.operator.Operator.TheVariants as operator
-use Rattle.wasm_visit_groups.specs.instr.Immediate.{memory_argument}
+use Rattle.wasm_imm.specs.declared.memory_argument.MemArgKind.TheVariants as kind
+use Rattle.wasm_instr.specs.declared.operator.Operator.TheVariants as operator
+use Rattle.wasm_imm.specs.Immediate.{memory_argument}
 use Rattle.wasm_decode_opcodes.specs.Entries.{align_at}
 use Rattle.wasm_decode_groups.specs.Arms.{IsRow}
 use Rattle.wasm_decode_groups.proofs.Codes.{one_byte_memory_codes}

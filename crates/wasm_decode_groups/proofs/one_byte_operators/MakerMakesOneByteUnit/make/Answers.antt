@@ -1,6 +1,6 @@
 -- Written by tools/lists.py from tools/operators.tsv.
 use Rattle.std.proofs.Common.{[], None, refl, subst, arith, ◌≡◌, ◌≤◌}
-use Rattle.wasm_visit_groups.specs.instr.declared.operator.Operator.TheVariants as operator
+use Rattle.wasm_instr.specs.declared.operator.Operator.TheVariants as operator
 use Rattle.wasm_decode_groups.specs.Arms.{IsRow}
 use Rattle.wasm_decode_groups.proofs.Codes.{one_byte_without_immediates_codes}
 use Rattle.wasm_decode_groups.proofs.one_byte_operators.MakerMakesOneByteUnit.make.Goals as goal

@@ -1,9 +1,9 @@
 -- Written by tools/lists.py from tools/operators.tsv.
 use Rattle.std.proofs.Common.{[], Some, refl, subst, arith, ◌≡◌, ◌∷◌}
-use Rattle.wasm_visit_groups.specs.imm.declared.memory_argument.MemArgKind.TheVariants as kind
-use Rattle.wasm_visit_groups.specs.instr.declared.operator.Operator.TheVariants as operator
-use Rattle.wasm_visit_groups.specs.instr.simd.simd.SimdOperator.TheVariants as simd
-use Rattle.wasm_visit_groups.specs.instr.Immediate.{memory_argument}
+use Rattle.wasm_imm.specs.declared.memory_argument.MemArgKind.TheVariants as kind
+use Rattle.wasm_instr.specs.declared.operator.Operator.TheVariants as operator
+use Rattle.wasm_instr_simd.specs.declared.simd.SimdOperator.TheVariants as simd
+use Rattle.wasm_imm.specs.Immediate.{memory_argument}
 use Rattle.wasm_decode_opcodes.specs.Decoding.{VisitsRow}
 use Rattle.wasm_decode_opcodes.specs.Entries.{align_at}
 use Rattle.wasm_decode_groups.proofs.Codes.{simd_low_memory_codes}

@@ -1,8 +1,8 @@
 -- Written by tools/lists.py from tools/operators.tsv.
 use Rattle.std.proofs.Common.{[], Some, refl, subst, arith, ◌≡◌, ◌∷◌}
-use Rattle.wasm_visit_groups.specs.instr.declared.operator.Operator.TheVariants as operator
-use Rattle.wasm_visit_groups.specs.instr.simd.simd.SimdOperator.TheVariants as simd
-use Rattle.wasm_visit_groups.specs.instr.Immediate.{one_lane}
+use Rattle.wasm_instr.specs.declared.operator.Operator.TheVariants as operator
+use Rattle.wasm_instr_simd.specs.declared.simd.SimdOperator.TheVariants as simd
+use Rattle.wasm_imm.specs.Immediate.{one_lane}
 use Rattle.wasm_decode_opcodes.specs.Decoding.{VisitsRow}
 use Rattle.wasm_decode_groups.proofs.Codes.{simd_low_lane_index_codes}
 use Rattle.wasm_decode_groups.proofs.simd_low_operators.OwnAtSimdLowU8.at.Goals as goal

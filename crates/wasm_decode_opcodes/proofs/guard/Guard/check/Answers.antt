@@ -1,5 +1,5 @@
 use Rattle.std.proofs.Common.{refl, sym, subst, ap, ◌∙◌, arith}
-use Rattle.wasm_instr.specs.below.bytes.message.Message.TheVariants as message
+use Rattle.wasm_below.specs.declared.message.Message.TheVariants as message
 use Rattle.wasm_decode_opcodes.proofs.GuardLemmas.{lacks_feature, wrong_frame}
 use Rattle.wasm_decode_opcodes.proofs.guard.Guard.check.Goals as goal
 

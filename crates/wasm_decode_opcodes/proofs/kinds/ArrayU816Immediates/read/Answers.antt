@@ -1,5 +1,5 @@
-use Rattle.wasm_instr.specs.imm.Vectors.{EncodesSixteen}
-use Rattle.wasm_instr.specs.Immediate.{sixteen_lanes, is_sixteen_lanes}
+use Rattle.wasm_imm.specs.Vectors.{EncodesSixteen}
+use Rattle.wasm_imm.specs.Immediate.{sixteen_lanes, is_sixteen_lanes}
 use Rattle.wasm_decode_opcodes.proofs.KindLemmas.{of_lanes}
 use Rattle.wasm_decode_opcodes.proofs.SequenceLemmas.{one_failed}
 use Rattle.wasm_decode_opcodes.proofs.kinds.ArrayU816Immediates.read.Goals as goal

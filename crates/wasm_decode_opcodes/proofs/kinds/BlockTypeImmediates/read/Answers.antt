@@ -1,5 +1,5 @@
-use Rattle.wasm_instr.specs.imm.BlockTypes.{EncodesBlockType}
-use Rattle.wasm_instr.specs.Immediate.{block_type, is_block_type}
+use Rattle.wasm_imm.specs.BlockTypes.{EncodesBlockType}
+use Rattle.wasm_imm.specs.Immediate.{block_type, is_block_type}
 use Rattle.wasm_decode_opcodes.proofs.KindLemmas.{of_block_type}
 use Rattle.wasm_decode_opcodes.proofs.SequenceLemmas.{one_failed}
 use Rattle.wasm_decode_opcodes.proofs.kinds.BlockTypeImmediates.read.Goals as goal

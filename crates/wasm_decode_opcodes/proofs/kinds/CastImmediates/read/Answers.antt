@@ -1,5 +1,5 @@
-use Rattle.wasm_instr.specs.imm.Casts.{EncodesCast}
-use Rattle.wasm_instr.specs.Immediate.{cast, is_cast}
+use Rattle.wasm_imm.specs.Casts.{EncodesCast}
+use Rattle.wasm_imm.specs.Immediate.{cast, is_cast}
 use Rattle.wasm_decode_opcodes.proofs.KindLemmas.{of_cast}
 use Rattle.wasm_decode_opcodes.proofs.SequenceLemmas.{one_failed}
 use Rattle.wasm_decode_opcodes.proofs.kinds.CastImmediates.read.Goals as goal

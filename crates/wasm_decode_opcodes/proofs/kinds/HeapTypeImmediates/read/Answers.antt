@@ -1,5 +1,5 @@
-use Rattle.wasm_instr.specs.below.TypeEncoding.{EncodesHeapType}
-use Rattle.wasm_instr.specs.Immediate.{heap_type, is_heap_type}
+use Rattle.wasm_below.specs.TypeEncoding.{EncodesHeapType}
+use Rattle.wasm_imm.specs.Immediate.{heap_type, is_heap_type}
 use Rattle.wasm_decode_opcodes.proofs.KindLemmas.{of_heap_type}
 use Rattle.wasm_decode_opcodes.proofs.SequenceLemmas.{one_failed}
 use Rattle.wasm_decode_opcodes.proofs.kinds.HeapTypeImmediates.read.Goals as goal

@@ -1,5 +1,5 @@
-use Rattle.wasm_instr.specs.below.Number.{EncodesSigned}
-use Rattle.wasm_instr.specs.Immediate.{signed_32, is_signed_32}
+use Rattle.wasm_below.specs.Number.{EncodesSigned}
+use Rattle.wasm_imm.specs.Immediate.{signed_32, is_signed_32}
 use Rattle.wasm_decode_opcodes.proofs.KindLemmas.{of_signed_32}
 use Rattle.wasm_decode_opcodes.proofs.SequenceLemmas.{one_failed}
 use Rattle.wasm_decode_opcodes.proofs.kinds.I32Immediates.read.Goals as goal

@@ -1,5 +1,5 @@
-use Rattle.wasm_instr.specs.below.Number.{EncodesSigned}
-use Rattle.wasm_instr.specs.Immediate.{signed_64, is_signed_64}
+use Rattle.wasm_below.specs.Number.{EncodesSigned}
+use Rattle.wasm_imm.specs.Immediate.{signed_64, is_signed_64}
 use Rattle.wasm_decode_opcodes.proofs.KindLemmas.{of_signed_64}
 use Rattle.wasm_decode_opcodes.proofs.SequenceLemmas.{one_failed}
 use Rattle.wasm_decode_opcodes.proofs.kinds.I64Immediates.read.Goals as goal

@@ -1,6 +1,6 @@
 use Rattle.std.specs.Int.{w32}
-use Rattle.wasm_instr.specs.below.Number.{EncodesFixed}
-use Rattle.wasm_instr.specs.Immediate.{float_32, is_float_32}
+use Rattle.wasm_below.specs.Number.{EncodesFixed}
+use Rattle.wasm_imm.specs.Immediate.{float_32, is_float_32}
 use Rattle.wasm_decode_opcodes.proofs.KindLemmas.{of_float_32}
 use Rattle.wasm_decode_opcodes.proofs.SequenceLemmas.{one_failed}
 use Rattle.wasm_decode_opcodes.proofs.kinds.Ieee32Immediates.read.Goals as goal

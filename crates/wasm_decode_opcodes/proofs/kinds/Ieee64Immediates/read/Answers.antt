@@ -1,6 +1,6 @@
 use Rattle.std.specs.Int.{w64}
-use Rattle.wasm_instr.specs.below.Number.{EncodesFixed}
-use Rattle.wasm_instr.specs.Immediate.{float_64, is_float_64}
+use Rattle.wasm_below.specs.Number.{EncodesFixed}
+use Rattle.wasm_imm.specs.Immediate.{float_64, is_float_64}
 use Rattle.wasm_decode_opcodes.proofs.KindLemmas.{of_float_64}
 use Rattle.wasm_decode_opcodes.proofs.SequenceLemmas.{one_failed}
 use Rattle.wasm_decode_opcodes.proofs.kinds.Ieee64Immediates.read.Goals as goal

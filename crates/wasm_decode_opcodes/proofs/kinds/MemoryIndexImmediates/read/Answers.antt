@@ -1,5 +1,5 @@
-use Rattle.wasm_instr.specs.imm.Indices.{EncodesMemoryIndex}
-use Rattle.wasm_instr.specs.Immediate.{memory_index, is_memory_index}
+use Rattle.wasm_imm.specs.Indices.{EncodesMemoryIndex}
+use Rattle.wasm_imm.specs.Immediate.{memory_index, is_memory_index}
 use Rattle.wasm_decode_opcodes.proofs.KindLemmas.{of_memory_index}
 use Rattle.wasm_decode_opcodes.proofs.SequenceLemmas.{one_failed}
 use Rattle.wasm_decode_opcodes.proofs.kinds.MemoryIndexImmediates.read.Goals as goal

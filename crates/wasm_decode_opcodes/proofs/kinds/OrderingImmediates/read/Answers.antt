@@ -1,5 +1,5 @@
-use Rattle.wasm_instr.specs.imm.Orderings.{EncodesOrderingByte}
-use Rattle.wasm_instr.specs.Immediate.{order, is_order}
+use Rattle.wasm_imm.specs.Orderings.{EncodesOrderingByte}
+use Rattle.wasm_imm.specs.Immediate.{order, is_order}
 use Rattle.wasm_decode_opcodes.proofs.KindLemmas.{of_order}
 use Rattle.wasm_decode_opcodes.proofs.SequenceLemmas.{one_failed}
 use Rattle.wasm_decode_opcodes.proofs.kinds.OrderingImmediates.read.Goals as goal

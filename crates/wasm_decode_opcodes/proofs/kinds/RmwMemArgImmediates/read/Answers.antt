@@ -1,6 +1,6 @@
-use Rattle.wasm_instr.specs.imm.declared.memory_argument.MemArgKind.TheVariants as kind
-use Rattle.wasm_instr.specs.imm.MemoryArgument.{EncodesMemArg}
-use Rattle.wasm_instr.specs.Immediate.{memory_argument, is_memory_argument}
+use Rattle.wasm_imm.specs.declared.memory_argument.MemArgKind.TheVariants as kind
+use Rattle.wasm_imm.specs.MemoryArgument.{EncodesMemArg}
+use Rattle.wasm_imm.specs.Immediate.{memory_argument, is_memory_argument}
 use Rattle.wasm_decode_opcodes.proofs.KindLemmas.{of_memory}
 use Rattle.wasm_decode_opcodes.proofs.SequenceLemmas.{one_failed}
 use Rattle.wasm_decode_opcodes.proofs.kinds.RmwMemArgImmediates.read.Goals as goal

@@ -1,5 +1,5 @@
-use Rattle.wasm_instr.specs.imm.Indices.{EncodesTableIndex}
-use Rattle.wasm_instr.specs.Immediate.{table_index_32, is_table_index}
+use Rattle.wasm_imm.specs.Indices.{EncodesTableIndex}
+use Rattle.wasm_imm.specs.Immediate.{table_index_32, is_table_index}
 use Rattle.wasm_decode_opcodes.proofs.KindLemmas.{of_table_index}
 use Rattle.wasm_decode_opcodes.proofs.SequenceLemmas.{one_failed}
 use Rattle.wasm_decode_opcodes.proofs.kinds.TableIndexImmediates.read.Goals as goal

@@ -1,5 +1,5 @@
-use Rattle.wasm_instr.specs.below.Number.{EncodesUnsigned}
-use Rattle.wasm_instr.specs.Immediate.{unsigned_32, is_unsigned_32}
+use Rattle.wasm_below.specs.Number.{EncodesUnsigned}
+use Rattle.wasm_imm.specs.Immediate.{unsigned_32, is_unsigned_32}
 use Rattle.wasm_decode_opcodes.proofs.KindLemmas.{of_unsigned}
 use Rattle.wasm_decode_opcodes.proofs.SequenceLemmas.{one_failed}
 use Rattle.wasm_decode_opcodes.proofs.kinds.U32Immediates.read.Goals as goal

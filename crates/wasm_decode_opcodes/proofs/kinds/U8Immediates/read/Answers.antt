@@ -1,5 +1,5 @@
-use Rattle.wasm_instr.specs.below.Source.{IsByte}
-use Rattle.wasm_instr.specs.Immediate.{one_lane, is_one_lane}
+use Rattle.wasm_below.specs.Source.{IsByte}
+use Rattle.wasm_imm.specs.Immediate.{one_lane, is_one_lane}
 use Rattle.wasm_decode_opcodes.proofs.KindLemmas.{of_lane}
 use Rattle.wasm_decode_opcodes.proofs.SequenceLemmas.{one_failed}
 use Rattle.wasm_decode_opcodes.proofs.kinds.U8Immediates.read.Goals as goal

@@ -1,5 +1,5 @@
-use Rattle.wasm_instr.specs.imm.Vectors.{EncodesVector}
-use Rattle.wasm_instr.specs.Immediate.{vector, is_vector}
+use Rattle.wasm_imm.specs.Vectors.{EncodesVector}
+use Rattle.wasm_imm.specs.Immediate.{vector, is_vector}
 use Rattle.wasm_decode_opcodes.proofs.KindLemmas.{of_vector}
 use Rattle.wasm_decode_opcodes.proofs.SequenceLemmas.{one_failed}
 use Rattle.wasm_decode_opcodes.proofs.kinds.V128Immediates.read.Goals as goal

@@ -1,7 +1,7 @@
 use Rattle.std.proofs.Common.{[], ◌∷◌}
-use Rattle.wasm_instr.specs.below.Source.{rest, SomePrefix}
-use Rattle.wasm_instr.specs.imm.HandlerTables.{EncodesResumeTable, EncodesHandlerCount}
-use Rattle.wasm_instr.specs.Immediate.{resume_clauses, is_resume_clauses}
+use Rattle.wasm_below.specs.Source.{rest, SomePrefix}
+use Rattle.wasm_imm.specs.HandlerTables.{EncodesResumeTable, EncodesHandlerCount}
+use Rattle.wasm_imm.specs.Immediate.{resume_clauses, is_resume_clauses}
 use Rattle.wasm_decode_opcodes.specs.Refused.{KindsMayAllocate}
 use Rattle.wasm_decode_opcodes.proofs.KindLemmas.{memory_refused, of_resume_table}
 use Rattle.wasm_decode_opcodes.proofs.ListLemmas.{resumes_own}

@@ -1,7 +1,7 @@
 use Rattle.std.proofs.Common.{[], ◌∷◌}
-use Rattle.wasm_instr.specs.below.Source.{rest}
-use Rattle.wasm_instr.specs.imm.HandlerTables.{EncodesSelect, SelectAllocates}
-use Rattle.wasm_instr.specs.Immediate.{select_types, is_select_types}
+use Rattle.wasm_below.specs.Source.{rest}
+use Rattle.wasm_imm.specs.HandlerTables.{EncodesSelect, SelectAllocates}
+use Rattle.wasm_imm.specs.Immediate.{select_types, is_select_types}
 use Rattle.wasm_decode_opcodes.specs.Refused.{KindsMayAllocate}
 use Rattle.wasm_decode_opcodes.proofs.KindLemmas.{memory_refused, of_select}
 use Rattle.wasm_decode_opcodes.proofs.ListLemmas.{selects_own}

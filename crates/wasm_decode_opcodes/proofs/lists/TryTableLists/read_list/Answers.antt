@@ -1,7 +1,7 @@
 use Rattle.std.proofs.Common.{[], ◌∷◌}
-use Rattle.wasm_instr.specs.below.Source.{rest, SomePrefix}
-use Rattle.wasm_instr.specs.imm.HandlerTables.{EncodesTryTable, EncodesTryTableCount}
-use Rattle.wasm_instr.specs.Immediate.{try_clauses, is_try_clauses}
+use Rattle.wasm_below.specs.Source.{rest, SomePrefix}
+use Rattle.wasm_imm.specs.HandlerTables.{EncodesTryTable, EncodesTryTableCount}
+use Rattle.wasm_imm.specs.Immediate.{try_clauses, is_try_clauses}
 use Rattle.wasm_decode_opcodes.specs.Refused.{KindsMayAllocate}
 use Rattle.wasm_decode_opcodes.proofs.KindLemmas.{memory_refused, of_try_table}
 use Rattle.wasm_decode_opcodes.proofs.ListLemmas.{tries_own}

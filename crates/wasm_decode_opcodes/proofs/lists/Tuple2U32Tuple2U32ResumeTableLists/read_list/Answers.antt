@@ -1,6 +1,6 @@
 use Rattle.std.proofs.Common.{[], ◌∷◌}
-use Rattle.wasm_instr.specs.below.Number.{EncodesUnsigned}
-use Rattle.wasm_instr.specs.Immediate.{unsigned_32, resume_clauses, is_unsigned_32, is_resume_clauses}
+use Rattle.wasm_below.specs.Number.{EncodesUnsigned}
+use Rattle.wasm_imm.specs.Immediate.{unsigned_32, resume_clauses, is_unsigned_32, is_resume_clauses}
 use Rattle.wasm_decode_opcodes.specs.Refused.{KindsMayAllocate}
 use Rattle.wasm_decode_opcodes.proofs.KindLemmas.{first_refused, later_refused, later_read, of_unsigned}
 use Rattle.wasm_decode_opcodes.proofs.ListLemmas.{index_before}

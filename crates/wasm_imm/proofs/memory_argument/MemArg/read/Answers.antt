@@ -1,9 +1,9 @@
 use Rattle.std.proofs.Common.{◌≡◌, ◌∙◌, inr, Err, refl, ap, subst, arith}
-use Rattle.wasm_imm_control.specs.below.Number.{EncodesUnsigned}
-use Rattle.wasm_imm_control.specs.below.bytes.features.WasmFeatures.{WasmFeatures}
-use Rattle.wasm_imm_control.specs.below.Source.{Reader, offset_of, at_position, HasRead, Reads, U32Fault}
-use Rattle.wasm_imm_control.proofs.of_below.Steps.{first_missing}
-use Rattle.wasm_imm_control.proofs.of_below.TakesLemmas.{back}
+use Rattle.wasm_below.specs.Number.{EncodesUnsigned}
+use Rattle.wasm_below.specs.declared.features.WasmFeatures.{WasmFeatures}
+use Rattle.wasm_below.specs.Source.{Reader, offset_of, at_position, HasRead, Reads, U32Fault}
+use Rattle.wasm_below.proofs.Steps.{first_missing}
+use Rattle.wasm_below.proofs.TakesLemmas.{back}
 use Rattle.wasm_imm.specs.MemoryArgument.{EncodesOffset, EncodesAfterFlags, EncodesMemArg}
 use Rattle.wasm_imm.specs.MemoryArgumentFaults.{OffsetFault, FlagsFault, MemArgFault}
 use Rattle.wasm_imm.proofs.FlagsNumber.{short_refused, short_read}

@@ -1,8 +1,8 @@
 use Rattle.std.proofs.Common.{◌≡◌, ◌<◌, ◌++◌, ◌∷◌, [], refl, subst, ◌∙◌, arith}
-use Rattle.wasm_operators_readers.specs.below.Source.{Reader}
-use Rattle.wasm_operators_readers.proofs.of_below.TakesLemmas.{takes_none, takes_then}
-use Rattle.wasm_operators_readers.specs.imm.Lists.{EncodesMany}
-use Rattle.wasm_operators_readers.proofs.of_imm.ListLemmas.{many_more}
+use Rattle.wasm_below.specs.Source.{Reader}
+use Rattle.wasm_below.proofs.TakesLemmas.{takes_none, takes_then}
+use Rattle.wasm_imm.specs.Lists.{EncodesMany}
+use Rattle.wasm_imm.proofs.ListLemmas.{many_more}
 use Rattle.wasm_operators.specs.Locals.{EncodesDeclaration, RefusesLocals, IsPastLocals}
 use Rattle.wasm_operators.proofs.LocalsLemmas.{count_refused, declaration_refused, locals_read}
 use Rattle.wasm_operators.proofs.code.FunctionBody.get_binary_reader_for_operators.Goals as goal

@@ -1,6 +1,6 @@
 use Rattle.std.proofs.Common.{ℕ, List}
-use Rattle.wasm_operators_readers.specs.below.Source.{Takes}
-use Rattle.wasm_operators_readers.specs.imm.Lists.{EncodesMany}
+use Rattle.wasm_below.specs.Source.{Takes}
+use Rattle.wasm_imm.specs.Lists.{EncodesMany}
 use Rattle.wasm_operators.specs.Locals.{Declaration, EncodesDeclaration}
 use Rattle.wasm_operators.proofs.code.FunctionBody.get_binary_reader_for_operators.Given as goal
 

@@ -1,4 +1,4 @@
-use Rattle.wasm_operators_readers.proofs.of_below.DeterminedRefusals.{reader_determines}
+use Rattle.wasm_below.proofs.DeterminedRefusals.{reader_determines}
 use Rattle.wasm_operators.proofs.code.FunctionBodyFromReader.determines_refusal.Goals as goal
 
 pub returns : goal.returns

@@ -1,6 +1,6 @@
 use Rattle.std.proofs.Common.{◌-◌, take, refl, subst, ap, ◌∙◌}
-use Rattle.wasm_operators_readers.specs.below.FromReader.{IsRefused}
-use Rattle.wasm_operators_readers.specs.below.Source.{Reader, reader_of}
+use Rattle.wasm_below.specs.FromReader.{IsRefused}
+use Rattle.wasm_below.specs.Source.{Reader, reader_of}
 use Rattle.wasm_operators.specs.Constant.{EncodesConstantReader}
 use Rattle.wasm_operators.specs.ConstantFaults.{ConstantFault, ConstantMayAllocate}
 use Rattle.wasm_operators.proofs.Read.{constant_read}

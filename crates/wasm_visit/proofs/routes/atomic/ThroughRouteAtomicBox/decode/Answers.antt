@@ -1,9 +1,9 @@
 -- Written by tools/lists.py from tools/operators.tsv.
 use Rattle.std.proofs.Common.{subst}
-use Rattle.wasm_decode_groups.specs.below.Source.{at_position}
-use Rattle.wasm_decode_groups.specs.opcodes.Allowed.{EncodesAllowed}
-use Rattle.wasm_decode_groups.specs.opcodes.Decoding.{Decodes}
-use Rattle.wasm_decode_groups.specs.opcodes.OperatorFaults.{OperatorFault}
+use Rattle.wasm_below.specs.Source.{at_position}
+use Rattle.wasm_decode_opcodes.specs.Allowed.{EncodesAllowed}
+use Rattle.wasm_decode_opcodes.specs.Decoding.{Decodes}
+use Rattle.wasm_decode_opcodes.specs.OperatorFaults.{OperatorFault}
 use Rattle.wasm_visit.proofs.Passing.{through_box}
 use Rattle.wasm_visit.proofs.routes.atomic.ThroughRouteAtomicBox.decode.Goals as goal
 

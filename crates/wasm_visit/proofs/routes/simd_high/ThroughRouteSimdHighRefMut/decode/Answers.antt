@@ -1,7 +1,7 @@
 -- Written by tools/lists.py from tools/operators.tsv.
-use Rattle.wasm_decode_groups.specs.below.Source.{at_position}
-use Rattle.wasm_decode_groups.specs.opcodes.Allowed.{EncodesAllowed}
-use Rattle.wasm_decode_groups.specs.opcodes.OperatorFaults.{OperatorFault}
+use Rattle.wasm_below.specs.Source.{at_position}
+use Rattle.wasm_decode_opcodes.specs.Allowed.{EncodesAllowed}
+use Rattle.wasm_decode_opcodes.specs.OperatorFaults.{OperatorFault}
 use Rattle.wasm_visit.proofs.Passing.{through_reference}
 use Rattle.wasm_visit.proofs.routes.simd_high.ThroughRouteSimdHighRefMut.decode.Goals as goal
 

@@ -1,0 +1,14 @@
+use Rattle.wasm_operators.specs.imm.Casts.{EncodesCast}
+use Rattle.wasm_operators.specs.imm.CastFaults.{CastFault}
+use Rattle.uses.proofs.Codes.{reads_known, fault_known}
+use Rattle.uses.proofs.numbers.peek_cast.Goals as goal
+
+pub returns-clause-reads : goal.returns-clause-reads
+returns-clause-reads c = λ value text more parts known.
+    let reads = rw c.clone.ensures at c.read.ensures in
+    reads_known EncodesCast CastFault c.read.result c.args.reader.now _ value text more c.casts.ensures reads parts known
+
+pub returns-clause-refused : goal.returns-clause-refused
+returns-clause-refused c = λ m offset known.
+    let reads = rw c.clone.ensures at c.read.ensures in
+    fault_known EncodesCast CastFault c.read.result c.args.reader.now _ m offset c.control_refusals.ensures.cast reads known

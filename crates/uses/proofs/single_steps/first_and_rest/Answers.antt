@@ -1,0 +1,37 @@
+use Rattle.std.proofs.Common.{[], ◌∷◌, ◌++◌, Err, ap, sym, subst, ◌∙◌}
+use Rattle.wasm_operators.specs.below.Source.{source_of, reader_of}
+use Rattle.wasm_operators.specs.grammar.Frames.{innermost}
+use Rattle.wasm_operators.specs.instr.Roles.{roles_of}
+use Rattle.wasm_operators.specs.Expression.{operators, EncodesExpression}
+use Rattle.uses.specs.Input.{input}
+use Rattle.uses.proofs.Codes.{memory_alone}
+use Rattle.uses.proofs.SingleSteps.{first_then, first_refused, is_no_expression}
+use Rattle.uses.proofs.single_steps.first_and_rest.Goals as goal
+
+pub returns-in-Ok-read_all-clause-found : goal.returns-in-Ok-read_all-clause-found
+returns-in-Ok-read_all-clause-found c =
+    let op = c.in-Ok.first in
+    let read_so_far = c.one_operator.ensures.any [] op c.new-reader.result c.read.new.self c.in-Ok.ensures c.new-reader.ensures.read_so_far in
+    let along = (c.in-Ok-read_all.ensures.rest (op ∷ []) read_so_far).tree in
+    let list = along.1 ∙ ap (λ first. first ++ along.0) c.new-others.ensures.items in
+    let all = first_then c.args.features c.args.bytes.now c.new-reader.result c.read.new.self op along.0 (c.new-reader.ensures.reader ∙ c.new_features.ensures)
+    c.in-Ok.ensures along.2.encodes in
+    subst (λ others. EncodesExpression (input c.args.features c.args.bytes.now) ((op, 0) ∷ others)) (sym list) all
+
+pub returns-in-Ok-clause-only : goal.returns-in-Ok-clause-only
+returns-in-Ok-clause-only c = λ whole encodes.
+    let old = c.new-reader.result in
+    let mid = c.read.new.self in
+    let first = c.single_reads.ensures.next old old mid [] c.in-Ok.first (c.single_reads.ensures.first old) c.in-Ok.ensures in
+    let others = c.in-Err-read_all.ensures.runs in
+    let both = c.single_reads.ensures.joined old mid c.read_all.new.self _ others.0 first others.2 in
+    let there = subst (λ r. EncodesExpression (source_of r) whole) (sym (c.new-reader.ensures.reader ∙ c.new_features.ensures)) encodes in
+    c.read_to_the_end.ensures.only [] c.in-Err-read_all.error old c.read_all.new.self _ whole c.new-reader.ensures.read_so_far both others.3 there
+
+pub returns-clause-only : goal.returns-clause-only
+returns-clause-only c = λ whole encodes.
+    let inner = ap innermost c.new-reader.ensures.fresh in
+    let none = first_refused (Err c.in-Err.error) (reader_of c.args.features 0 c.args.bytes.now) c.new-reader.result c.read.new.self
+    (c.new-reader.ensures.reader ∙ c.new_features.ensures) inner c.in-Err.ensures in
+    memory_alone c.in-Err.error.message
+    (λ other. is_no_expression c.args.features c.args.bytes.now whole (c.rules_accept_walks.ensures (roles_of (operators whole))).1 (none other) encodes)

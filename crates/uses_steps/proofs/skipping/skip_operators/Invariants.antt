@@ -1,5 +1,0 @@
-use Rattle.uses_steps.proofs.Skipped.{HasSkipped}
-use Rattle.uses_steps.proofs.skipping.skip_operators.Given as goal
-
-abbrev pub invariant-loop-operator : goal.invariant-loop-operator
-invariant-loop-operator l = HasSkipped l.operator l.fn.operators l.operators

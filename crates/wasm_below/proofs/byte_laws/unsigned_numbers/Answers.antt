@@ -1,0 +1,5 @@
+use Rattle.wasm_below.proofs.PrefixCode.{unsigned_prefix_code}
+use Rattle.wasm_below.proofs.byte_laws.unsigned_numbers.Goals as goal
+
+pub returns : goal.returns
+returns c = λ width a b x y m n p q e. unsigned_prefix_code a b width x y m n p q e

@@ -1,5 +1,0 @@
-use Rattle.wasm_below.proofs.DeterminedTypeRefusals.{ref_determines}
-use Rattle.wasm_below.proofs.from_reader.RefTypeFromReader.determines_refusal.Goals as goal
-
-pub returns : goal.returns
-returns c = ref_determines

@@ -1,0 +1,101 @@
+-- docs/ERRORS-AND-FEATURES.md has the table of refusals.
+use Rattle.std.specs.Prelude.{ℕ, List, codes, ◌≡◌}
+use Rattle.wasm_below.specs.declared.message.NumberName.{NumberName}
+use Rattle.wasm_below.specs.declared.message.NumberName.TheVariants as number_name
+use Rattle.wasm_below.specs.declared.message.SizeName.{SizeName}
+use Rattle.wasm_below.specs.declared.message.SizeName.TheVariants as size_name
+use Rattle.wasm_below.specs.declared.message.InstructionName.{InstructionName}
+use Rattle.wasm_below.specs.declared.message.InstructionName.TheVariants as instruction_name
+use Rattle.wasm_below.specs.declared.message.LeadingByteName.{LeadingByteName}
+use Rattle.wasm_below.specs.declared.message.LeadingByteName.TheVariants as leading_name
+use Rattle.wasm_below.specs.declared.message.TypeName.{TypeName}
+use Rattle.wasm_below.specs.declared.message.TypeName.TheVariants as type_name
+use Rattle.wasm_below.specs.declared.message.Message.{Message}
+use Rattle.wasm_below.specs.declared.message.Message.TheVariants as message
+use Rattle.wasm_below.specs.declared.error.ErrorKind.{ErrorKind}
+use Rattle.wasm_below.specs.declared.error.ErrorKind.TheVariants as kind
+
+abbrev pub number_of : Message → ℕ
+number_of message.EndOfData = 1
+number_of (message.FeatureRequired _) = 2
+number_of message.OutOfMemory = 3
+number_of (message.IntegerTooLong _) = 4
+number_of (message.IntegerTooLarge _) = 4
+number_of (message.SizeOutOfBounds _) = 5
+number_of message.InvalidFunctionType = 6
+number_of (message.WrongFrame _ _) = 7
+number_of message.OperatorsRemaining = 8
+number_of message.FramesRemain = 9
+number_of message.FramesRemainConst = 10
+number_of message.UnexpectedData = 11
+number_of (message.IllegalOpcode _) = 12
+number_of (message.UnknownSubopcode _ _) = 13
+number_of message.UnexpectedSimd = 14
+number_of message.ZeroByteExpected = 15
+number_of message.NonzeroAfterFence = 16
+number_of message.MemoryAndArray = 17
+number_of message.OrderingOnPlain = 18
+number_of (message.InvalidOrdering _ _) = 19
+number_of message.ReservedFlags = 20
+number_of (message.InvalidCastFlags _) = 21
+number_of (message.InvalidLeadingByte _ _) = 22
+number_of message.TooManyLocals = 23
+number_of (message.InvalidType _) = 24
+number_of message.DataAfterSection = 25
+
+abbrev pub kind_of : Message → ErrorKind
+kind_of message.EndOfData = kind.EndOfData
+kind_of (message.FeatureRequired _) = kind.MissingFeature
+kind_of message.OutOfMemory = kind.OutOfMemory
+kind_of _ = kind.Other
+
+-- A message about one value: any except E3, E8 to E11, E23 and E25.
+abbrev pub IsReadFault : Message → Type 0
+IsReadFault message.OutOfMemory = ⊥
+IsReadFault message.OperatorsRemaining = ⊥
+IsReadFault message.FramesRemain = ⊥
+IsReadFault message.FramesRemainConst = ⊥
+IsReadFault message.UnexpectedData = ⊥
+IsReadFault message.TooManyLocals = ⊥
+IsReadFault message.DataAfterSection = ⊥
+IsReadFault _ = Unit {0}
+
+-- The text of a name in messages.
+abbrev pub number_name_text : NumberName → List ℕ
+number_name_text number_name.VarU32 = codes "var_u32"
+number_name_text number_name.VarU64 = codes "var_u64"
+number_name_text number_name.VarI32 = codes "var_i32"
+number_name_text number_name.VarS33 = codes "var_s33"
+number_name_text number_name.VarI64 = codes "var_i64"
+
+abbrev pub size_name_text : SizeName → List ℕ
+size_name_text size_name.BrTable = codes "br_table"
+size_name_text size_name.SelectTypes = codes "select types"
+size_name_text size_name.Catches = codes "catches"
+size_name_text size_name.ResumeTable = codes "resume table"
+
+abbrev pub instruction_name_text : InstructionName → List ℕ
+instruction_name_text instruction_name.Else = codes "else"
+instruction_name_text instruction_name.Try = codes "try"
+instruction_name_text instruction_name.Catch = codes "catch"
+instruction_name_text instruction_name.CatchAll = codes "catch_all"
+instruction_name_text instruction_name.Delegate = codes "delegate"
+
+abbrev pub leading_byte_name_text : LeadingByteName → List ℕ
+leading_byte_name_text leading_name.Catch = codes "catch"
+leading_byte_name_text leading_name.OnClause = codes "on clause"
+
+abbrev pub type_name_text : TypeName → List ℕ
+type_name_text type_name.ValueType = codes "value type"
+type_name_text type_name.ReferenceType = codes "reference type"
+type_name_text type_name.HeapType = codes "heap type"
+
+-- If the message is about an invalid number, it names this kind.
+abbrev pub NamesNumber : NumberName → Message → Type 0
+NamesNumber name (message.IntegerTooLong n) = n ≡ name
+NamesNumber name (message.IntegerTooLarge n) = n ≡ name
+NamesNumber name _ = Unit {0}
+
+abbrev pub NamesSize : SizeName → Message → Type 0
+NamesSize name (message.SizeOutOfBounds what) = what ≡ name
+NamesSize name m = Unit {0}

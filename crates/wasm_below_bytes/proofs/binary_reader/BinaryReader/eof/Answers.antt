@@ -1,7 +1,0 @@
-use Rattle.std.proofs.Common.{ap}
-use Rattle.wasm_below_bytes.specs.Source.{Reader, rest}
-use Rattle.wasm_below_bytes.proofs.TakesLemmas.{none_left}
-use Rattle.wasm_below_bytes.proofs.binary_reader.BinaryReader.eof.Goals as goal
-
-pub returns : goal.returns
-returns c = none_left c.self.inside.position c.self.inside.buffer.now (rest c.args.self.now) (ap (λ (r : Reader). rest r) c.self.view_is) c.self.invariant.0

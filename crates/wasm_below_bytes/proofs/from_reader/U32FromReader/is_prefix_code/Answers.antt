@@ -1,5 +1,0 @@
-use Rattle.wasm_below_bytes.proofs.PrefixCode.{unsigned_prefix_code}
-use Rattle.wasm_below_bytes.proofs.from_reader.U32FromReader.is_prefix_code.Goals as goal
-
-pub returns : goal.returns
-returns c = λ features a b x y m n p q e. unsigned_prefix_code a b 32 x y m n p q e

@@ -1,5 +1,0 @@
-use Rattle.wasm_below_bytes.proofs.PrefixCode.{signed_prefix_code}
-use Rattle.wasm_below_bytes.proofs.laws.signed_numbers.Goals as goal
-
-pub returns : goal.returns
-returns c = λ width a b x y m n p q e. signed_prefix_code a b width x y m n p q e

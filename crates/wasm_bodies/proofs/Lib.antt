@@ -1,4 +1,0 @@
-pub mod Texts
-mod Places
-mod Following
-mod Opened

@@ -1,5 +1,0 @@
-use Rattle.wasm_bodies.proofs.Places.{no_end}
-use Rattle.wasm_bodies.proofs.next.end_of_bodies.Goals as goal
-
-pub returns-in-None : goal.returns-in-None
-returns-in-None c = no_end c.args.bytes.now c.args.bodies.now c.requires c.if-bodies-eq0.false c.in-None.ensures.none

@@ -1,2 +1,0 @@
-pub mod Bodies
-pub use Rattle.wasm_functions.specs as functions

@@ -1,0 +1,28 @@
+use Rattle.std.proofs.Common.{◌≡◌, ℕ, List, Option, Ok, Err, subst, ap, ◌∙◌}
+use Rattle.std.specs.Io.KnownBytes.{Appends}
+use Rattle.wasm_operators.specs.below.declared.error.Error.{Error}
+use Rattle.wasm_operators.specs.below.Source.{Reader}
+use Rattle.wasm_disassembly.specs.declared.fault.DisassemblyFault.{DisassemblyFault}
+use Rattle.wasm_disassembly.specs.declared.fault.DisassemblyFault.TheVariants as disassembly_fault
+use Rattle.wasm_disassembly.specs.Faults.{IsHalt}
+use Rattle.wasm_disassembly.specs.Disassembly.{Heading, IsText, Disassembles}
+
+abbrev heading_by : ℕ → List (List ℕ) → ℕ → Heading
+heading_by index names parameters = record { index = index; names = names; parameters = parameters }
+
+pub same_heading : (i j : ℕ) (a b : List (List ℕ)) (n m : ℕ) → i ≡ j → a ≡ b → n ≡ m → heading_by i a n ≡ heading_by j b m
+same_heading i j a b n m index names parameters =
+    ap (λ z. heading_by z a n) index ∙ ap (λ z. heading_by j z n) names ∙ ap (λ z. heading_by j b z) parameters
+
+pub text_whole : (h k : Heading) (body : Reader) (old new : Option (List ℕ)) → h ≡ k → Disassembles {X = Unit {0}} h (Ok tt) body old new →
+    (text : List ℕ) × Appends old new text × IsText {X = Unit {0}} k (Ok tt) body text
+text_whole h k body old new same (text, appends, whole) = (text, appends, subst (λ z. IsText {X = Unit {0}} z (Ok tt) body text) same whole)
+
+pub text_part : (h k : Heading) (f : DisassemblyFault) (e : Error) (body : Reader) (old new : Option (List ℕ)) → h ≡ k → f ≡ disassembly_fault.Refused e →
+    Disassembles {X = Unit {0}} h (Err f) body old new → (text : List ℕ) × Appends old new text × IsText {X = Unit {0}} k (Err e) body text
+text_part h k f e body old new same is disassembles =
+    let (text, appends, part) = subst (λ z. Disassembles {X = Unit {0}} h (Err z) body old new) is disassembles in
+    (text, appends, subst (λ z. IsText {X = Unit {0}} z (Err e) body text) same part)
+
+pub no_halt : (P : Type 0) (f : DisassemblyFault) (e : Error) → f ≡ disassembly_fault.Refused e → IsHalt f → P
+no_halt P f e is halts = absurd (subst IsHalt is halts)

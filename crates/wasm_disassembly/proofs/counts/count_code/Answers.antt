@@ -1,0 +1,52 @@
+use Rattle.std.proofs.Common.{[], ◌∷◌, ◌++◌, ◌<◌, refl, sym, subst, ap, ◌∙◌, arith, inl, inr}
+use Rattle.wasm_operators.specs.Section.{SectionItems}
+use Rattle.wasm_disassembly.proofs.Added.{adds_more}
+use Rattle.wasm_disassembly.proofs.Asked.{item_read}
+use Rattle.wasm_disassembly.proofs.Bodies.{body_more, none_both}
+use Rattle.wasm_disassembly.proofs.Ended.{all_read, stopped_after}
+use Rattle.wasm_disassembly.proofs.Found.{asked_split, both_true}
+use Rattle.wasm_disassembly.specs.Listing.{AreAsked}
+use Rattle.wasm_disassembly.specs.ModuleCensus.{IsCounted}
+use Rattle.wasm_disassembly.proofs.Counted.{fits_32, place_more, fewer_left}
+use Rattle.wasm_disassembly.proofs.counts.count_code.Goals as goal
+
+pub bodies-preserved : goal.bodies-preserved
+bodies-preserved g c =
+    let (bodies, occur, sum, none, place, reported, adds, whole, all) = c.bodies.invariant in
+    let body = c.in-Ok-item.body in
+    let (refused, still, one, reads, placed) = item_read c.in-Some.item body c.bodies.items c.next.new.self c.in-Ok-item.is c.in-Some.ensures.steps in
+    let (new_reported, added, reports, is_whole) = c.in-Ok-count_asked.ensures.adds in
+    let first = c.in-Ok.ensures.count in
+    let fits = subst (λ n. n < 4294967296) (sym (ap (λ (s : SectionItems). s.remaining) c.into_iter-items.ensures.into_iter_gives)) (fits_32 first.0 c.in-Ok.section.count first.1) in (
+      bodies ++ body ∷ [],
+      body_more c.into_iter-items.result.reader bodies c.bodies.items.reader c.next.new.self.reader body occur reads placed,
+      fewer_left bodies body c.bodies.items.remaining c.next.new.self.remaining c.into_iter-items.result.remaining sum one,
+      still,
+      place_more bodies body c.bodies.place c.saturating_add-place.result c.bodies.items.remaining c.next.new.self.remaining
+          c.into_iter-items.result.remaining place sum one fits c.saturating_add-place.ensures,
+      reported ++ new_reported,
+      adds_more g.C.Complaints.reports c.args.features c.args.functions.now c.args.only bodies body reported new_reported c.bodies.place c.args.complaints.now
+          c.bodies.complaints c.count_asked.new.complaints c.bodies.counts c.count_asked.new.counts place adds added reports,
+      cc (whole, is_whole) ∙ none_both reported new_reported,
+      λ asked.
+          let split = asked_split (IsCounted c.args.features) c.args.functions.now c.args.only 0 bodies body c.bodies.place (place ∙ sym (omega arith)) asked in
+          both_true c.bodies.whole c.in-Ok-count_asked.one (all split.0) (c.in-Ok-count_asked.ensures.whole split.1),
+    )
+
+pub returns-in-Err-clause-whole : goal.returns-in-Err-clause-whole
+returns-in-Err-clause-whole g c =
+    λ all code asked. c.no_refusal.ensures c.args.code all [] c.in-Err.e code (inl (refl, c.in-Err.ensures.refused))
+
+pub returns-in-Err-item-clause-whole : goal.returns-in-Err-item-clause-whole
+returns-in-Err-item-clause-whole g c =
+    let (bodies, occur, sum, none, place, reported, adds, whole, each) = c.bodies.invariant in
+    let stops = stopped_after c.args.code c.in-Ok.section c.into_iter-items.result c.bodies.items c.next.new.self bodies c.in-Err-item.e c.in-Some.item
+    c.in-Ok.ensures.count c.into_iter-items.ensures.into_iter_gives occur sum c.in-Err-item.is c.in-Some.ensures.steps in
+    λ all code asked. c.no_refusal.ensures c.args.code all bodies c.in-Err-item.e code (inr stops)
+
+pub returns-clause-whole : goal.returns-clause-whole
+returns-clause-whole g c =
+    let (bodies, occur, sum, none, place, reported, adds, whole, each) = c.bodies.invariant in
+    let read = all_read c.args.code c.in-Ok.section c.into_iter-items.result c.bodies.items bodies c.in-Ok.ensures.count
+    c.into_iter-items.ensures.into_iter_gives occur sum none c.in_default.ensures.steps.1 in
+    λ all code asked. each (subst (λ bs. AreAsked (IsCounted c.args.features) c.args.functions.now c.args.only 0 bs) (c.one_list.ensures c.args.code all bodies code read) asked)

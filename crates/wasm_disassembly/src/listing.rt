@@ -1,0 +1,167 @@
+ghost use Rattle.std.specs.Prelude.{◌≡◌, true, false, List, ℕ, IsOk, IfOk, IfErr, map, string_bytes};
+ghost use Rattle.std.specs.Io.KnownBytes.{Appends, Keeps};
+ghost use Rattle.wasm_disassembly.specs.Disassembly.{IsText};
+ghost use Rattle.wasm_operators.specs.below.Source.{Reader};
+ghost use Rattle.wasm_module.specs.ModuleFunctions.{index_of};
+ghost use Rattle.wasm_disassembly.specs.Escapes.{all_escaped};
+ghost use Rattle.wasm_disassembly.specs.Listing.{is_asked, are_none, heading_at, Refusals, Reported, WhereAsked, IsWritten, IsCode, ListsCode, IsFunction, AreAsked, Succeeds, IsHalt, IsLater};
+
+use crate::complaints::Complaints;
+use crate::flushed::FlushedWrite;
+use crate::listing_fault::Fault;
+use crate::names::shown_names;
+use crate::{DisassemblyFault, code_laws, disassemble};
+use std::alloc::Global;
+use std::io::Write;
+use wasm_module::Functions;
+use wasm_operators::{BinaryReader, CodeSectionReader, Error, FunctionBody};
+
+/// Writes the text of a function and returns the result of reading it. `names` are escaped.
+fn list_function<W: Write>(
+    alloc: Global,
+    functions: &Functions<'_>,
+    names: &[String],
+    place: u32,
+    body: &FunctionBody<'_>,
+    writer: &mut W,
+) -> Result<Result<(), Error>, Fault>
+    requires { map string_bytes names.now ≡ all_escaped functions.now.names }
+    ensures lists { IfOk result (λ outcome. (text : List ℕ) × Appends (W.contents writer.old) (W.contents writer.new) text
+        × IsText (heading_at functions.now place) outcome body.now text) }
+    ensures whole { IfOk result (λ outcome. IsFunction body.now → IsOk outcome) }
+    ensures halts { IfErr result (λ fault. IsHalt fault) }
+{
+    let index = functions.index(place);
+    let parameters = functions.parameters(place);
+    match disassemble(alloc, writer, index, names, parameters, body) {
+        Ok(()) => Ok(Ok(())),
+        Err(DisassemblyFault::Refused(e)) => Ok(Err(e)),
+        Err(DisassemblyFault::Memory) => Err(Fault::Memory),
+        Err(DisassemblyFault::Writing) => Err(Fault::Writing),
+    }
+}
+
+/// Flushes the lines before the error of a function, then reports the error.
+fn complain<W: FlushedWrite, C: Complaints>(
+    writer: &mut W,
+    complaints: &mut C,
+    index: u32,
+    error: Error,
+) -> Result<(), Fault>
+    ensures keeps { IfOk result (λ done. Keeps (W.contents writer.old) (W.contents writer.new)) }
+    ensures flushed { IfOk result (λ done. W.is_flushed writer.new) }
+    ensures reports { IfOk result (λ done. C.reports complaints.old index error complaints.new) }
+    ensures halts { IfErr result (λ fault. IsHalt fault) }
+{
+    if writer.flush_all().is_err() {
+        return Err(Fault::Writing);
+    }
+    if complaints.complain(index, error).is_err() {
+        return Err(Fault::Writing);
+    }
+    Ok(())
+}
+
+/// Returns whether the function with this index is requested.
+pub fn is_asked(only: Option<u32>, index: u32) -> bool
+    ensures { result ≡ is_asked only index }
+{
+    match only {
+        None => true,
+        Some(only) => only == index,
+    }
+}
+
+/// Writes the text of a function, if it is requested. Reports its error, and returns whether there
+/// is none.
+fn list_asked<W: FlushedWrite, C: Complaints>(
+    alloc: Global,
+    functions: &Functions<'_>,
+    names: &[String],
+    only: Option<u32>,
+    place: u32,
+    body: &FunctionBody<'_>,
+    writer: &mut W,
+    complaints: &mut C,
+) -> Result<bool, Fault>
+    requires { map string_bytes names.now ≡ all_escaped functions.now.names }
+    ensures lists { IfOk result (λ whole. (reported : Refusals) × (text : List ℕ)
+        × Appends (W.contents writer.old) (W.contents writer.new) text
+        × IsWritten functions.now only place body.now reported text
+        × Reported C.reports reported complaints.old complaints.new × (whole ≡ are_none reported)) }
+    ensures whole { IfOk result (λ whole. WhereAsked (is_asked only (index_of functions.now place)) (IsFunction body.now) (Unit {0})
+        → whole ≡ true) }
+    ensures flushed { IfOk result (λ whole. whole ≡ false → W.is_flushed writer.new) }
+    ensures halts { IfErr result (λ fault. IsHalt fault) }
+{
+    let index = functions.index(place);
+    if !is_asked(only, index) {
+        return Ok(true);
+    }
+    let outcome = match list_function(alloc, functions, names, place, body, writer) {
+        Ok(outcome) => outcome,
+        Err(fault) => return Err(fault),
+    };
+    match outcome {
+        Ok(()) => Ok(true),
+        Err(e) => match complain(writer, complaints, index, e) {
+            Ok(()) => Ok(false),
+            Err(fault) => Err(fault),
+        },
+    }
+}
+
+#[tactic(auto, using(crate::proofs::Asked::halts_later))]
+/// Writes the texts of all functions, or of one. Reports functions with errors, and returns whether
+/// there is none.
+///
+/// Fails with `Code` if the section is in error, after the functions before the error.
+pub fn list_code<W: FlushedWrite, C: Complaints>(
+    alloc: Global,
+    functions: &Functions<'_>,
+    code: BinaryReader<'_>,
+    only: Option<u32>,
+    writer: &mut W,
+    complaints: &mut C,
+) -> Result<bool, Fault>
+    ensures lists { ListsCode C.reports functions.now only code.entry result complaints.old complaints.new
+        (W.contents writer.old) (W.contents writer.new) }
+    ensures whole { (bodies : List Reader) → IsCode code.entry bodies → AreAsked IsFunction functions.now only 0 bodies
+        → Succeeds result }
+    ensures later { IfErr result (λ fault. IsLater fault) }
+{
+    code_laws::one_list();
+    code_laws::no_refusal();
+    let section = match CodeSectionReader::new(alloc, code) {
+        Ok(section) => section,
+        Err(e) => return Err(Fault::Code(e)),
+    };
+    let Ok(names) = shown_names(alloc, functions) else {
+        return Err(Fault::Memory);
+    };
+    let mut items = section.into_iter();
+    let mut place: u32 = 0;
+    let mut whole = true;
+    'bodies: while let Some(item) = items.next() {
+        let body = match item {
+            Ok(body) => body,
+            Err(e) => return Err(Fault::Code(e)),
+        };
+        let one = match list_asked(
+            alloc,
+            functions,
+            names.as_slice(),
+            only,
+            place,
+            &body,
+            writer,
+            complaints,
+        ) {
+            Ok(one) => one,
+            Err(fault) => return Err(fault),
+        };
+        whole &= one;
+        place = place.saturating_add(1);
+    }
+    Ok(whole)
+}

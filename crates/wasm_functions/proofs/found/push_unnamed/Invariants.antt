@@ -1,6 +1,0 @@
-use Rattle.std.proofs.Common.{◌≡◌, [], ◌++◌, replicate}
-use Rattle.wasm_functions.specs.Names.{bytes_of}
-use Rattle.wasm_functions.proofs.found.push_unnamed.Given as goal
-
-abbrev pub invariant-loop-function : goal.invariant-loop-function
-invariant-loop-function l = bytes_of l.names.items ≡ bytes_of l.initial.names.items ++ replicate l._function []

@@ -1,8 +1,0 @@
-use Rattle.wasm_functions.proofs.Occurring.{one_more, shorter}
-use Rattle.wasm_functions.proofs.function_laws.next_section.Goals as goal
-
-pub returns-clause-more : goal.returns-clause-more
-returns-clause-more c = one_more
-
-pub returns-clause-shorter : goal.returns-clause-shorter
-returns-clause-shorter c = shorter

@@ -1,5 +1,0 @@
-use Rattle.wasm_functions.proofs.Laws.{one_own}
-use Rattle.wasm_functions.proofs.function_laws.own_functions.Goals as goal
-
-pub returns : goal.returns
-returns c whole t u = one_own (c.unsigned_numbers.ensures 32) c.fixed_numbers.ensures.four c.imports.ensures.one whole t u

@@ -1,5 +1,0 @@
-use Rattle.wasm_imm_control.proofs.HandlerTables.{try_prefix_code}
-use Rattle.wasm_imm_control.proofs.handler_tables.TryTableFromReader.is_prefix_code.Goals as goal
-
-pub returns : goal.returns
-returns c = λ features. try_prefix_code

@@ -1,5 +1,0 @@
-use Rattle.wasm_imm_control.proofs.BlockTypes.{block_prefix_code}
-use Rattle.wasm_imm_control.proofs.laws.block_types.Goals as goal
-
-pub returns : goal.returns
-returns c = block_prefix_code

@@ -1,5 +1,0 @@
-use Rattle.wasm_imm_control.proofs.HandlerTables.{select_prefix_code}
-use Rattle.wasm_imm_control.proofs.laws.select_types.Goals as goal
-
-pub returns : goal.returns
-returns c = select_prefix_code

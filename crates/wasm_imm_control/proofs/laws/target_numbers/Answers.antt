@@ -1,5 +1,0 @@
-use Rattle.wasm_imm_control.proofs.BranchTables.{numbers_are}
-use Rattle.wasm_imm_control.proofs.laws.target_numbers.Goals as goal
-
-pub returns : goal.returns
-returns c = λ count text numbers many. numbers_are text numbers many.1

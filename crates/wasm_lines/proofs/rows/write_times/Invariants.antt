@@ -1,6 +1,0 @@
-use Rattle.std.proofs.Common.{◌≡◌, ◌++◌, ◌-◌, string_bytes}
-use Rattle.std.specs.List.{repeat}
-use Rattle.wasm_lines.proofs.rows.write_times.Given as goal
-
-abbrev pub invariant-loop-time : goal.invariant-loop-time
-invariant-loop-time l = string_bytes l.out ++ repeat (l.times - l._time) l.text ≡ string_bytes l.fn.out ++ repeat l.times l.text

@@ -1,3 +1,0 @@
-pub mod Rows
-pub mod Lines
-pub use Rattle.wasm_text.specs as text

@@ -1,5 +1,0 @@
-use Rattle.wasm_module_listing.proofs.Codes.{code_not_refused}
-use Rattle.wasm_module_listing.proofs.code_laws.no_refusal.Goals as goal
-
-pub returns : goal.returns
-returns c = code_not_refused (c.unsigned_numbers.ensures 32)

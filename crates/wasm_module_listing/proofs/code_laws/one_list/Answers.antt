@@ -1,5 +1,0 @@
-use Rattle.wasm_module_listing.proofs.Codes.{one_code}
-use Rattle.wasm_module_listing.proofs.code_laws.one_list.Goals as goal
-
-pub returns : goal.returns
-returns c = one_code (c.unsigned_numbers.ensures 32)

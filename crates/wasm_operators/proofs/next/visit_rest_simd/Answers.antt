@@ -1,0 +1,39 @@
+use Rattle.std.proofs.Common.{◌≡◌, ◌++◌, ◌∷◌, [], refl, sym, subst, rules}
+use Rattle.wasm_below.specs.Source.{rest, offset_of}
+use Rattle.wasm_decode_opcodes.specs.Allowed.{EncodesAllowed}
+use Rattle.wasm_operators.specs.Visiting.{Visited}
+use Rattle.wasm_operators.proofs.VisitLemmas.{visited_push}
+use Rattle.wasm_operators.proofs.Runs.{ran_start, ran_push, ran_unchanged, run_stops}
+use Rattle.wasm_operators.specs.Next.{state_of, simd}
+use Rattle.wasm_operators.proofs.DecoderPremises.{sound}
+use Rattle.wasm_operators.proofs.next.visit_rest_simd.Goals as goal
+
+pub visits-init : goal.visits-init
+visits-init g c = ([], ([], (refl, refl)), ran_start (state_of c.args.reader.now c.args.control.now))
+
+pub visits-preserved : goal.visits-preserved
+visits-preserved g c =
+    let i = c.visits.invariant in
+    let h = c.in-Ok.ensures in
+    let s = state_of c.visits.reader c.visits.control in
+    let op = h.0 in
+    let at = offset_of s.reader in (
+      i.0 ++ (op, at) ∷ [],
+      visited_push g.V.Visitor.visits i.0 op at c.in-Ok.field-0 c.args.v.now c.visits.v c.visit_next_simd.new.v i.1 h.2,
+      ran_push EncodesAllowed sound (state_of c.args.reader.now c.args.control.now) s (state_of c.visit_next_simd.new.reader c.visit_next_simd.new.control) i.0 op i.2 h.1,
+    )
+
+pub returns-in-Err-clause-visited : goal.returns-in-Err-clause-visited
+returns-in-Err-clause-visited g c =
+    let i = c.visits.invariant in
+    let h = c.in-Err.ensures in (
+      i.0,
+      subst (λ w. Visited g.V.Visitor.visits c.args.v.now w i.0) (sym h.1) i.1,
+      ran_unchanged (state_of c.args.reader.now c.args.control.now) (state_of c.visits.reader c.visits.control) (state_of c.visit_next_simd.new.reader c.visit_next_simd.new.control) i.0 i.2 h.0,
+    )
+
+pub returns-in-Err-clause-stopped : goal.returns-in-Err-clause-stopped
+returns-in-Err-clause-stopped g c =
+    let h = c.in-Err.ensures in
+    let left : rest c.visits.reader ≡ [] → ⊥ = search rules in
+    run_stops simd c.in-Err.e (state_of c.visits.reader c.visits.control) (state_of c.visit_next_simd.new.reader c.visit_next_simd.new.control) left h.0 h.2

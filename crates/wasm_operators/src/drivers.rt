@@ -1,0 +1,108 @@
+//! Reading and visiting to the end of the data.
+ghost use Rattle.std.specs.Prelude.{◌≡◌, ◌+◌, ◌<◌, ◌≤◌, ◌⊎◌, IfErr, vec_capacity, vec_len};
+ghost use Rattle.wasm_decode_opcodes.specs.Allowed.{EncodesAllowed};
+ghost use Rattle.wasm_operators.specs.Next.{NextMayAllocate, simd, adding, scalar};
+ghost use Rattle.wasm_operators.specs.Visiting.{Visited, VisitedScalar};
+ghost use Rattle.wasm_operators.specs.Reading.{RunsToEnd, Adds};
+ghost use Rattle.wasm_operators.specs.MainTheorem.{ReadsRest, ReadsFlat, StopsAtSimd, IsWithinDepth};
+ghost use Rattle.wasm_operators.specs.Collecting.{Collects};
+
+use crate::collector::Collector;
+use crate::operators::OperatorsReader;
+use std::mem::replace;
+use wasm_below::{Error, Message, Result};
+use wasm_instr::Operator;
+use wasm_visit::{HoldTable, VisitOperator};
+
+impl<'a> OperatorsReader<'a> {
+    fn read_to_end<T>(&mut self, out: &mut Vec<(T, u64)>) -> Result<()>
+    where
+        T: HoldTable<'a> + Drop,
+        ensures runs { RunsToEnd adding (Collects T.holds out.old.items out.new.items) result self.old self.new }
+        ensures kept { vec_capacity out.old ≤ vec_capacity out.new }
+        ensures memory { IfErr result
+            (λ e. e.message ≡ Message.OutOfMemory
+            → NextMayAllocate EncodesAllowed self.new ⊎ (vec_capacity out.new < vec_len out.new + 1)) }
+    {
+        let items = replace(out, Vec::new(*out.allocator()));
+        let mut list = Collector { items, offset: 0 };
+        let outcome = self.collect_to_end(&mut list);
+        let Collector { items, .. } = list;
+        *out = items;
+        outcome
+    }
+
+    /// Reads all operators to the end of the data or to an error, and finishes. Appends them to
+    /// `out` with their offsets. Neither `out` nor the frames' memory shrinks, so a caller can
+    /// reserve both in advance.
+    ///
+    /// Fails as `read` and `finish` do, and with `OutOfMemory` at the position if `out` can't grow.
+    /// The reader is then after the operators that were added, and the call can be repeated.
+    ///
+    /// For a new reader, `before` is the empty list (`OperatorsReader::new`, clause `read_so_far`).
+    ///
+    /// # Examples
+    ///
+    /// ```
+    /// let mut found = Vec::new(alloc);
+    /// OperatorsReader::new(alloc, BinaryReader::new(bytes, 0)).read_all(&mut found)?;
+    /// ```
+    pub fn read_all(&mut self, out: &mut Vec<(Operator<'a>, u64)>) -> Result<()>
+        // The added operators are the walk of the encoded tree, or the longest prefix of one.
+        ensures rest { ReadsRest adding (Adds out.old.items out.new.items) result self.old self.new }
+        // Where the reader is, and why reading ended.
+        ensures runs { RunsToEnd adding (Adds out.old.items out.new.items) result self.old self.new }
+        // By the frames alone: the added operators are the longest list that they allow.
+        ensures flat { ReadsFlat adding (Adds out.old.items out.new.items) result self.old }
+        ensures depth { IsWithinDepth self.old self.new }
+        ensures kept { vec_capacity out.old ≤ vec_capacity out.new }
+        // Allocation fails only if one read may allocate, or if `out` is full.
+        ensures memory { IfErr result
+            (λ e. e.message ≡ Message.OutOfMemory
+            → NextMayAllocate EncodesAllowed self.new ⊎ (vec_capacity out.new < vec_len out.new + 1)) }
+    {
+        self.read_to_end(out)
+    }
+
+    /// Visits all operators to the end of the data or to an error, and finishes. Drops the results
+    /// of the visits.
+    ///
+    /// Fails as `visit_operator_simd` and `finish` do. The reader is then after the visited
+    /// operators, and the call can be repeated.
+    ///
+    /// # Examples
+    ///
+    /// ```
+    /// let mut count = Count { operators: 0 };
+    /// let mut reader = OperatorsReader::new(alloc, BinaryReader::new_features(bytes, 0,
+    /// features));
+    /// reader.visit_all_simd(&mut count)?;
+    /// ```
+    pub fn visit_all_simd<V>(&mut self, v: &mut V) -> Result<()>
+    where
+        V: VisitOperator<'a>,
+        V::Output: Copy,
+        ensures rest { ReadsRest simd (Visited V.visits v.old v.new) result self.old self.new }
+        ensures runs { RunsToEnd simd (Visited V.visits v.old v.new) result self.old self.new }
+        ensures flat { ReadsFlat simd (Visited V.visits v.old v.new) result self.old }
+        ensures depth { IsWithinDepth self.old self.new }
+    {
+        self.visit_to_end_simd(v)
+    }
+
+    /// Visits operators up to the end of the data, an error or a SIMD operator, and finishes. Drops
+    /// the results of the visits. Fails as `visit_operator` and `finish` do.
+    pub fn visit_all<V: VisitOperator<'a>>(&mut self, v: &mut V) -> Result<()>
+    where
+        V::Output: Copy,
+        // The visited operators are the walk of the encoded tree, or the longest list without SIMD
+        // operators that begins one.
+        ensures rest { ReadsRest scalar (VisitedScalar V.visits v.old v.new) result self.old self.new }
+        ensures runs { RunsToEnd scalar (VisitedScalar V.visits v.old v.new) result self.old self.new }
+        ensures flat { ReadsFlat scalar (VisitedScalar V.visits v.old v.new) result self.old }
+        ensures vector { StopsAtSimd result self.old }
+        ensures depth { IsWithinDepth self.old self.new }
+    {
+        self.visit_to_end(v)
+    }
+}

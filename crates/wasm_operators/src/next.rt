@@ -1,0 +1,158 @@
+//! Visiting the next operator, and all operators to the end of the data, without finishing.
+//!
+//! The reader and the stack are borrowed separately, so that a loop can hold the reader in a local
+//! variable, which stays in registers as long as no call out of line borrows it.
+ghost use Rattle.std.specs.Prelude.{◌≡◌, ◌+◌, ◌<◌, ◌≤◌, ◌⊎◌, [], OnOk, IfErr, vec_capacity, vec_len};
+ghost use Rattle.wasm_below.specs.Source.{rest};
+ghost use Rattle.wasm_decode_opcodes.specs.Allowed.{EncodesAllowed};
+ghost use Rattle.wasm_operators.specs.Collecting.{Collects};
+ghost use Rattle.wasm_operators.specs.Next.{NextMayAllocate, simd, adding, scalar, VisitsNext, VisitsNextScalar, state_of};
+ghost use Rattle.wasm_operators.specs.Expression.{Placed};
+ghost use Rattle.wasm_operators.specs.Reading.{StopsRun, TakesOperators};
+ghost use Rattle.wasm_operators.specs.Visiting.{Visited, VisitedScalar};
+
+use crate::ControlStack;
+use crate::begin::{KEEPS_FRAMES_FROM, begin};
+use crate::collector::Collector;
+use std::alloc::Global;
+use wasm_below::{BinaryReader, Error, Message, Result};
+use wasm_decode::{visit_after_opcode, visit_after_opcode_simd, visit_below_0x20};
+use wasm_instr::frame_change_at;
+use wasm_visit::{HoldTable, VisitOperator};
+
+#[inline(always)]
+pub fn visit_next_simd<'a, V>(
+    alloc: Global,
+    v: &mut V,
+    reader: &mut BinaryReader<'a>,
+    control: &mut ControlStack,
+) -> Result<V::Output>
+where
+    V: VisitOperator<'a>,
+    ensures { VisitsNext V.visits result (state_of reader.old control.old) (state_of reader.new control.new)
+        v.old v.new }
+{
+    match begin(reader, control) {
+        Ok(at) => {
+            if at.code >= KEEPS_FRAMES_FROM {
+                return visit_after_opcode_simd(alloc, v, reader, at.start, at.frame, at.code);
+            }
+            match visit_below_0x20(alloc, v, reader, at.start, at.frame, at.code) {
+                Ok(outcome) => {
+                    control.apply_change(frame_change_at(at.code));
+                    Ok(outcome)
+                }
+                Err(e) => Err(e),
+            }
+        }
+        Err(e) => Err(e),
+    }
+}
+
+#[inline(always)]
+pub fn visit_next<'a, V: VisitOperator<'a>>(
+    alloc: Global,
+    v: &mut V,
+    reader: &mut BinaryReader<'a>,
+    control: &mut ControlStack,
+) -> Result<V::Output>
+    ensures { VisitsNextScalar V.visits result (state_of reader.old control.old) (state_of reader.new control.new)
+        v.old v.new }
+{
+    match begin(reader, control) {
+        Ok(at) => {
+            if at.code >= KEEPS_FRAMES_FROM {
+                return visit_after_opcode(alloc, v, reader, at.start, at.frame, at.code);
+            }
+            match visit_below_0x20(alloc, v, reader, at.start, at.frame, at.code) {
+                Ok(outcome) => {
+                    control.apply_change(frame_change_at(at.code));
+                    Ok(outcome)
+                }
+                Err(e) => Err(e),
+            }
+        }
+        Err(e) => Err(e),
+    }
+}
+
+#[inline(always)]
+pub fn visit_rest_simd<'a, V>(
+    alloc: Global,
+    v: &mut V,
+    reader: &mut BinaryReader<'a>,
+    control: &mut ControlStack,
+) -> Result<()>
+where
+    V: VisitOperator<'a>,
+    V::Output: Copy,
+    ensures visited { (placed : Placed) × Visited V.visits v.old v.new placed
+        × TakesOperators (state_of reader.old control.old) (state_of reader.new control.new) placed }
+    ensures end { OnOk result (rest reader.new ≡ []) }
+    ensures stopped { IfErr result (λ e. StopsRun simd e (state_of reader.new control.new)) }
+{
+    'visits: while !reader.eof() {
+        match visit_next_simd(alloc, v, reader, control) {
+            Ok(_) => {}
+            Err(e) => return Err(e),
+        }
+    }
+    Ok(())
+}
+
+#[inline(always)]
+pub fn visit_rest<'a, V: VisitOperator<'a>>(
+    alloc: Global,
+    v: &mut V,
+    reader: &mut BinaryReader<'a>,
+    control: &mut ControlStack,
+) -> Result<()>
+where
+    V::Output: Copy,
+    ensures visited { (placed : Placed) × VisitedScalar V.visits v.old v.new placed
+        × TakesOperators (state_of reader.old control.old) (state_of reader.new control.new) placed }
+    ensures end { OnOk result (rest reader.new ≡ []) }
+    ensures stopped { IfErr result (λ e. StopsRun scalar e (state_of reader.new control.new)) }
+{
+    'scalar_visits: while !reader.eof() {
+        match visit_next(alloc, v, reader, control) {
+            Ok(_) => {}
+            Err(e) => return Err(e),
+        }
+    }
+    Ok(())
+}
+
+/// Visits to the end of the data or to an error. Each visit makes an item in place; an operator that
+/// is read would be copied. Generic, because the prover compares all calls of a known visitor.
+#[inline(always)]
+pub fn collect_rest<'a, T>(
+    alloc: Global,
+    list: &mut Collector<T>,
+    reader: &mut BinaryReader<'a>,
+    control: &mut ControlStack,
+) -> Result<()>
+where
+    T: HoldTable<'a> + Drop,
+    ensures collected { (placed : Placed) × Collects T.holds list.old.items.items list.new.items.items placed
+        × TakesOperators (state_of reader.old control.old) (state_of reader.new control.new) placed }
+    ensures end { OnOk result (rest reader.new ≡ []) }
+    ensures stopped { IfErr result (λ e. StopsRun adding e (state_of reader.new control.new)) }
+    ensures kept { vec_capacity list.old.items ≤ vec_capacity list.new.items }
+    ensures memory { IfErr result
+        (λ e. e.message ≡ Message.OutOfMemory
+        → NextMayAllocate EncodesAllowed (state_of reader.new control.new)
+        ⊎ (vec_capacity list.new.items < vec_len list.new.items + 1)) }
+{
+    'operators: while !reader.eof() {
+        list.offset = reader.original_position();
+        if list.items.try_reserve(1).is_err() {
+            return Err(Error::new(Message::OutOfMemory, list.offset));
+        }
+        match visit_next_simd(alloc, list, reader, control) {
+            Ok(_) => {}
+            Err(e) => return Err(e),
+        }
+    }
+    Ok(())
+}

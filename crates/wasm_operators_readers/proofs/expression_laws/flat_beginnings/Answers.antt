@@ -1,5 +1,0 @@
-use Rattle.wasm_operators_readers.proofs.FlatLemmas.{flat_is_longest}
-use Rattle.wasm_operators_readers.proofs.expression_laws.flat_beginnings.Goals as goal
-
-pub returns : goal.returns
-returns c = λ s placed. flat_is_longest s placed

@@ -1,5 +1,0 @@
-use Rattle.wasm_operators_readers.proofs.Runs.{fresh_before}
-use Rattle.wasm_operators_readers.proofs.operators.OperatorsReader.new_with_allocs.Goals as goal
-
-pub returns-clause-read_so_far : goal.returns-clause-read_so_far
-returns-clause-read_so_far c = fresh_before _ c.with_allocations.ensures.frames

@@ -1,5 +1,0 @@
-use Rattle.wasm_operators_readers.proofs.Offsets.{took_within}
-use Rattle.wasm_operators_readers.proofs.position_laws.taken_within.Goals as goal
-
-pub returns : goal.returns
-returns c = took_within

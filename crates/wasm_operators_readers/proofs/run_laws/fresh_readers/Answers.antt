@@ -1,5 +1,0 @@
-use Rattle.wasm_operators_readers.proofs.Runs.{fresh_before}
-use Rattle.wasm_operators_readers.proofs.run_laws.fresh_readers.Goals as goal
-
-pub returns : goal.returns
-returns c = λ s fresh. fresh_before s fresh
