@@ -7,6 +7,7 @@ use crate::FrameKind;
 /// Validation Algorithm.
 #[derive(Clone, Copy, Debug, PartialEq, Eq)]
 pub enum FrameChange {
+    /// The open frames stay as they are.
     Stays,
     /// A frame of this kind opens inside the innermost.
     Opens(FrameKind),
@@ -17,6 +18,7 @@ pub enum FrameChange {
 }
 
 impl FrameChange {
+    /// Returns whether a frame opens.
     #[inline(always)]
     pub fn opens(self) -> bool
         ensures { IsTrue result ↔ OpensFrame self }
