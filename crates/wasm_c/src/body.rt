@@ -15,7 +15,7 @@ use wasm_operators::{
 use wasm_view::WasmOperator;
 
 /// The number of operators that were found, and how reading them ended.
-#[derive(Debug, Drop)]
+#[derive(Drop)]
 pub struct Found {
     pub count: usize,
     pub end: Result<()>,

@@ -3,7 +3,7 @@ ghost use Rattle.std.specs.Prelude.{◌≡◌, ◌+◌, ◌-◌, ◌^◌, ◌<�
 
 use wasm_operators::{BrTable, ByAny, Operator, VisitOperator, Visitor};
 
-#[derive(Debug, Drop)]
+#[derive(Drop)]
 pub struct Counter {
     pub count: usize,
 }

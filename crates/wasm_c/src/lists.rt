@@ -12,7 +12,7 @@ use wasm_operators::{BinaryReader, FrameKind, FrameStack, Operator, ReadOperator
 use wasm_view::{WasmHandler, WasmType, catches_of, handles_of, targets_of, types_of};
 
 /// The frame in which operators with lists are read.
-#[derive(Clone, Copy, Debug)]
+#[derive(Drop)]
 struct InBlock;
 
 impl FrameStack for InBlock {

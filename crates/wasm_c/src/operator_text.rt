@@ -12,7 +12,7 @@ use std::alloc::Global;
 use wasm_operators::{BinaryReader, Error, FrameKind, FrameStack, Message, ReadOperators};
 use wasm_text::{text_name, write_operator};
 
-#[derive(Clone, Copy, Debug)]
+#[derive(Drop)]
 struct InFrame {
     kind: FrameKind,
 }

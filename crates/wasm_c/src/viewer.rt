@@ -12,7 +12,7 @@ use wasm_view::{WasmOperator, view_of};
 
 /// The innermost frame, the offset of the next operator, and what was found of the visited
 /// operator.
-#[derive(Debug, Drop)]
+#[derive(Drop)]
 pub struct Viewer {
     pub frame: FrameKind,
     pub offset: u64,

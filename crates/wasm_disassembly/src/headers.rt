@@ -13,7 +13,7 @@ use wasm_operators::{BinaryReader, Error};
 use wasm_text::{Written, write_byte};
 
 /// What the line of a section says about its contents.
-#[derive(Clone, Copy, Debug, PartialEq, Eq)]
+#[derive(Clone, Copy)]
 pub enum Detail<'a> {
     /// The name of a custom section.
     Custom(&'a [u8]),

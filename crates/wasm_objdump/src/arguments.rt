@@ -4,7 +4,7 @@ use wasm_listing::features_of;
 use wasm_operators::WasmFeatures;
 
 /// Which functions are requested.
-#[derive(Debug, Drop)]
+#[derive(Drop)]
 pub enum Choice {
     /// All functions that the module defines.
     All,
@@ -15,7 +15,7 @@ pub enum Choice {
 }
 
 /// What the arguments request.
-#[derive(Debug, Drop)]
+#[derive(Drop)]
 pub struct Options {
     /// Whether the sections are listed.
     pub headers: bool,
@@ -32,7 +32,7 @@ pub struct Options {
 }
 
 /// Why the arguments are wrong.
-#[derive(Debug, Drop)]
+#[derive(Drop)]
 pub enum Mistake {
     /// An argument is no option of this program.
     Unknown(String),
@@ -62,7 +62,7 @@ impl fmt::Display for Mistake {
 }
 
 /// The meaning of all arguments.
-#[derive(Debug, Drop)]
+#[derive(Drop)]
 pub enum Words {
     Help,
     Version,
@@ -71,7 +71,7 @@ pub enum Words {
 }
 
 /// What the next argument is; after `Help` and `Version`, it is ignored.
-#[derive(Clone, Copy, Debug, PartialEq, Eq)]
+#[derive(Clone, Copy)]
 enum Next {
     Any,
     Function,
@@ -193,7 +193,7 @@ fn read_assigned(alloc: Global, options: Options, word: String) -> Result<Option
 }
 
 /// What the letters after one dash are.
-#[derive(Clone, Copy, Debug, PartialEq, Eq)]
+#[derive(Drop)]
 enum Letters {
     Known,
     Unsupported,

@@ -13,7 +13,7 @@ pub const KEEPS_FRAMES_FROM: u8 = 0x20;
 
 /// The start of an operator. The change of the frames is found again from `code`, which is a
 /// constant where the operator is decoded: a stored change would need a branch.
-#[derive(Clone, Copy, Debug)]
+#[derive(Clone, Copy)]
 pub struct OperatorStart {
     pub frame: FrameKind,
     pub start: usize,
