@@ -21,10 +21,12 @@ from paths import TOP, crates
 
 # The crates above the layers. Tests are known by their names.
 OUTSIDE = ("wasm_text", "wasm_module", "wasm_disassembly", "wasm_objdump", "wasm_c", "wasm_c_exports", "wasm_listing", "wasm_dump", "wasm_bench", "uses")
+# The crates that list names of others for users.
+LISTS = ("wasm_operators", "wasm_c")
 # The exceptions: crate, library and file of the lemmas, their names, and why.
 CODES = "encodings are a prefix code, which is also a law, and not empty, which no law says"
 REFUSED = "what an error implies for the bytes"
-BENCH = "wasm_bench",
+BENCH = ("wasm_bench",)
 CITED = [
     (*BENCH, "wasm_below.proofs", "Blocks", "refused_now", REFUSED),
     (*BENCH, "wasm_below.proofs", "PrefixCode", "byte_prefix_code signed_prefix_code signed_some", CODES),
@@ -50,10 +52,6 @@ def files_of(name, top=TOP):
     folder = top / "crates" / name
     found = [*folder.glob("src/**/*.rt"), *folder.glob("specs/**/*.antt"), *folder.glob("proofs/**/*.antt")]
     return {path: path.read_text(encoding="utf-8") for path in sorted(found)}
-
-
-# The crates that list names of others for users.
-LISTS = ("wasm_operators", "wasm_c")
 
 
 def named(text):

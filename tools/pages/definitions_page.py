@@ -12,7 +12,7 @@ GROUPS = [
     ("Trees", "wasm_grammar"),
     ("All operators", "wasm_instr_ops wasm_instr_simd wasm_instr wasm_visit_groups"),
     ("From the opcode to the visit", "wasm_decode_opcodes wasm_decode_groups wasm_decode"),
-    ("The stack of open frames", READERS.format("Stack") + READERS.format("Step")),
+    ("The stack of open frames", READERS.format("Stack")),
     ("Expressions of operators", "".join(map(READERS.format, EXPRESSIONS))),
     ("Reads and visits", "".join(map(READERS.format, READS)) + "wasm_operators/Collecting wasm_operators/Laws"),
     ("Bodies, constant expressions and sections", "wasm_operators/Locals wasm_operators"),
