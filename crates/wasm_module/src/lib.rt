@@ -1,6 +1,9 @@
 //! The parts of a module (preamble, sections, types, imports, exports, custom sections and names),
 //! what they say about its functions, and the bodies of these, one after another.
 //!
+//! A call of several parts reads them by a copy of the reader, and stores it back at the end. So on
+//! `Err` the reader is unchanged.
+//!
 //! The place between two bodies is a C struct, so callers in other languages can hold it.
 //!
 //! Every call that allocates may fail with `Memory`; it then returns no result.
