@@ -14,6 +14,7 @@ pub struct Lent<'a> {
 }
 
 impl<'a> Lent<'a> {
+    /// Copies the reader. The error is a placeholder, which a call that fails overwrites.
     #[inline(always)]
     pub fn new(reader: &BinaryReader<'a>) -> Lent<'a>
         ensures { result.reader ≡ reader.now }
