@@ -1,4 +1,5 @@
--- The definitions before each idea was one relation, word for word.
+-- The definitions before each idea was one relation. `LaidOut` alone is the present one, which takes
+-- the bytes before the operators.
 use Rattle.std.specs.Prelude.{◌≡◌, ◌↔◌, ℕ, ◌+◌, ◌≤◌, Bool, true, List, [], ◌++◌, length, Option, Result, Ok, Err, IsOk, IfErr, OnOk, ◌⊎◌}
 use Rattle.wasm_operators.specs.below.declared.error.Error.{Error}
 use Rattle.wasm_operators.specs.below.declared.message.Message.{Message}
