@@ -21,8 +21,8 @@ use Rattle.wasm_instr.specs.Row.{prefix_of, opcode_of}
 use Rattle.wasm_decode_opcodes.specs.Allowed.{EncodesAllowed, EncodesScalar, EncodesIn}
 use Rattle.wasm_decode_opcodes.specs.Decoding.{Decodes, DecodesAt, DecodesOperator, DecodesOperatorAt, IsAfterCode}
 use Rattle.wasm_decode_groups.specs.Arms.{ReadsOperatorAt}
-use Rattle.wasm_decode_groups.specs.Lent.{ByLent}
-use Rattle.wasm_decode_groups.specs.declared.lent.Lent.{Lent}
+use Rattle.wasm_decode_groups.specs.ByCopy.{DecodesByCopy}
+use Rattle.wasm_decode_groups.specs.declared.reader_copy.ReaderCopy.{ReaderCopy}
 use Rattle.wasm_decode_opcodes.specs.declared.guard.Guard.{Guard}
 use Rattle.wasm_instr.specs.Roles.{role_of}
 use Rattle.wasm_decode_opcodes.specs.Entry.{Entry, prefixes, guard_of, kinds_of, guarded_entry, entry_of}
@@ -194,23 +194,23 @@ as_visited E F old new (Err e) h = (refl, h)
 abbrev ReturnsOperator : Unit {0} → Operator → Operator → Unit {0} → Type 0
 ReturnsOperator before op outcome after = outcome ≡ op
 
-module _ (k : FrameKind) (start : ℕ) (old lent mid : Reader) (same : lent ≡ old) where
-  visited : (result : Result Operator Error) → DecodesOperatorAt k start result lent mid → DecodesAt ReturnsOperator k start result lent mid tt tt
-  visited result h = as_visited (EncodesAllowed lent.features k) (OperatorFault lent.features k) (at_position lent start) mid result h
+module _ (k : FrameKind) (start : ℕ) (old copy mid : Reader) (same : copy ≡ old) where
+  visited : (result : Result Operator Error) → DecodesOperatorAt k start result copy mid → DecodesAt ReturnsOperator k start result copy mid tt tt
+  visited result h = as_visited (EncodesAllowed copy.features k) (OperatorFault copy.features k) (at_position copy start) mid result h
 
   -- the same by a copy of the reader
-  pub read_by_copy : (result : Result Operator Error) (new : Reader) → DecodesOperatorAt k start result lent mid → new ≡ at_position old mid.position →
+  pub read_by_copy : (result : Result Operator Error) (new : Reader) → DecodesOperatorAt k start result copy mid → new ≡ at_position old mid.position →
       DecodesOperatorAt k start result old new
   read_by_copy result new h went =
       as_read (EncodesAllowed old.features k) (OperatorFault old.features k) (at_position old start) new tt tt result
-      (by_copy ReturnsOperator k start old lent mid tt tt same result new (visited result h) went)
+      (by_copy ReturnsOperator k start old copy mid tt tt same result new (visited result h) went)
 
-pub read_within : (k : FrameKind) (start : ℕ) (old : Reader) (lent left : Lent) (p : Option ℕ) (code : ℕ) (outcome : Option Operator) → lent.reader ≡ old →
-    IsAfterCode start p code old → ByLent (λ r a b. DecodesOperatorAt k start r a b) outcome lent left → left.reader.position ≤ length old.buffer
-read_within k start old lent left p code (Some op) same b h =
-    left_within ReturnsOperator k start old lent left tt tt p code (Some op) same b (visited k start old lent.reader left.reader same (Ok op) h)
-read_within k start old lent left p code None same b h =
-    left_within {A = Operator} ReturnsOperator k start old lent left tt tt p code None same b (visited k start old lent.reader left.reader same (Err left.refusal) h)
+pub read_within : (k : FrameKind) (start : ℕ) (old : Reader) (copy left : ReaderCopy) (p : Option ℕ) (code : ℕ) (outcome : Option Operator) → copy.reader ≡ old →
+    IsAfterCode start p code old → DecodesByCopy (λ r a b. DecodesOperatorAt k start r a b) outcome copy left → left.reader.position ≤ length old.buffer
+read_within k start old copy left p code (Some op) same b h =
+    left_within ReturnsOperator k start old copy left tt tt p code (Some op) same b (visited k start old copy.reader left.reader same (Ok op) h)
+read_within k start old copy left p code None same b h =
+    left_within {A = Operator} ReturnsOperator k start old copy left tt tt p code None same b (visited k start old copy.reader left.reader same (Err left.error) h)
 
 -- reading a `GcOperator` after the subopcode is reading its operator
 pub as_gc : (k : FrameKind) (start : ℕ) (old mid new : Reader) (result : Result GcOperator Error) → mid ≡ at_position old mid.position →

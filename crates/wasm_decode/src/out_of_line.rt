@@ -3,12 +3,12 @@
 //!
 //! The call is cold, so that the compiler places the code around it after the loop.
 ghost use Rattle.std.specs.Prelude.{ℕ, Option};
-ghost use Rattle.wasm_decode_groups.specs.Lent.{ByLent};
+ghost use Rattle.wasm_decode_groups.specs.ByCopy.{DecodesByCopy};
 ghost use Rattle.wasm_grammar.specs.declared.frame_kind.FrameKind.{FrameKind};
 ghost use Rattle.wasm_decode_opcodes.specs.Decoding.{IsAfterCode, DecodesAt};
 
 use wasm_below::{BinaryReader, Result};
-use wasm_decode_groups::Lent;
+use wasm_decode_groups::ReaderCopy;
 use wasm_visit_groups::Visitor;
 
 /// A decoder that starts after a prefix byte or after its subopcode, for the visitor `V`.
@@ -34,12 +34,12 @@ pub fn visit_after_prefix<V: Visitor, B: AfterPrefix<V>>(
     requires { IsAfterCode start (B.prefix after) (B.code after) reader.old }
     ensures { (frame : FrameKind) → DecodesAt V.visits frame start result reader.old reader.new v.old v.new }
 {
-    let mut lent = Lent::new(reader);
-    let outcome = out_of_line(v, &mut lent, start, after);
-    lent.take_back(reader);
+    let mut copy = ReaderCopy::new(reader);
+    let outcome = out_of_line(v, &mut copy, start, after);
+    copy.set_position_of(reader);
     match outcome {
         Some(outcome) => Ok(outcome),
-        None => Err(lent.refusal),
+        None => Err(copy.error),
     }
 }
 
@@ -47,18 +47,18 @@ pub fn visit_after_prefix<V: Visitor, B: AfterPrefix<V>>(
 #[inline(never)]
 fn out_of_line<V: Visitor, B: AfterPrefix<V>>(
     v: &mut V,
-    lent: &mut Lent<'_>,
+    copy: &mut ReaderCopy<'_>,
     start: usize,
     after: B,
 ) -> Option<V::Output>
-    requires { IsAfterCode start (B.prefix after) (B.code after) lent.old.reader }
+    requires { IsAfterCode start (B.prefix after) (B.code after) copy.old.reader }
     ensures { (frame : FrameKind)
-        → ByLent (λ r old new. DecodesAt V.visits frame start r old new v.old v.new) result lent.old lent.new }
+        → DecodesByCopy (λ r old new. DecodesAt V.visits frame start r old new v.old v.new) result copy.old copy.new }
 {
-    match after.visit(v, &mut lent.reader, start) {
+    match after.visit(v, &mut copy.reader, start) {
         Ok(outcome) => Some(outcome),
         Err(e) => {
-            lent.refusal = e;
+            copy.error = e;
             None
         }
     }

@@ -1,7 +1,7 @@
 //! Reads an operator by the visitor `Made` or, with the prefix byte 0xfb, without a visitor.
 ghost use Rattle.std.specs.Prelude.{None, Some};
 ghost use Rattle.wasm_decode.specs.Reading.{DecodesOperatorIn, DecodesGcAt};
-ghost use Rattle.wasm_decode_groups.specs.Lent.{ByLent};
+ghost use Rattle.wasm_decode_groups.specs.ByCopy.{DecodesByCopy};
 ghost use Rattle.wasm_grammar.specs.declared.frame_kind.FrameKind.{FrameKind};
 ghost use Rattle.wasm_decode_opcodes.specs.Decoding.{DecodesOperatorAt, IsAfterCode};
 
@@ -11,7 +11,7 @@ use crate::prefixes::{Atomic, Misc, Simd};
 use crate::refusals::no_frame;
 use std::alloc::Global;
 use wasm_below::{BinaryReader, Result};
-use wasm_decode_groups::{Lent, numeric_by, one_byte_by, read_gc_operator};
+use wasm_decode_groups::{ReaderCopy, numeric_by, one_byte_by, read_gc_operator};
 use wasm_decode_opcodes::immediates;
 use wasm_grammar::FrameKind;
 use wasm_instr::Operator;
@@ -82,27 +82,27 @@ fn read_gc(reader: &mut BinaryReader<'_>, start: usize) -> Result<Operator<'stat
     requires { IsAfterCode start None 0xfb reader.old }
     ensures { (frame : FrameKind) → DecodesOperatorAt frame start result reader.old reader.new }
 {
-    let mut lent = Lent::new(reader);
-    let outcome = gc_out_of_line(&mut lent, start);
-    lent.take_back(reader);
+    let mut copy = ReaderCopy::new(reader);
+    let outcome = gc_out_of_line(&mut copy, start);
+    copy.set_position_of(reader);
     match outcome {
         Some(op) => Ok(op),
-        None => Err(lent.refusal),
+        None => Err(copy.error),
     }
 }
 
 /// Makes the `Operator` at an exit that no error reaches.
 #[cold]
 #[inline(never)]
-fn gc_out_of_line(lent: &mut Lent<'_>, start: usize) -> Option<Operator<'static>>
-    requires { IsAfterCode start None 0xfb lent.old.reader }
+fn gc_out_of_line(copy: &mut ReaderCopy<'_>, start: usize) -> Option<Operator<'static>>
+    requires { IsAfterCode start None 0xfb copy.old.reader }
     ensures { (frame : FrameKind)
-        → ByLent (λ r old new. DecodesOperatorAt frame start r old new) result lent.old lent.new }
+        → DecodesByCopy (λ r old new. DecodesOperatorAt frame start r old new) result copy.old copy.new }
 {
-    let op = match gc_of(&mut lent.reader, start) {
+    let op = match gc_of(&mut copy.reader, start) {
         Ok(op) => op,
         Err(e) => {
-            lent.refusal = e;
+            copy.error = e;
             return None;
         }
     };

@@ -145,8 +145,8 @@ fn branch_table<'a>(reader: &mut BinaryReader<'a>, start: usize) -> Result<BrTab
     requires { start ≤ reader.old.position }
     ensures { ReadsKinds (is_branch_table ∷ []) (λ t. branch_table t ∷ []) (λ r. ⊥) GoesBack start result reader.old reader.new }
 {
-    let mut lent = reader.clone();
-    let targets = immediates::branch_table(&mut lent, start);
-    reader.set_position(lent.current_position());
+    let mut copy = reader.clone();
+    let targets = immediates::branch_table(&mut copy, start);
+    reader.set_position(copy.current_position());
     targets
 }

@@ -7,8 +7,8 @@ use Rattle.wasm_grammar.specs.declared.frame_kind.FrameKind.{FrameKind}
 use Rattle.wasm_instr.specs.declared.operator.Operator.{Operator}
 use Rattle.wasm_decode_opcodes.specs.Decoding.{DecodesAt, IsAfterCode}
 use Rattle.wasm_decode_opcodes.proofs.OperatorLemmas.{within_after_code}
-use Rattle.wasm_decode_groups.specs.Lent.{ByLent}
-use Rattle.wasm_decode_groups.specs.declared.lent.Lent.{Lent}
+use Rattle.wasm_decode_groups.specs.ByCopy.{DecodesByCopy}
+use Rattle.wasm_decode_groups.specs.declared.reader_copy.ReaderCopy.{ReaderCopy}
 
 -- a call changes only the reader's position
 position_alone : {V A : Type 0} (visits : V → Operator → A → V → Type 0) (k : FrameKind) (start : ℕ) (result : Result A Error) (old mid : Reader) (v w : V) →
@@ -17,8 +17,8 @@ position_alone visits k start (Ok a) old mid v w (op, (text, encodes, takes), vi
     takes.moved ∙ ap (at_position old) (sym (ap (λ (r : Reader). r.position) takes.moved))
 position_alone visits k start (Err e) old mid v w (same, refuses) = refuses.0 ∙ ap (at_position old) (sym (ap (λ (r : Reader). r.position) refuses.0))
 
-module _ {V A : Type 0} (visits : V → Operator → A → V → Type 0) (k : FrameKind) (start : ℕ) (old lent mid : Reader) (v w : V) (same : lent ≡ old) where
-  copy_within : (p : Option ℕ) (code : ℕ) (result : Result A Error) → IsAfterCode start p code old → DecodesAt visits k start result lent mid v w →
+module _ {V A : Type 0} (visits : V → Operator → A → V → Type 0) (k : FrameKind) (start : ℕ) (old copy mid : Reader) (v w : V) (same : copy ≡ old) where
+  copy_within : (p : Option ℕ) (code : ℕ) (result : Result A Error) → IsAfterCode start p code old → DecodesAt visits k start result copy mid v w →
       mid.position ≤ length old.buffer
   copy_within p code (Ok a) b (op, (text, encodes, takes), visited) =
       let within = within_after_code start p code old b in
@@ -32,7 +32,7 @@ module _ {V A : Type 0} (visits : V → Operator → A → V → Type 0) (k : Fr
       omega (arith, within, b.begun, at)
 
   -- a reader that is set to the position of its copy did what the copy did
-  pub by_copy : (result : Result A Error) (new : Reader) → DecodesAt visits k start result lent mid v w → new ≡ at_position old mid.position →
+  pub by_copy : (result : Result A Error) (new : Reader) → DecodesAt visits k start result copy mid v w → new ≡ at_position old mid.position →
       DecodesAt visits k start result old new v w
   by_copy result new h went =
       let read : DecodesAt visits k start result old mid v w = subst (λ r. DecodesAt visits k start result r mid v w) same h in
@@ -40,8 +40,8 @@ module _ {V A : Type 0} (visits : V → Operator → A → V → Type 0) (k : Fr
       subst (λ r. DecodesAt visits k start result old r v w) (sym e) read
 
 -- the position of the copy is at most the length of the bytes
-pub left_within : {V A : Type 0} (visits : V → Operator → A → V → Type 0) (k : FrameKind) (start : ℕ) (old : Reader) (lent left : Lent) (v w : V) (p : Option ℕ) (code : ℕ)
-    (outcome : Option A) → lent.reader ≡ old → IsAfterCode start p code old → ByLent (λ r a b. DecodesAt visits k start r a b v w) outcome lent left →
+pub left_within : {V A : Type 0} (visits : V → Operator → A → V → Type 0) (k : FrameKind) (start : ℕ) (old : Reader) (copy left : ReaderCopy) (v w : V) (p : Option ℕ) (code : ℕ)
+    (outcome : Option A) → copy.reader ≡ old → IsAfterCode start p code old → DecodesByCopy (λ r a b. DecodesAt visits k start r a b v w) outcome copy left →
     left.reader.position ≤ length old.buffer
-left_within visits k start old lent left v w p code (Some a) same b h = copy_within visits k start old lent.reader left.reader v w same p code (Ok a) b h
-left_within visits k start old lent left v w p code None same b h = copy_within visits k start old lent.reader left.reader v w same p code (Err left.refusal) b h
+left_within visits k start old copy left v w p code (Some a) same b h = copy_within visits k start old copy.reader left.reader v w same p code (Ok a) b h
+left_within visits k start old copy left v w p code None same b h = copy_within visits k start old copy.reader left.reader v w same p code (Err left.error) b h

@@ -1,4 +1,4 @@
 pub mod Arms
-pub mod Lent
+pub mod ByCopy
 pub mod OneByte
 pub mod WithoutImmediates

@@ -5,24 +5,24 @@
 mod arm;
 mod atomic_operators;
 mod gc_operators;
-mod lent;
 mod misc_operators;
 mod numeric_operators;
 mod one_byte_arms;
 mod one_byte_operators;
 mod out_of_line;
 mod read_arm;
+mod reader_copy;
 mod simd_high_operators;
 mod simd_low_operators;
 mod vectors_without_immediates;
 
 pub use atomic_operators::{AtAtomic, atomic, atomic_by};
 pub use gc_operators::{AtGc, gc, gc_by, read_gc_operator};
-pub use lent::Lent;
 pub use misc_operators::{AtMisc, misc, misc_by};
 pub use numeric_operators::{numeric, numeric_by};
 pub use one_byte_operators::{AtOneByte, one_byte, one_byte_by};
 pub use out_of_line::{other_one_byte, other_one_byte_by};
+pub use reader_copy::ReaderCopy;
 pub use simd_high_operators::{AtSimdHigh, simd_high, simd_high_by};
 pub use simd_low_operators::{AtSimdLow, simd_low, simd_low_by};
 pub use vectors_without_immediates::{

@@ -1,11 +1,11 @@
 //! The less frequent operators with a one-byte opcode, decoded by one call that is not inlined.
 ghost use Rattle.std.specs.Prelude.{None};
-ghost use Rattle.wasm_decode_groups.specs.Lent.{ByLent};
+ghost use Rattle.wasm_decode_groups.specs.ByCopy.{DecodesByCopy};
 ghost use Rattle.wasm_decode_groups.specs.OneByte.{IsOneByteCode};
 ghost use Rattle.wasm_decode_opcodes.specs.Decoding.{DecodesAt, IsAfterCode};
 
-use crate::lent::Lent;
 use crate::one_byte_operators::{AtOneByte, any_one_byte_by};
+use crate::reader_copy::ReaderCopy;
 use std::alloc::Global;
 use wasm_below::{BinaryReader, Result};
 use wasm_grammar::FrameKind;
@@ -42,12 +42,12 @@ pub fn other_one_byte_by<V: Visitor, R: AtOneByte<V>>(
     requires apart { IsOneByteCode code }
     ensures { DecodesAt V.visits frame start result reader.old reader.new v.old v.new }
 {
-    let mut lent = Lent::new(reader);
-    let outcome = out_of_line::<V, R>(alloc, v, &mut lent, start, frame, code);
-    lent.take_back(reader);
+    let mut copy = ReaderCopy::new(reader);
+    let outcome = out_of_line::<V, R>(alloc, v, &mut copy, start, frame, code);
+    copy.set_position_of(reader);
     match outcome {
         Some(outcome) => Ok(outcome),
-        None => Err(lent.refusal),
+        None => Err(copy.error),
     }
 }
 
@@ -56,19 +56,19 @@ pub fn other_one_byte_by<V: Visitor, R: AtOneByte<V>>(
 fn out_of_line<V: Visitor, R: AtOneByte<V>>(
     alloc: Global,
     v: &mut V,
-    lent: &mut Lent<'_>,
+    copy: &mut ReaderCopy<'_>,
     start: usize,
     frame: FrameKind,
     code: u8,
 ) -> Option<V::Output>
-    requires after { IsAfterCode start None code lent.old.reader }
+    requires after { IsAfterCode start None code copy.old.reader }
     requires apart { IsOneByteCode code }
-    ensures { ByLent (λ r old new. DecodesAt V.visits frame start r old new v.old v.new) result lent.old lent.new }
+    ensures { DecodesByCopy (λ r old new. DecodesAt V.visits frame start r old new v.old v.new) result copy.old copy.new }
 {
-    match any_one_byte_by::<V, R>(alloc, v, &mut lent.reader, start, frame, code) {
+    match any_one_byte_by::<V, R>(alloc, v, &mut copy.reader, start, frame, code) {
         Ok(outcome) => Some(outcome),
         Err(e) => {
-            lent.refusal = e;
+            copy.error = e;
             None
         }
     }

@@ -120,9 +120,9 @@ impl ControlStack {
     {
         let more = frames.max(self.around.len()).max(LEAST);
         let alloc = *self.around.allocator();
-        let mut lent = replace(&mut self.around, Vec::new(alloc));
-        let grown = reserve_exact(&mut lent, more);
-        self.around = lent;
+        let mut around = replace(&mut self.around, Vec::new(alloc));
+        let grown = reserve_exact(&mut around, more);
+        self.around = around;
         if grown.is_err() {
             return Err(Error::new(Message::OutOfMemory, 0));
         }

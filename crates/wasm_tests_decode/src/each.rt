@@ -1,8 +1,8 @@
 use crate::half;
 use crate::own::Call;
 use crate::runs::{
-    Reported, is_refused_again, run_both, run_boxed, run_factory, run_lent, run_plain, run_read,
-    run_simd, write_outcome, write_refusal,
+    Reported, is_refused_again, run_borrowed, run_both, run_boxed, run_factory, run_plain,
+    run_read, run_simd, write_outcome, write_refusal,
 };
 use crate::task::Task;
 use crate::teller::Teller;
@@ -148,7 +148,7 @@ fn compare_ways(
         boxed,
         ..
     } = texts;
-    let reported = run_lent(alloc, teller, task, bytes);
+    let reported = run_borrowed(alloc, teller, task, bytes);
     write_way(line, direct, reported, other, &mut teller.text)?;
     let reported = run_boxed(alloc, boxed, task, bytes);
     write_way(line, direct, reported, other, &mut boxed.text)?;
@@ -177,7 +177,7 @@ fn compare_halves(
     }
     line.push_str("; half")?;
     write_half(line, direct, reported, other, &mut teller.text)?;
-    let reported = half::run_lent(teller, task, bytes);
+    let reported = half::run_borrowed(teller, task, bytes);
     write_half(line, direct, reported, other, &mut teller.text)?;
     let reported = half::run_boxed(boxed, task, bytes);
     write_half(line, direct, reported, other, &mut boxed.text)?;

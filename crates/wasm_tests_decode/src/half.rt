@@ -45,9 +45,9 @@ pub fn run_own(teller: &mut Teller, task: Task, bytes: &[u8]) -> Option<(Reporte
     run_half(teller, task, bytes)
 }
 
-pub fn run_lent(teller: &mut Teller, task: Task, bytes: &[u8]) -> Option<(Reported, usize)> {
-    let mut lent = teller;
-    run_half(&mut lent, task, bytes)
+pub fn run_borrowed(teller: &mut Teller, task: Task, bytes: &[u8]) -> Option<(Reported, usize)> {
+    let mut borrowed = teller;
+    run_half(&mut borrowed, task, bytes)
 }
 
 pub fn run_boxed(boxed: &mut Box<Teller>, task: Task, bytes: &[u8]) -> Option<(Reported, usize)> {
@@ -55,6 +55,6 @@ pub fn run_boxed(boxed: &mut Box<Teller>, task: Task, bytes: &[u8]) -> Option<(R
 }
 
 pub fn run_both(boxed: &mut Box<Teller>, task: Task, bytes: &[u8]) -> Option<(Reported, usize)> {
-    let mut lent = boxed;
-    run_half(&mut lent, task, bytes)
+    let mut borrowed = boxed;
+    run_half(&mut borrowed, task, bytes)
 }

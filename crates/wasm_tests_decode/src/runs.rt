@@ -52,10 +52,15 @@ pub fn run_plain(
     (outcome, reader.current_position())
 }
 
-pub fn run_lent(alloc: Global, teller: &mut Teller, task: Task, bytes: &[u8]) -> (Reported, usize) {
+pub fn run_borrowed(
+    alloc: Global,
+    teller: &mut Teller,
+    task: Task,
+    bytes: &[u8],
+) -> (Reported, usize) {
     let mut reader = reader_at(task, bytes);
-    let mut lent = teller;
-    let outcome = visit_operator_simd(alloc, &mut lent, &mut reader, task.frame);
+    let mut borrowed = teller;
+    let outcome = visit_operator_simd(alloc, &mut borrowed, &mut reader, task.frame);
     (outcome, reader.current_position())
 }
 
@@ -77,8 +82,8 @@ pub fn run_both(
     bytes: &[u8],
 ) -> (Reported, usize) {
     let mut reader = reader_at(task, bytes);
-    let mut lent = boxed;
-    let outcome = visit_operator_simd(alloc, &mut lent, &mut reader, task.frame);
+    let mut borrowed = boxed;
+    let outcome = visit_operator_simd(alloc, &mut borrowed, &mut reader, task.frame);
     (outcome, reader.current_position())
 }
 

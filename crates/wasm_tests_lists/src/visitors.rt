@@ -42,12 +42,15 @@ pub fn print_visitors<R: Print>(rt: &R, alloc: Global) -> io::Result<()> {
 fn print_reports<R: Print>(rt: &R, alloc: Global) -> io::Result<()> {
     println!(rt; "unit: {:?}", hand_over(&mut Reports, table()))?;
     let mut reports = Reports;
-    let mut lent = &mut reports;
-    println!(rt; "unit, by reference: {:?}", hand_over(&mut lent, table()))?;
+    let mut borrowed = &mut reports;
+    println!(rt;
+        "unit, by reference: {:?}",
+        hand_over(&mut borrowed, table())
+    )?;
     let mut boxed = Box::new(alloc, Reports)?;
     println!(rt; "unit, in a box: {:?}", hand_over(&mut boxed, table()))?;
-    let mut lent = &mut boxed;
-    println!(rt; "unit, both: {:?}", hand_over(&mut lent, table()))
+    let mut borrowed = &mut boxed;
+    println!(rt; "unit, both: {:?}", hand_over(&mut borrowed, table()))
 }
 
 fn print_counter<R: Print>(rt: &R, alloc: Global) -> io::Result<()> {
@@ -55,14 +58,14 @@ fn print_counter<R: Print>(rt: &R, alloc: Global) -> io::Result<()> {
     hand_over(&mut counter, table());
     println!(rt; "fields: {counter:?}")?;
     let mut counter = Counter::new(alloc);
-    let mut lent = &mut counter;
-    hand_over(&mut lent, table());
+    let mut borrowed = &mut counter;
+    hand_over(&mut borrowed, table());
     println!(rt; "fields, by reference: {counter:?}")?;
     let mut boxed = Box::new(alloc, Counter::new(alloc))?;
     hand_over(&mut boxed, table());
     println!(rt; "fields, in a box: {:?}", *boxed)?;
-    let mut lent = &mut boxed;
-    hand_over(&mut lent, table());
+    let mut borrowed = &mut boxed;
+    hand_over(&mut borrowed, table());
     println!(rt; "fields, both: {:?}", *boxed)
 }
 
@@ -74,8 +77,8 @@ fn print_printer<R: Print>(rt: &R, alloc: Global) -> io::Result<()> {
     };
     let outcomes = hand_over(&mut printer, table());
     println!(rt; "reference: {outcomes:?}, {} others", printer.others)?;
-    let mut lent = &mut printer;
-    let outcomes = hand_over(&mut lent, table());
+    let mut borrowed = &mut printer;
+    let outcomes = hand_over(&mut borrowed, table());
     println!(rt;
         "reference, by reference: {outcomes:?}, {} others",
         printer.others
@@ -86,8 +89,8 @@ fn print_printer<R: Print>(rt: &R, alloc: Global) -> io::Result<()> {
         "reference, in a box: {outcomes:?}, {} others",
         boxed.others
     )?;
-    let mut lent = &mut boxed;
-    let outcomes = hand_over(&mut lent, table());
+    let mut borrowed = &mut boxed;
+    let outcomes = hand_over(&mut borrowed, table());
     println!(rt; "reference, both: {outcomes:?}, {} others", boxed.others)?;
     drop(boxed);
     print!(rt; "{out}")
@@ -105,14 +108,14 @@ fn print_interp<R: Print>(rt: &R, alloc: Global) -> io::Result<()> {
     };
     let outcomes = hand_over(&mut interp, table());
     println!(rt; "parameter: {outcomes:?}, {:?}", interp.known)?;
-    let mut lent = &mut interp;
-    let outcomes = hand_over(&mut lent, table());
+    let mut borrowed = &mut interp;
+    let outcomes = hand_over(&mut borrowed, table());
     println!(rt; "parameter, by reference: {outcomes:?}, {:?}", interp.known)?;
     let mut boxed = Box::new(alloc, interp)?;
     let outcomes = hand_over(&mut boxed, table());
     println!(rt; "parameter, in a box: {outcomes:?}, {:?}", boxed.known)?;
-    let mut lent = &mut boxed;
-    let outcomes = hand_over(&mut lent, table());
+    let mut borrowed = &mut boxed;
+    let outcomes = hand_over(&mut borrowed, table());
     println!(rt; "parameter, both: {outcomes:?}, {} unknown", boxed.unknown)
 }
 

@@ -71,8 +71,8 @@ fn print_visits<R: Print>(rt: &R, alloc: Global, name: &str, bytes: &[u8]) -> io
     let outcome = operators(alloc, bytes).visit_all_simd(&mut tally);
     println!(rt; "once more: {outcome:?}, {tally:?}")?;
     let mut tally = Tally { own: 0, any: 0 };
-    let mut lent = &mut tally;
-    let outcome = operators(alloc, bytes).visit_all(&mut lent);
+    let mut borrowed = &mut tally;
+    let outcome = operators(alloc, bytes).visit_all(&mut borrowed);
     println!(rt; "by reference: {outcome:?}, {tally:?}")?;
     let mut made = Box::new(alloc, Tally { own: 0, any: 0 });
     if made.is_err() {
@@ -81,8 +81,8 @@ fn print_visits<R: Print>(rt: &R, alloc: Global, name: &str, bytes: &[u8]) -> io
     let mut boxed = made?;
     let outcome = operators(alloc, bytes).visit_all(&mut boxed);
     println!(rt; "in a box: {outcome:?}, {:?}", *boxed)?;
-    let mut lent = &mut boxed;
-    let outcome = operators(alloc, bytes).visit_all(&mut lent);
+    let mut borrowed = &mut boxed;
+    let outcome = operators(alloc, bytes).visit_all(&mut borrowed);
     println!(rt; "by reference, once more: {outcome:?}, {:?}", *boxed)
 }
 

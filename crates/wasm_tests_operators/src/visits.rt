@@ -98,8 +98,8 @@ fn boxed_once<'a>(alloc: Global, reader: &BinaryReader<'a>, list: Listed<'_, 'a>
     let mut operators = OperatorsReader::new(alloc, reader.clone());
     match Box::new(alloc, Prints::new()) {
         Ok(mut prints) => {
-            let mut lent = &mut prints;
-            let outcome = operators.visit_all_simd(&mut lent);
+            let mut borrowed = &mut prints;
+            let outcome = operators.visit_all_simd(&mut borrowed);
             end(Reported::new(), list, *prints, outcome)
         }
         Err(_) => {

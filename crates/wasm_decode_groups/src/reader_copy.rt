@@ -8,26 +8,26 @@ use wasm_below::{BinaryReader, Error, Message};
 /// A copy of a reader, and a place for an error. The place is first, since the reader ends with
 /// padding, which the compiler would clear at each call.
 #[derive(Drop)]
-pub struct Lent<'a> {
-    pub refusal: Error,
+pub struct ReaderCopy<'a> {
+    pub error: Error,
     pub reader: BinaryReader<'a>,
 }
 
-impl<'a> Lent<'a> {
+impl<'a> ReaderCopy<'a> {
     /// Copies the reader. The error is a placeholder, which a call that fails overwrites.
     #[inline(always)]
-    pub fn new(reader: &BinaryReader<'a>) -> Lent<'a>
+    pub fn new(reader: &BinaryReader<'a>) -> ReaderCopy<'a>
         ensures { result.reader ≡ reader.now }
     {
-        Lent {
-            refusal: Error::new(Message::EndOfData, 0),
+        ReaderCopy {
+            error: Error::new(Message::EndOfData, 0),
             reader: reader.clone(),
         }
     }
 
     /// Moves the reader to the position of its copy.
     #[inline(always)]
-    pub fn take_back(&self, reader: &mut BinaryReader<'a>)
+    pub fn set_position_of(&self, reader: &mut BinaryReader<'a>)
         requires { self.now.reader.position ≤ length reader.old.buffer }
         ensures { reader.new ≡ at_position reader.old self.now.reader.position }
     {
