@@ -4,7 +4,7 @@ use Rattle.wasm_operators.specs.below.declared.error.Error.{Error}
 use Rattle.wasm_operators.specs.below.Source.{Reader}
 use Rattle.wasm_disassembly.specs.declared.fault.DisassemblyFault.{DisassemblyFault}
 use Rattle.wasm_disassembly.specs.declared.fault.DisassemblyFault.TheVariants as disassembly_fault
-use Rattle.wasm_disassembly.specs.Faults.{IsHalt}
+use Rattle.wasm_disassembly.specs.Faults.{IsOutputFailure}
 use Rattle.wasm_disassembly.specs.Disassembly.{Heading, IsText, Disassembles}
 
 abbrev heading_by : ℕ → List (List ℕ) → ℕ → Heading
@@ -24,5 +24,5 @@ text_part h k f e body old new same is disassembles =
     let (text, appends, part) = subst (λ z. Disassembles {X = Unit {0}} h (Err z) body old new) is disassembles in
     (text, appends, subst (λ z. IsText {X = Unit {0}} z (Err e) body text) same part)
 
-pub no_halt : (P : Type 0) (f : DisassemblyFault) (e : Error) → f ≡ disassembly_fault.Refused e → IsHalt f → P
-no_halt P f e is halts = absurd (subst IsHalt is halts)
+pub no_halt : (P : Type 0) (f : DisassemblyFault) (e : Error) → f ≡ disassembly_fault.Refused e → IsOutputFailure f → P
+no_halt P f e is halts = absurd (subst IsOutputFailure is halts)

@@ -5,10 +5,10 @@ use Rattle.wasm_disassembly.specs.declared.fault.DisassemblyFault.{DisassemblyFa
 use Rattle.wasm_disassembly.specs.declared.fault.DisassemblyFault.TheVariants as fault
 
 -- Allocation or the writer failed.
-abbrev pub IsHalt : DisassemblyFault → Type 0
-IsHalt (fault.Refused e) = ⊥
-IsHalt fault.Memory = Unit {0}
-IsHalt fault.Writing = Unit {0}
+abbrev pub IsOutputFailure : DisassemblyFault → Type 0
+IsOutputFailure (fault.Refused e) = ⊥
+IsOutputFailure fault.Memory = Unit {0}
+IsOutputFailure fault.Writing = Unit {0}
 
 -- `Memory` for `OutOfMemory`, otherwise `Refused`.
 abbrev pub fault_at : Message → Error → DisassemblyFault

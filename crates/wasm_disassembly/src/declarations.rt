@@ -4,7 +4,7 @@ ghost use Rattle.wasm_operators.specs.below.Source.{rest};
 ghost use Rattle.wasm_operators.specs.imm.Lists.{EncodesMany};
 ghost use Rattle.wasm_operators.specs.Locals.{Declaration, EncodesDeclaration, max_locals};
 ghost use Rattle.wasm_text.specs.Rows.{line_of};
-ghost use Rattle.wasm_disassembly.specs.Faults.{IsHalt};
+ghost use Rattle.wasm_disassembly.specs.Faults.{IsOutputFailure};
 ghost use Rattle.wasm_disassembly.specs.LocalLines.{type_name, declaration_text, locals_in, ListsDeclarations};
 
 use crate::fault::DisassemblyFault;
@@ -60,7 +60,7 @@ fn write_declaration<W: Write>(
     requires few { first + declaration.0 < 2 ^ 64 }
     ensures ok { OnOk result (Appends (W.contents writer.old) (W.contents writer.new)
         (line_of 0 offset bytes.now (declaration_text first declaration))) }
-    ensures halts { IfErr result (λ fault. IsHalt fault) }
+    ensures halts { IfErr result (λ fault. IsOutputFailure fault) }
 {
     line.clear();
     if push_declaration(alloc, line, offset, bytes, first, declaration).is_err() {
@@ -88,7 +88,7 @@ pub fn write_declarations<W: Write>(
     // fail.
     ensures whole { (declarations : List Declaration) → (text more : List ℕ)
         → EncodesMany EncodesDeclaration locals.old.count text declarations → rest locals.old.reader ≡ text ++ more
-        → locals.old.total + locals_in declarations ≤ max_locals → IfErr result (λ fault. IsHalt fault) }
+        → locals.old.total + locals_in declarations ≤ max_locals → IfErr result (λ fault. IsOutputFailure fault) }
 {
     body_laws::declarations();
     let mut first = u64::from(parameters);

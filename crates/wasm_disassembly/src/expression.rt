@@ -5,7 +5,7 @@ ghost use Rattle.wasm_operators.specs.Expression.{Placed, EncodesExpression};
 ghost use Rattle.wasm_text.specs.Rows.{line_of};
 ghost use Rattle.wasm_text.specs.Lines.{change_in, depth_of, depth_after};
 ghost use Rattle.wasm_disassembly.specs.Disassembly.{callee_of, called_text, name_of, ListsOperators};
-ghost use Rattle.wasm_disassembly.specs.Faults.{IsHalt};
+ghost use Rattle.wasm_disassembly.specs.Faults.{IsOutputFailure};
 
 use crate::fault::{DisassemblyFault, fault_of};
 use crate::writing::write_text;
@@ -49,7 +49,7 @@ fn write_operator<W: Write>(
     ensures lines { OnOk result (Appends (W.contents writer.old) (W.contents writer.new)
         (line_of (depth_of (change_in bytes.now) depth) offset bytes.now (called_text (map string_bytes names.now) op.entry))) }
     ensures after { IfOk result (λ after. after ≡ depth_after (change_in bytes.now) depth) }
-    ensures halts { IfErr result (λ fault. IsHalt fault) }
+    ensures halts { IfErr result (λ fault. IsOutputFailure fault) }
 {
     line.clear();
     let Ok(after) = write_line(line, depth, offset, bytes, &op, callee_of(names, &op)) else {
@@ -75,7 +75,7 @@ pub fn write_operators<W: Write>(
     ensures lists { ListsOperators (map string_bytes names.now) start bytes.now result reader.entry (W.contents writer.old) (W.contents writer.new) }
     // If an expression starts at the reader's position, only allocation and the writer can fail.
     ensures whole { (placed : Placed) → EncodesExpression (source_of reader.entry) placed
-        → IfErr result (λ fault. IsHalt fault) }
+        → IfErr result (λ fault. IsOutputFailure fault) }
 {
     run_laws::single_reads();
     run_laws::read_to_the_end();

@@ -7,7 +7,7 @@ ghost use Rattle.wasm_operators.specs.Locals.{Declaration, max_locals};
 ghost use Rattle.wasm_text.specs.Lines.{header_of};
 ghost use Rattle.wasm_disassembly.specs.LocalLines.{locals_in};
 ghost use Rattle.wasm_disassembly.specs.Disassembly.{Disassembles};
-ghost use Rattle.wasm_disassembly.specs.Faults.{IsHalt};
+ghost use Rattle.wasm_disassembly.specs.Faults.{IsOutputFailure};
 
 use crate::declarations::write_declarations;
 use crate::expression::{name_of, write_operators};
@@ -27,7 +27,7 @@ fn write_heading<W: Write>(
     name: &str,
 ) -> Result<(), DisassemblyFault>
     ensures ok { OnOk result (Appends (W.contents writer.old) (W.contents writer.new) (header_of offset index name.now)) }
-    ensures halts { IfErr result (λ fault. IsHalt fault) }
+    ensures halts { IfErr result (λ fault. IsOutputFailure fault) }
 {
     line.clear();
     if write_header(line, offset, index, name).is_err() {
@@ -55,7 +55,7 @@ pub fn disassemble<W: Write>(
     // can fail.
     ensures whole { (declarations : List Declaration) → (placed : Placed)
         → EncodesBody (source_of body.now) declarations placed → locals_in declarations ≤ max_locals
-        → IfErr result (λ fault. IsHalt fault) }
+        → IfErr result (λ fault. IsOutputFailure fault) }
 {
     body_laws::past_locals();
     byte_laws::unsigned_numbers();

@@ -5,7 +5,7 @@ use Rattle.wasm_operators.specs.below.Source.{rest, source_of}
 use Rattle.wasm_operators.specs.Expression.{EncodesExpression}
 use Rattle.wasm_text.specs.Lines.{between}
 use Rattle.wasm_disassembly.specs.Disassembly.{ListsOperators}
-use Rattle.wasm_disassembly.specs.Faults.{IsHalt}
+use Rattle.wasm_disassembly.specs.Faults.{IsOutputFailure}
 use Rattle.wasm_disassembly.proofs.Halts.{at_halt, at_fault, memory_halts}
 use Rattle.wasm_disassembly.proofs.OperatorLines.{listed_none, listed_more, fewer_left, listed_whole, listed_part}
 use Rattle.wasm_disassembly.proofs.expression.write_operators.Goals as goal
@@ -57,7 +57,7 @@ returns-in-Err-clause-whole g c =
     let stops = inr (λ none. some (ap rest (sym same.0) ∙ none), c.read_to_the_end.ensures.refused e new c.in-Err.ensures.1) in
     λ placed encodes.
     let whole = subst (λ r. EncodesExpression (source_of r) placed) (sym c.new-operators.ensures.reader) encodes in
-    subst IsHalt (sym c.fault_of.ensures)
+    subst IsOutputFailure (sym c.fault_of.ensures)
     (memory_halts e (c.read_to_the_end.ensures.only [] e opened new l.placed placed c.new-operators.ensures.read_so_far ran stops whole))
 
 pub returns-in-Ok-finish-clause-lists : goal.returns-in-Ok-finish-clause-lists
