@@ -32,6 +32,7 @@ mod body;
 mod counter;
 mod features;
 mod frames;
+mod in_frame;
 pub mod laws;
 mod lists;
 mod module;

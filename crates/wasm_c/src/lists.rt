@@ -6,25 +6,11 @@ ghost use Rattle.wasm_c.specs.Reads.{IsWithin};
 ghost use Rattle.wasm_c.specs.Refused.{no_refusal, misuse};
 
 use crate::features::known_features;
+use crate::in_frame::InFrame;
 use crate::refusal::{NO_LIST, WasmRefusal};
 use std::alloc::Global;
-use wasm_operators::{BinaryReader, FrameKind, FrameStack, Operator, ReadOperators};
+use wasm_operators::{BinaryReader, FrameKind, Operator, ReadOperators};
 use wasm_view::{WasmHandler, WasmType, catches_of, handles_of, targets_of, types_of};
-
-/// The frame in which operators with lists are read.
-#[derive(Drop)]
-struct InBlock;
-
-impl FrameStack for InBlock {
-    ghost use Rattle.std.specs.Prelude.{Some};
-    ghost use Rattle.wasm_operators.specs.grammar.declared.frame_kind.FrameKind.TheVariants as frame;
-
-    ghost frame = { λ _. Some frame.Block };
-
-    fn current_frame(&self) -> Option<FrameKind> {
-        Some(FrameKind::Block)
-    }
-}
 
 /// Returns a reader of the bytes from the offset `at` on.
 pub fn bytes_from<'a>(
@@ -65,10 +51,15 @@ fn operator_at<'a>(
     ensures { ReadsAt result bytes.now offset features at }
 {
     match bytes_from(bytes, offset, features, at) {
-        Ok(ahead) => match ahead.peek_operator(alloc, &InBlock) {
-            Ok(op) => Ok(op),
-            Err(error) => Err(WasmRefusal::of(&error)),
-        },
+        Ok(ahead) => {
+            let stack = InFrame {
+                kind: FrameKind::Block,
+            };
+            match ahead.peek_operator(alloc, &stack) {
+                Ok(op) => Ok(op),
+                Err(error) => Err(WasmRefusal::of(&error)),
+            }
+        }
         Err(refused) => Err(refused),
     }
 }

@@ -5,27 +5,13 @@ ghost use Rattle.wasm_text.specs.Names.{text_name};
 ghost use Rattle.wasm_text.specs.Operands.{text_of};
 ghost use Rattle.wasm_c.specs.OperatorTexts.{frame_for, out_of_memory, PlacesText, RefusesText, RefusesTextName, FindsText, ReturnsTextAt};
 
+use crate::in_frame::InFrame;
 use crate::lists::bytes_from;
 use crate::refusal::{NO_ROOM, WasmRefusal};
 use crate::text::write_one;
 use std::alloc::Global;
-use wasm_operators::{BinaryReader, Error, FrameKind, FrameStack, Message, ReadOperators};
+use wasm_operators::{BinaryReader, Error, FrameKind, Message, ReadOperators};
 use wasm_text::{text_name, write_operator};
-
-#[derive(Drop)]
-struct InFrame {
-    kind: FrameKind,
-}
-
-impl FrameStack for InFrame {
-    ghost use Rattle.std.specs.Prelude.{Some};
-
-    ghost frame = { λ stack. Some stack.kind };
-
-    fn current_frame(&self) -> Option<FrameKind> {
-        Some(self.kind)
-    }
-}
 
 /// Returns a frame that allows the next operator, if one does.
 fn frame_for(ahead: &BinaryReader<'_>) -> FrameKind
