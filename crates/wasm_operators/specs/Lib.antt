@@ -25,4 +25,4 @@ pub use Rattle.wasm_instr_ops.specs as instr_ops
 pub use Rattle.wasm_instr_simd.specs as instr_simd
 pub use Rattle.wasm_instr.specs as instr
 pub use Rattle.wasm_decode_opcodes.specs as opcodes
-pub use Rattle.wasm_decode.specs as decoder
+pub use Rattle.wasm_decode.specs.Reading as Decoding
