@@ -23,14 +23,26 @@ def routes_of(name, parameters, of):
     return [f"{head} {{", *[line for number, one in enumerate(lines) for line in ([""] if number else []) + one], "}", ""]
 
 
+def chosen(routes):
+    """Returns the type of these routes, one for each group."""
+    return ["ByRoutes<", *[f"    {route}," for route in routes], ">"]
+
+
+def by_routes():
+    """Returns the type of any routes."""
+    marks = ", ".join(group.mark for group in GROUPS)
+    head = f"ByRoutes<{marks}>"
+    return [
+        *filled("routes/by_routes.rt", head=head, routes=marks),
+        "",
+        *routes_of(head, marks, lambda group: group.mark),
+    ]
+
+
 def named(group, route, text):
     """Returns the type by which a visitor names a route for a group."""
-    name = f"{route}{group.mark}"
-    return [
-        *filled("routes/named.rt", doc=doc(text), name=name),
-        "",
-        *routes_of(f"{name}<R>", "R: Routes", lambda it: route if it is group else f"R::{it.mark}"),
-    ]
+    first, *others = chosen([route if it is group else f"<R as Routes>::{it.mark}" for it in GROUPS])
+    return [*doc(text), f"pub type {route}{group.mark}<R> = {first}", *others[:-1], f"{others[-1]};", ""]
 
 
 def routes_file():
@@ -39,6 +51,7 @@ def routes_file():
         groups += ["", *inner(f"For {group.title}."), f"    type {group.mark};"]
     routes = routes_of("ByAny", "", lambda group: "ByAny")
     routes += routes_of("Through<R>", "R: Routes", lambda group: f"Through<R::{group.mark}>")
+    routes += by_routes()
     for group in GROUPS:
         routes += named(group, "Own", f"The visits of `{group.trait}`, and for other groups the routes `R`.")
     for group in GROUPS:

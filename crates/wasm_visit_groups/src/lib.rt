@@ -19,8 +19,8 @@ pub use numeric::VisitNumeric;
 pub use one_byte::VisitOneByte;
 pub use route::{ByAny, Once, Own, Through, ToOwn};
 pub use routes::{
-    OnceAtomic, OnceGc, OnceMisc, OnceNumeric, OnceOneByte, OnceSimdHigh, OnceSimdLow, OwnAtomic,
-    OwnGc, OwnMisc, OwnNumeric, OwnOneByte, OwnSimdHigh, OwnSimdLow, Routes,
+    ByRoutes, OnceAtomic, OnceGc, OnceMisc, OnceNumeric, OnceOneByte, OnceSimdHigh, OnceSimdLow,
+    OwnAtomic, OwnGc, OwnMisc, OwnNumeric, OwnOneByte, OwnSimdHigh, OwnSimdLow, Routes,
 };
 pub use simd_high::VisitSimdHigh;
 pub use simd_low::VisitSimdLow;

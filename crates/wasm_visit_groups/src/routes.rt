@@ -58,296 +58,179 @@ impl<R: Routes> Routes for Through<R> {
     type SimdHigh = Through<R::SimdHigh>;
 }
 
+/// A route for each group. `OwnGc<OwnMisc<ByAny>>` is one such type: if the names were types of their
+/// own, the prover would compare them, one in another, at each visit.
+pub struct ByRoutes<OneByte, Numeric, Gc, Misc, Atomic, SimdLow, SimdHigh> {
+    routes: PhantomData<(OneByte, Numeric, Gc, Misc, Atomic, SimdLow, SimdHigh)>,
+}
+
+impl<OneByte, Numeric, Gc, Misc, Atomic, SimdLow, SimdHigh> Routes
+    for ByRoutes<OneByte, Numeric, Gc, Misc, Atomic, SimdLow, SimdHigh> {
+    type OneByte = OneByte;
+
+    type Numeric = Numeric;
+
+    type Gc = Gc;
+
+    type Misc = Misc;
+
+    type Atomic = Atomic;
+
+    type SimdLow = SimdLow;
+
+    type SimdHigh = SimdHigh;
+}
+
 /// The visits of `VisitOneByte`, and for other groups the routes `R`.
-pub struct OwnOneByte<R> {
-    others: PhantomData<R>,
-}
-
-impl<R: Routes> Routes for OwnOneByte<R> {
-    type OneByte = Own;
-
-    type Numeric = R::Numeric;
-
-    type Gc = R::Gc;
-
-    type Misc = R::Misc;
-
-    type Atomic = R::Atomic;
-
-    type SimdLow = R::SimdLow;
-
-    type SimdHigh = R::SimdHigh;
-}
+pub type OwnOneByte<R> = ByRoutes<
+    Own,
+    <R as Routes>::Numeric,
+    <R as Routes>::Gc,
+    <R as Routes>::Misc,
+    <R as Routes>::Atomic,
+    <R as Routes>::SimdLow,
+    <R as Routes>::SimdHigh,
+>;
 
 /// The visits of `VisitNumeric`, and for other groups the routes `R`.
-pub struct OwnNumeric<R> {
-    others: PhantomData<R>,
-}
-
-impl<R: Routes> Routes for OwnNumeric<R> {
-    type OneByte = R::OneByte;
-
-    type Numeric = Own;
-
-    type Gc = R::Gc;
-
-    type Misc = R::Misc;
-
-    type Atomic = R::Atomic;
-
-    type SimdLow = R::SimdLow;
-
-    type SimdHigh = R::SimdHigh;
-}
+pub type OwnNumeric<R> = ByRoutes<
+    <R as Routes>::OneByte,
+    Own,
+    <R as Routes>::Gc,
+    <R as Routes>::Misc,
+    <R as Routes>::Atomic,
+    <R as Routes>::SimdLow,
+    <R as Routes>::SimdHigh,
+>;
 
 /// The visits of `VisitGc`, and for other groups the routes `R`.
-pub struct OwnGc<R> {
-    others: PhantomData<R>,
-}
-
-impl<R: Routes> Routes for OwnGc<R> {
-    type OneByte = R::OneByte;
-
-    type Numeric = R::Numeric;
-
-    type Gc = Own;
-
-    type Misc = R::Misc;
-
-    type Atomic = R::Atomic;
-
-    type SimdLow = R::SimdLow;
-
-    type SimdHigh = R::SimdHigh;
-}
+pub type OwnGc<R> = ByRoutes<
+    <R as Routes>::OneByte,
+    <R as Routes>::Numeric,
+    Own,
+    <R as Routes>::Misc,
+    <R as Routes>::Atomic,
+    <R as Routes>::SimdLow,
+    <R as Routes>::SimdHigh,
+>;
 
 /// The visits of `VisitMisc`, and for other groups the routes `R`.
-pub struct OwnMisc<R> {
-    others: PhantomData<R>,
-}
-
-impl<R: Routes> Routes for OwnMisc<R> {
-    type OneByte = R::OneByte;
-
-    type Numeric = R::Numeric;
-
-    type Gc = R::Gc;
-
-    type Misc = Own;
-
-    type Atomic = R::Atomic;
-
-    type SimdLow = R::SimdLow;
-
-    type SimdHigh = R::SimdHigh;
-}
+pub type OwnMisc<R> = ByRoutes<
+    <R as Routes>::OneByte,
+    <R as Routes>::Numeric,
+    <R as Routes>::Gc,
+    Own,
+    <R as Routes>::Atomic,
+    <R as Routes>::SimdLow,
+    <R as Routes>::SimdHigh,
+>;
 
 /// The visits of `VisitAtomic`, and for other groups the routes `R`.
-pub struct OwnAtomic<R> {
-    others: PhantomData<R>,
-}
-
-impl<R: Routes> Routes for OwnAtomic<R> {
-    type OneByte = R::OneByte;
-
-    type Numeric = R::Numeric;
-
-    type Gc = R::Gc;
-
-    type Misc = R::Misc;
-
-    type Atomic = Own;
-
-    type SimdLow = R::SimdLow;
-
-    type SimdHigh = R::SimdHigh;
-}
+pub type OwnAtomic<R> = ByRoutes<
+    <R as Routes>::OneByte,
+    <R as Routes>::Numeric,
+    <R as Routes>::Gc,
+    <R as Routes>::Misc,
+    Own,
+    <R as Routes>::SimdLow,
+    <R as Routes>::SimdHigh,
+>;
 
 /// The visits of `VisitSimdLow`, and for other groups the routes `R`.
-pub struct OwnSimdLow<R> {
-    others: PhantomData<R>,
-}
-
-impl<R: Routes> Routes for OwnSimdLow<R> {
-    type OneByte = R::OneByte;
-
-    type Numeric = R::Numeric;
-
-    type Gc = R::Gc;
-
-    type Misc = R::Misc;
-
-    type Atomic = R::Atomic;
-
-    type SimdLow = Own;
-
-    type SimdHigh = R::SimdHigh;
-}
+pub type OwnSimdLow<R> = ByRoutes<
+    <R as Routes>::OneByte,
+    <R as Routes>::Numeric,
+    <R as Routes>::Gc,
+    <R as Routes>::Misc,
+    <R as Routes>::Atomic,
+    Own,
+    <R as Routes>::SimdHigh,
+>;
 
 /// The visits of `VisitSimdHigh`, and for other groups the routes `R`.
-pub struct OwnSimdHigh<R> {
-    others: PhantomData<R>,
-}
-
-impl<R: Routes> Routes for OwnSimdHigh<R> {
-    type OneByte = R::OneByte;
-
-    type Numeric = R::Numeric;
-
-    type Gc = R::Gc;
-
-    type Misc = R::Misc;
-
-    type Atomic = R::Atomic;
-
-    type SimdLow = R::SimdLow;
-
-    type SimdHigh = Own;
-}
+pub type OwnSimdHigh<R> = ByRoutes<
+    <R as Routes>::OneByte,
+    <R as Routes>::Numeric,
+    <R as Routes>::Gc,
+    <R as Routes>::Misc,
+    <R as Routes>::Atomic,
+    <R as Routes>::SimdLow,
+    Own,
+>;
 
 /// The calls of `CallOneByte`, and for other groups the routes `R`.
-pub struct OnceOneByte<R> {
-    others: PhantomData<R>,
-}
-
-impl<R: Routes> Routes for OnceOneByte<R> {
-    type OneByte = Once;
-
-    type Numeric = R::Numeric;
-
-    type Gc = R::Gc;
-
-    type Misc = R::Misc;
-
-    type Atomic = R::Atomic;
-
-    type SimdLow = R::SimdLow;
-
-    type SimdHigh = R::SimdHigh;
-}
+pub type OnceOneByte<R> = ByRoutes<
+    Once,
+    <R as Routes>::Numeric,
+    <R as Routes>::Gc,
+    <R as Routes>::Misc,
+    <R as Routes>::Atomic,
+    <R as Routes>::SimdLow,
+    <R as Routes>::SimdHigh,
+>;
 
 /// The calls of `CallNumeric`, and for other groups the routes `R`.
-pub struct OnceNumeric<R> {
-    others: PhantomData<R>,
-}
-
-impl<R: Routes> Routes for OnceNumeric<R> {
-    type OneByte = R::OneByte;
-
-    type Numeric = Once;
-
-    type Gc = R::Gc;
-
-    type Misc = R::Misc;
-
-    type Atomic = R::Atomic;
-
-    type SimdLow = R::SimdLow;
-
-    type SimdHigh = R::SimdHigh;
-}
+pub type OnceNumeric<R> = ByRoutes<
+    <R as Routes>::OneByte,
+    Once,
+    <R as Routes>::Gc,
+    <R as Routes>::Misc,
+    <R as Routes>::Atomic,
+    <R as Routes>::SimdLow,
+    <R as Routes>::SimdHigh,
+>;
 
 /// The calls of `CallGc`, and for other groups the routes `R`.
-pub struct OnceGc<R> {
-    others: PhantomData<R>,
-}
-
-impl<R: Routes> Routes for OnceGc<R> {
-    type OneByte = R::OneByte;
-
-    type Numeric = R::Numeric;
-
-    type Gc = Once;
-
-    type Misc = R::Misc;
-
-    type Atomic = R::Atomic;
-
-    type SimdLow = R::SimdLow;
-
-    type SimdHigh = R::SimdHigh;
-}
+pub type OnceGc<R> = ByRoutes<
+    <R as Routes>::OneByte,
+    <R as Routes>::Numeric,
+    Once,
+    <R as Routes>::Misc,
+    <R as Routes>::Atomic,
+    <R as Routes>::SimdLow,
+    <R as Routes>::SimdHigh,
+>;
 
 /// The calls of `CallMisc`, and for other groups the routes `R`.
-pub struct OnceMisc<R> {
-    others: PhantomData<R>,
-}
-
-impl<R: Routes> Routes for OnceMisc<R> {
-    type OneByte = R::OneByte;
-
-    type Numeric = R::Numeric;
-
-    type Gc = R::Gc;
-
-    type Misc = Once;
-
-    type Atomic = R::Atomic;
-
-    type SimdLow = R::SimdLow;
-
-    type SimdHigh = R::SimdHigh;
-}
+pub type OnceMisc<R> = ByRoutes<
+    <R as Routes>::OneByte,
+    <R as Routes>::Numeric,
+    <R as Routes>::Gc,
+    Once,
+    <R as Routes>::Atomic,
+    <R as Routes>::SimdLow,
+    <R as Routes>::SimdHigh,
+>;
 
 /// The calls of `CallAtomic`, and for other groups the routes `R`.
-pub struct OnceAtomic<R> {
-    others: PhantomData<R>,
-}
-
-impl<R: Routes> Routes for OnceAtomic<R> {
-    type OneByte = R::OneByte;
-
-    type Numeric = R::Numeric;
-
-    type Gc = R::Gc;
-
-    type Misc = R::Misc;
-
-    type Atomic = Once;
-
-    type SimdLow = R::SimdLow;
-
-    type SimdHigh = R::SimdHigh;
-}
+pub type OnceAtomic<R> = ByRoutes<
+    <R as Routes>::OneByte,
+    <R as Routes>::Numeric,
+    <R as Routes>::Gc,
+    <R as Routes>::Misc,
+    Once,
+    <R as Routes>::SimdLow,
+    <R as Routes>::SimdHigh,
+>;
 
 /// The calls of `CallSimdLow`, and for other groups the routes `R`.
-pub struct OnceSimdLow<R> {
-    others: PhantomData<R>,
-}
-
-impl<R: Routes> Routes for OnceSimdLow<R> {
-    type OneByte = R::OneByte;
-
-    type Numeric = R::Numeric;
-
-    type Gc = R::Gc;
-
-    type Misc = R::Misc;
-
-    type Atomic = R::Atomic;
-
-    type SimdLow = Once;
-
-    type SimdHigh = R::SimdHigh;
-}
+pub type OnceSimdLow<R> = ByRoutes<
+    <R as Routes>::OneByte,
+    <R as Routes>::Numeric,
+    <R as Routes>::Gc,
+    <R as Routes>::Misc,
+    <R as Routes>::Atomic,
+    Once,
+    <R as Routes>::SimdHigh,
+>;
 
 /// The calls of `CallSimdHigh`, and for other groups the routes `R`.
-pub struct OnceSimdHigh<R> {
-    others: PhantomData<R>,
-}
-
-impl<R: Routes> Routes for OnceSimdHigh<R> {
-    type OneByte = R::OneByte;
-
-    type Numeric = R::Numeric;
-
-    type Gc = R::Gc;
-
-    type Misc = R::Misc;
-
-    type Atomic = R::Atomic;
-
-    type SimdLow = R::SimdLow;
-
-    type SimdHigh = Once;
-}
+pub type OnceSimdHigh<R> = ByRoutes<
+    <R as Routes>::OneByte,
+    <R as Routes>::Numeric,
+    <R as Routes>::Gc,
+    <R as Routes>::Misc,
+    <R as Routes>::Atomic,
+    <R as Routes>::SimdLow,
+    Once,
+>;
