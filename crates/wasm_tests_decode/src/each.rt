@@ -1,5 +1,4 @@
 use crate::half;
-use crate::own::Call;
 use crate::runs::{
     Reported, is_refused_again, run_borrowed, run_both, run_boxed, run_factory, run_plain,
     run_read, run_simd, write_outcome, write_refusal,
@@ -50,8 +49,8 @@ fn write_reported(texts: &mut Texts, outcome: Reported) -> Written {
     let Texts { line, teller, .. } = texts;
     let visited = &teller.text;
     match outcome {
-        Ok(Call::OutOfMemory) => Err(AllocError),
-        Ok(call) => write!(line, "{visited} by {call:?}"),
+        Ok(Ok(call)) => write!(line, "{visited} by {call:?}"),
+        Ok(Err(e)) => Err(e),
         Err(e) => {
             write!(line, "{visited}")?;
             write_refusal(line, e)
@@ -125,7 +124,7 @@ fn compare_factory(
 fn compare_visit(texts: &mut Texts, reported: (Reported, usize), end: usize) -> Written {
     let is_same = texts.teller.text == texts.read && reported.1 == end;
     match reported.0 {
-        Ok(call) if is_same => write!(texts.line, "by {call:?}")?,
+        Ok(Ok(call)) if is_same => write!(texts.line, "by {call:?}")?,
         _ => write_visit(texts, reported)?,
     }
     texts.teller.text.clear();
@@ -205,7 +204,7 @@ fn compare_value(
 
 fn is_same_visit(a: (Reported, usize), b: (Reported, usize)) -> bool {
     let is_same = match (a.0, b.0) {
-        (Ok(call), Ok(other)) => call == other,
+        (Ok(Ok(call)), Ok(Ok(other))) => call == other,
         (Err(e), Err(other)) => e == other,
         _ => false,
     };

@@ -10,13 +10,12 @@ use wasm_visit_groups::{
     Visitor,
 };
 
-/// The visit that an operator received, or that its text could not be stored.
+/// The visit that an operator received.
 #[derive(Clone, Copy, Debug, PartialEq, Eq)]
 pub enum Call {
     Own,
     Any,
     Table,
-    OutOfMemory,
 }
 
 impl VisitOneByte for Teller {

@@ -3,7 +3,7 @@
 use crate::own::Call;
 use crate::task::Task;
 use crate::teller::Teller;
-use std::alloc::Global;
+use std::alloc::{AllocError, Global};
 use wasm_below::{BinaryReader, Error, Result};
 use wasm_decode::{read_operator, visit_operator, visit_operator_simd};
 use wasm_instr::Operator;
@@ -33,7 +33,7 @@ pub fn run_factory<'a>(
     (outcome, reader.current_position())
 }
 
-pub type Reported = Result<Call>;
+pub type Reported = Result<std::result::Result<Call, AllocError>>;
 
 pub fn run_simd(alloc: Global, teller: &mut Teller, task: Task, bytes: &[u8]) -> (Reported, usize) {
     let mut reader = reader_at(task, bytes);

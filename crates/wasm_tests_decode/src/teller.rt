@@ -1,5 +1,5 @@
 use crate::own::Call;
-use std::alloc::Global;
+use std::alloc::{AllocError, Global};
 use wasm_below::{BinaryReader, Result};
 use wasm_grammar::FrameKind;
 use wasm_imm::BrTable;
@@ -16,8 +16,9 @@ use wasm_visit_groups::{
     Visitor,
 };
 
-/// Writes the operators that it visits, and returns which call it received. It overrides all
-/// visits; ten functions pass it on, so its calls compare the visits once.
+/// Writes the operators that it visits, and returns which call it received, or that the text could
+/// not be stored. It overrides all visits; ten functions pass it on, so its calls compare the visits
+/// once.
 #[derive(Drop)]
 pub struct Teller {
     pub text: String,
@@ -30,20 +31,18 @@ impl Teller {
         }
     }
 
-    pub fn own(&mut self, op: Operator<'static>) -> Call {
+    pub fn own(&mut self, op: Operator<'static>) -> std::result::Result<Call, AllocError> {
         self.written(&op, Call::Own)
     }
 
-    fn written(&mut self, op: &Operator<'_>, call: Call) -> Call {
-        match write_operator(&mut self.text, op) {
-            Ok(()) => call,
-            Err(_) => Call::OutOfMemory,
-        }
+    fn written(&mut self, op: &Operator<'_>, call: Call) -> std::result::Result<Call, AllocError> {
+        write_operator(&mut self.text, op)?;
+        Ok(call)
     }
 }
 
 impl Visitor for Teller {
-    type Output = Call;
+    type Output = std::result::Result<Call, AllocError>;
 
     type Visits = OnceOneByte<
         OnceNumeric<OnceGc<OnceMisc<OnceAtomic<OnceSimdLow<OnceSimdHigh<ByAny>>>>>>,
