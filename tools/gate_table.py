@@ -17,7 +17,6 @@ from pathlib import Path
 sys.path[:0] = [str(Path(__file__).resolve().parent / "generate"), str(Path(__file__).resolve().parent)]
 
 from more_must_fail import recorded
-from paths import crates as crates_listed
 
 TOP = Path(__file__).resolve().parent.parent
 PAGE = TOP / "docs" / "GATE.md"
@@ -96,18 +95,6 @@ def row(name, crate):
     return f"| `{name}` | {crate.functions or ''} | {' | '.join(cells)} | {crate.edits or ''} |"
 
 
-def readings(listed):
-    """Returns how often files are read: once along every path to a crate or a library."""
-    counts = {}
-
-    def of(name):
-        if name not in counts:
-            counts[name] = 1 + sum(of(it) for it in listed.get(name, []))
-        return counts[name]
-
-    return sum(of(name) for name in listed)
-
-
 def made_of(crates):
     proofs = {name: it.processor.get("proof", 0) for name, it in crates.items()}
     edits = sum(it.processor.get("edits", 0) for it in crates.values())
@@ -166,7 +153,6 @@ def outside_section(rows):
 def page(runs, rows=()):
     """Returns the page with its head and new sections."""
     head = PAGE.read_text(encoding="utf-8").split("\n## ")[0]
-    head = re.sub(r"\d+ readings", f"{readings(crates_listed())} readings", head)
     return "".join([head, *(run_section(text, note) for text, note in runs), outside_section(rows)])
 
 

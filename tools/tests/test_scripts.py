@@ -69,10 +69,6 @@ class GateTable(unittest.TestCase):
                 more = 60 if (name, part) == ("wasm_low", "proof") else 0
                 self.assertEqual(crates[name].processor[part], 2 * seconds + more)
 
-    def test_readings(self):
-        # low and kit; middle, low and kit; high with middle and low
-        self.assertEqual(gate_table.readings({"low": ["kit"], "middle": ["low"], "high": ["middle", "low"]}), 2 + 3 + 6)
-
     def test_other_logs(self):
         with self.assertRaises(SystemExit):
             gate_table.run_section("2 passed, 1 failed\n")
