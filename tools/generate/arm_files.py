@@ -3,7 +3,7 @@
 import re
 
 from arms import (
-    EVERY_CALL, ONE_CALL, by_alignment, group_lines, has_list_arm, kinds, listed, parts, places,
+    BELOW_CALL, EVERY_CALL, ONE_CALL, by_alignment, group_lines, has_list_arm, is_below, kinds, listed, parts, places,
 )
 from immediates import FORMS, KIND_WORDS, ROW_WORDS, kinds_term
 from parts import runs
@@ -311,15 +311,17 @@ def returned_proof(ops, group):
 
 def one_byte_proofs(ops, group):
     those = parts(ops, group)
-    common = [part for part in those if any(op.is_common for op in part.free)]
-    few, few_names = run_proofs(common, lambda op: op.is_common, True)
     body, names = run_proofs(those, lambda op: True, True)
     apart = "c.requires.apart"
     body += proved("unknown_opcode-requires-clause-unknown", "g c", f"one_byte_unknown c.args.code {apart}.apart (λ h. grind (arith, h, {apart}.table, {apart}.numeric))")
     body += proved("returns-in_default", "g c", "(refl, c.unknown_opcode.ensures c.args.frame)")
     module = "one_byte_operators"
+    out = {}
+    for name, below in ((ONE_CALL, False), (BELOW_CALL, True)):
+        few, few_names = run_proofs(those, lambda op: op.is_common and is_below(op) == below, True)
+        out[f"{module}.{name}_by"] = group_proof(f"{module}.{name}_by", few, few_names)
     return {
-        f"{module}.{ONE_CALL}_by": group_proof(f"{module}.{ONE_CALL}_by", few, few_names),
+        **out,
         f"{module}.{EVERY_CALL}_by": group_proof(f"{module}.{EVERY_CALL}_by", body, [*names, "one_byte_unknown"]),
     }
 

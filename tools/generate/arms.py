@@ -7,7 +7,11 @@ from templates import filled
 from visits import FROM, TO, type_name
 
 # The common operators with a one-byte opcode are inlined; the others are decoded by one call.
+# Those below 0x20 are apart: a driver has one call for them, and one for the others. With all in
+# one function it would have two calls of that one, and the kit would inline neither.
 ONE_CALL = "one_byte"
+BELOW_CALL = "below_0x20"
+BELOW = 0x20
 OTHERS_CALL = "other_one_byte"
 EVERY_CALL = "any_one_byte"
 
@@ -266,32 +270,53 @@ def prefixed(those, group):
 
 
 def own_function(group, name, parameters, does, body):
-    text = f"Reads the immediates of {singular(group.short)} and {does}"
-    return [*filled("arms/own.rt", doc=doc(text), name=name, parameters=parameters, body=body), ""]
+    is_low = name.startswith(BELOW_CALL)
+    text = f"Reads the immediates of {'an operator with an opcode below 0x20' if is_low else singular(group.short)} and {does}"
+    below = ["    requires low { code < 0x20 }"] if is_low else []
+    return [*filled("arms/own.rt", doc=doc(text), name=name, parameters=parameters, below=below, body=body), ""]
+
+
+def is_below(op):
+    return op.code < BELOW
+
+
+def common(ops, group, below):
+    """Returns the body of the function for the common operators below 0x20, or for those from 0x20 on."""
+
+    def takes(op):
+        return op.is_common and is_below(op) == below
+
+    those = [part for part in parts(ops, group) if any(takes(op) for op in part.free)]
+    singles = [part for part in alone(ops, group) if is_below(part.ops[0]) == below]
+    return [
+        "match code {",
+        *arms(those, "code as u32", takes),
+        *[f"{part.ops[0].hex()} => {call(part, part.ops[0].hex(), only(part))}," for part in singles],
+        f"_ => {OTHERS_CALL}_by::<V, R>(alloc, v, reader, start, frame, code),",
+        "}",
+    ]
 
 
 def one_byte(ops, those, group):
     """Returns the functions of the operators with a one-byte opcode: with the common ones inlined, and with an arm for each."""
     singles = alone(ops, group)
-    common = [part for part in those if any(op.is_common for op in part.free)]
     with_lists = {op.code: type_of(op.forms) for op in group.of(ops) if has_list_arm(op)}
     guarded = [op for op in group.of(ops) if op.has_guard]
-    common_arms = [
-        *arms(common, "code as u32", lambda op: op.is_common),
-        *[f"{part.ops[0].hex()} => {call(part, part.ops[0].hex(), only(part))}," for part in singles],
-        f"_ => {OTHERS_CALL}_by::<V, R>(alloc, v, reader, start, frame, code),",
-    ]
     every_arm = [
         *arms(those, "code as u32"),
         *[f"{op.hex()} => guarded_arm::<V, {type_of(op.forms)}, R>(v, reader, start, frame, {op.hex()}, Guard::{op.name})," for op in guarded],
         *[f"0x{code:02x} => list_arm::<V, {ty}, R>(alloc, v, reader, start, 0x{code:02x})," for code, ty in with_lists.items()],
         "_ => Err(unknown_opcode(reader, start, code)),",
     ]
-    by_visits = [f"{ONE_CALL}_by::<V, Own>(alloc, v, reader, start, frame, code)"]
-    by_route, inlined = "V: Visitor, R: AtOneByte<V>", "Common operators are inlined."
+    by_route = "V: Visitor, R: AtOneByte<V>"
+    out = []
+    for name, where, below in ((ONE_CALL, "from 0x20 on ", False), (BELOW_CALL, "", True)):
+        inlined = f"Common operators {where}are inlined."
+        by_visits = [f"{name}_by::<V, Own>(alloc, v, reader, start, frame, code)"]
+        out += own_function(group, name, f"V: {group.trait}", f"visits it. {inlined}", by_visits)
+        out += own_function(group, f"{name}_by", by_route, f"passes them to `R`. {inlined}", common(ops, group, below))
     return [
-        *own_function(group, ONE_CALL, f"V: {group.trait}", f"visits it. {inlined}", by_visits),
-        *own_function(group, f"{ONE_CALL}_by", by_route, f"passes them to `R`. {inlined}", ["match code {", *common_arms, "}"]),
+        *out,
         *own_function(group, f"{EVERY_CALL}_by", by_route, "passes them to `R`. Every operator has an arm here.", ["match code {", *every_arm, "}"]),
         *alias(group, [*[part.type for part in those], *map(only, singles)], dict.fromkeys(with_lists.values())),
     ]

@@ -13,7 +13,7 @@ mod read;
 mod refusals;
 mod visit;
 
-pub use read::{read_after_opcode, read_operator};
+pub use read::{read_after_opcode, read_below_0x20, read_operator};
 pub use refusals::no_frame;
 pub use visit::{
     visit_after_opcode, visit_after_opcode_simd, visit_below_0x20, visit_operator,

@@ -32,13 +32,19 @@ pub fn visit_operator_simd<'a, V: VisitOperator<'a>>(
     };
     let start = reader.current_position();
     match reader.read_u8() {
-        Ok(code) => visit_after_opcode_simd(alloc, v, reader, start, frame, code),
+        Ok(code) => {
+            if code < 0x20 {
+                return visit_below_0x20(alloc, v, reader, start, frame, code);
+            }
+            visit_after_opcode_simd(alloc, v, reader, start, frame, code)
+        }
         Err(e) => Err(e),
     }
 }
 
 /// Reads the rest of the operator with this opcode, which was read at the position `start`, and
-/// visits it. On an error, goes back to `start`.
+/// visits it. On an error, goes back to `start`. For an opcode below 0x20, `visit_below_0x20` is
+/// faster.
 ///
 /// Fails like `visit_operator_simd`, but never for a missing frame or opcode.
 #[inline(always)]
@@ -76,7 +82,12 @@ pub fn visit_operator<'a, V: VisitOperator<'a>>(
     };
     let start = reader.current_position();
     match reader.read_u8() {
-        Ok(code) => visit_after_opcode(alloc, v, reader, start, frame, code),
+        Ok(code) => {
+            if code < 0x20 {
+                return visit_below_0x20(alloc, v, reader, start, frame, code);
+            }
+            visit_after_opcode(alloc, v, reader, start, frame, code)
+        }
         Err(e) => Err(e),
     }
 }
@@ -120,7 +131,7 @@ pub fn visit_below_0x20<'a, V: VisitOperator<'a>>(
 {
     match code {
         0x0e => table_after_opcode(v, reader, start),
-        _ => v.decode_one_byte(alloc, reader, start, frame, code),
+        _ => v.decode_below_0x20(alloc, reader, start, frame, code),
     }
 }
 

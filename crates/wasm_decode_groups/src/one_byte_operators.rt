@@ -1,5 +1,5 @@
 //! Decoding of operators with a one-byte opcode. Written by tools/lists.py from tools/operators.tsv.
-ghost use Rattle.std.specs.Prelude.{◌≡◌, [], ◌∷◌, None};
+ghost use Rattle.std.specs.Prelude.{◌≡◌, ◌<◌, [], ◌∷◌, None};
 ghost use Rattle.wasm_grammar.specs.declared.frame_kind.FrameKind.{FrameKind};
 ghost use Rattle.wasm_imm.specs.Immediate.{is_memory_argument};
 ghost use Rattle.wasm_decode_opcodes.specs.Decoding.{DecodesAt, IsAfterCode};
@@ -18,8 +18,8 @@ use wasm_imm::{BlockType, Ieee32, Ieee64, MemArgKind, ResumeTable, Select, TryTa
 use wasm_instr::Operator;
 use wasm_visit_groups::{ByAny, Own, VisitOneByte, Visitor};
 
-/// Reads the immediates of an operator with a one-byte opcode and visits it. Common operators are
-/// inlined.
+/// Reads the immediates of an operator with a one-byte opcode and visits it. Common operators from
+/// 0x20 on are inlined.
 #[inline(always)]
 pub fn one_byte<V: VisitOneByte>(
     alloc: Global,
@@ -37,7 +37,7 @@ pub fn one_byte<V: VisitOneByte>(
 }
 
 /// Reads the immediates of an operator with a one-byte opcode and passes them to `R`. Common
-/// operators are inlined.
+/// operators from 0x20 on are inlined.
 #[inline(always)]
 pub fn one_byte_by<V: Visitor, R: AtOneByte<V>>(
     alloc: Global,
@@ -52,7 +52,6 @@ pub fn one_byte_by<V: Visitor, R: AtOneByte<V>>(
     ensures { DecodesAt V.visits frame start result reader.old reader.new v.old v.new }
 {
     match code {
-        0x02..=0x04 => arm::<V, OneByte, BlockType, R>(v, reader, start, code as u32, 0),
         0x20..=0x26 => arm::<V, OneByte, u32, R>(v, reader, start, code as u32, 0),
         0x28..=0x3e => arm::<V, OneByte, PlainMemArg, R>(
             v,
@@ -63,8 +62,48 @@ pub fn one_byte_by<V: Visitor, R: AtOneByte<V>>(
         ),
         0x41 => arm::<V, OneByte, i32, R>(v, reader, start, 0x41, 0),
         0x42 => arm::<V, OneByte, i64, R>(v, reader, start, 0x42, 0),
+        _ => other_one_byte_by::<V, R>(alloc, v, reader, start, frame, code),
+    }
+}
+
+/// Reads the immediates of an operator with an opcode below 0x20 and visits it. Common operators
+/// are inlined.
+#[inline(always)]
+pub fn below_0x20<V: VisitOneByte>(
+    alloc: Global,
+    v: &mut V,
+    reader: &mut BinaryReader<'_>,
+    start: usize,
+    frame: FrameKind,
+    code: u8,
+) -> Result<V::Output>
+    requires after { IsAfterCode start None code reader.old }
+    requires apart { IsOneByteCode code }
+    requires low { code < 0x20 }
+    ensures { DecodesAt V.visits frame start result reader.old reader.new v.old v.new }
+{
+    below_0x20_by::<V, Own>(alloc, v, reader, start, frame, code)
+}
+
+/// Reads the immediates of an operator with an opcode below 0x20 and passes them to `R`. Common
+/// operators are inlined.
+#[inline(always)]
+pub fn below_0x20_by<V: Visitor, R: AtOneByte<V>>(
+    alloc: Global,
+    v: &mut V,
+    reader: &mut BinaryReader<'_>,
+    start: usize,
+    frame: FrameKind,
+    code: u8,
+) -> Result<V::Output>
+    requires after { IsAfterCode start None code reader.old }
+    requires apart { IsOneByteCode code }
+    requires low { code < 0x20 }
+    ensures { DecodesAt V.visits frame start result reader.old reader.new v.old v.new }
+{
+    match code {
+        0x02..=0x04 => arm::<V, OneByte, BlockType, R>(v, reader, start, code as u32, 0),
         0x00 => arm::<V, OneByte, Only<0x00, ()>, R>(v, reader, start, 0x00, 0),
-        0x01 => arm::<V, OneByte, Only<0x01, ()>, R>(v, reader, start, 0x01, 0),
         0x0b => arm::<V, OneByte, Only<0x0b, ()>, R>(v, reader, start, 0x0b, 0),
         0x0c => arm::<V, OneByte, Only<0x0c, u32>, R>(v, reader, start, 0x0c, 0),
         0x0d => arm::<V, OneByte, Only<0x0d, u32>, R>(v, reader, start, 0x0d, 0),
@@ -154,7 +193,6 @@ pub trait AtOneByte<V: Visitor>: At<V, OneByte, ()>
     + At<V, OneByte, HeapType>
     + At<V, OneByte, (u32, u32)>
     + At<V, OneByte, Only<0x00, ()>>
-    + At<V, OneByte, Only<0x01, ()>>
     + At<V, OneByte, Only<0x0b, ()>>
     + At<V, OneByte, Only<0x0c, u32>>
     + At<V, OneByte, Only<0x0d, u32>>
@@ -534,13 +572,6 @@ impl<V: VisitOneByte> At<V, OneByte, Only<0x00, ()>> for Own {
     #[inline(always)]
     fn at(v: &mut V, _code: u32, _it: Only<0x00, ()>) -> V::Output {
         v.visit_unreachable()
-    }
-}
-
-impl<V: VisitOneByte> At<V, OneByte, Only<0x01, ()>> for Own {
-    #[inline(always)]
-    fn at(v: &mut V, _code: u32, _it: Only<0x01, ()>) -> V::Output {
-        v.visit_nop()
     }
 }
 

@@ -9,24 +9,7 @@ use crate::reader_copy::ReaderCopy;
 use std::alloc::Global;
 use wasm_below::{BinaryReader, Result};
 use wasm_grammar::FrameKind;
-use wasm_visit_groups::{Own, VisitOneByte, Visitor};
-
-/// Reads the immediates of an operator with a one-byte opcode and visits it.
-#[inline(always)]
-pub fn other_one_byte<V: VisitOneByte>(
-    alloc: Global,
-    v: &mut V,
-    reader: &mut BinaryReader<'_>,
-    start: usize,
-    frame: FrameKind,
-    code: u8,
-) -> Result<V::Output>
-    requires after { IsAfterCode start None code reader.old }
-    requires apart { IsOneByteCode code }
-    ensures { DecodesAt V.visits frame start result reader.old reader.new v.old v.new }
-{
-    other_one_byte_by::<V, Own>(alloc, v, reader, start, frame, code)
-}
+use wasm_visit_groups::Visitor;
 
 /// Reads the immediates of an operator with a one-byte opcode and passes them to `R`.
 #[inline(always)]

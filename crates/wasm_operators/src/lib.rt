@@ -167,7 +167,7 @@ pub type CodeSectionReader<'a> = SectionLimited<'a, FunctionBody<'a>>;
 /// The decoders of the groups, for a visitor that overrides visits.
 pub mod decode {
     pub use wasm_decode_groups::{
-        atomic, gc, has_no_immediates, misc, numeric, one_byte, simd_high,
+        atomic, below_0x20, gc, has_no_immediates, misc, numeric, one_byte, simd_high,
         simd_high_without_immediates, simd_low, simd_low_without_immediates,
     };
 }

@@ -14,7 +14,7 @@ use crate::{ControlStack, OperatorsReaderAllocations};
 use std::alloc::Global;
 use std::marker::Model;
 use wasm_below::{BinaryReader, Error, Message, Result};
-use wasm_decode::read_after_opcode;
+use wasm_decode::{read_after_opcode, read_below_0x20};
 use wasm_grammar::FrameKind;
 use wasm_instr::{Operator, frame_change_at};
 use wasm_visit::VisitOperator;
@@ -45,7 +45,11 @@ impl<'a> OperatorsReader<'a> {
         ensures fresh { IsFresh result }
         ensures read_so_far { ReadSoFar [] result }
     {
-        OperatorsReader::new_with_allocs(alloc, reader, OperatorsReaderAllocations::new(alloc))
+        OperatorsReader {
+            alloc,
+            reader,
+            control: ControlStack::with_frame(alloc, FrameKind::Block),
+        }
     }
 
     /// Creates a reader as `new` does, with the memory of another reader.
@@ -122,11 +126,13 @@ impl<'a> OperatorsReader<'a> {
     {
         match begin(&mut self.reader, &mut self.control) {
             Ok(at) => {
-                match read_after_opcode(self.alloc, &mut self.reader, at.start, at.frame, at.code) {
+                let reader = &mut self.reader;
+                if at.code >= KEEPS_FRAMES_FROM {
+                    return read_after_opcode(self.alloc, reader, at.start, at.frame, at.code);
+                }
+                match read_below_0x20(self.alloc, reader, at.start, at.frame, at.code) {
                     Ok(operator) => {
-                        if at.code < KEEPS_FRAMES_FROM {
-                            self.control.apply_change(frame_change_at(at.code));
-                        }
+                        self.control.apply_change(frame_change_at(at.code));
                         Ok(operator)
                     }
                     Err(e) => Err(e),
@@ -169,7 +175,7 @@ impl<'a> OperatorsReader<'a> {
     pub fn finish(&self) -> Result<()>
         ensures { Finishes result self.now }
     {
-        if !self.control.is_empty() {
+        if self.control.last().is_some() {
             return Err(Error::new(Message::FramesRemain, self.original_position()));
         }
         if !self.eof() {

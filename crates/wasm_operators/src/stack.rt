@@ -43,6 +43,17 @@ impl ControlStack {
         }
     }
 
+    /// Creates a stack with one frame, which needs no capacity.
+    pub fn with_frame(alloc: Global, frame: FrameKind) -> ControlStack
+        ensures frames { result.frames ≡ frame ∷ [] }
+        ensures room { result.room ≡ 0 }
+    {
+        ControlStack {
+            around: Vec::new(alloc),
+            current: Some(frame),
+        }
+    }
+
     /// Creates a stack with one frame and the capacity of the allocations.
     pub fn with_allocations(
         allocations: OperatorsReaderAllocations,

@@ -70,6 +70,17 @@ impl CallOneByte for Teller {
     ) -> Result<Self::Output> {
         wasm_decode_groups::one_byte(alloc, self, reader, start, frame, code)
     }
+
+    fn decode_below_0x20(
+        &mut self,
+        alloc: Global,
+        reader: &mut BinaryReader<'_>,
+        start: usize,
+        frame: FrameKind,
+        code: u8,
+    ) -> Result<Self::Output> {
+        wasm_decode_groups::below_0x20(alloc, self, reader, start, frame, code)
+    }
 }
 
 impl CallNumeric for Teller {

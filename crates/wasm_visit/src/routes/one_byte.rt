@@ -1,5 +1,5 @@
 //! The routes of the operators with a one-byte opcode. Written by tools/lists.py from tools/operators.tsv.
-ghost use Rattle.std.specs.Prelude.{None};
+ghost use Rattle.std.specs.Prelude.{◌<◌, None};
 ghost use Rattle.wasm_grammar.specs.declared.frame_kind.FrameKind.{FrameKind};
 ghost use Rattle.wasm_visit_groups.specs.Groups.{IsOneByte};
 ghost use Rattle.wasm_decode_groups.specs.OneByte.{IsOneByteCode};
@@ -36,6 +36,20 @@ pub trait RouteOneByte<V: Visitor> {
         requires after { IsAfterCode start None code reader.old }
         requires apart { IsOneByteCode code }
         ensures { DecodesAt V.visits frame start result reader.old reader.new v.old v.new };
+
+    /// As `decode`, for an opcode below 0x20.
+    fn decode_below_0x20(
+        alloc: Global,
+        v: &mut V,
+        reader: &mut BinaryReader<'_>,
+        start: usize,
+        frame: FrameKind,
+        code: u8,
+    ) -> Result<V::Output>
+        requires after { IsAfterCode start None code reader.old }
+        requires apart { IsOneByteCode code }
+        requires low { code < 0x20 }
+        ensures { DecodesAt V.visits frame start result reader.old reader.new v.old v.new };
 }
 
 impl<V: Visitor> RouteOneByte<V> for ByAny {
@@ -53,6 +67,18 @@ impl<V: Visitor> RouteOneByte<V> for ByAny {
         code: u8,
     ) -> Result<V::Output> {
         decode::one_byte_by::<V, ByAny>(alloc, v, reader, start, frame, code)
+    }
+
+    #[inline(always)]
+    fn decode_below_0x20(
+        alloc: Global,
+        v: &mut V,
+        reader: &mut BinaryReader<'_>,
+        start: usize,
+        frame: FrameKind,
+        code: u8,
+    ) -> Result<V::Output> {
+        decode::below_0x20_by::<V, ByAny>(alloc, v, reader, start, frame, code)
     }
 }
 
@@ -72,13 +98,25 @@ impl<V: VisitOneByte> RouteOneByte<V> for Own {
     ) -> Result<V::Output> {
         decode::one_byte(alloc, v, reader, start, frame, code)
     }
+
+    #[inline(always)]
+    fn decode_below_0x20(
+        alloc: Global,
+        v: &mut V,
+        reader: &mut BinaryReader<'_>,
+        start: usize,
+        frame: FrameKind,
+        code: u8,
+    ) -> Result<V::Output> {
+        decode::below_0x20(alloc, v, reader, start, frame, code)
+    }
 }
 
 /// The calls of a visitor that names `OnceOneByte`.
 ///
-/// Their bodies are `dispatch::one_byte(self, op)` and `decode::one_byte(alloc, self, reader,
-/// start, frame, code)`. What they call is proved once for the visitor, and not for each function
-/// that passes the visitor on.
+/// Their bodies are `dispatch::one_byte(self, op)`, `decode::one_byte(alloc, self, reader, start,
+/// frame, code)` and `decode::below_0x20(alloc, self, reader, start, frame, code)`. What they call
+/// is proved once for the visitor, and not for each function that passes the visitor on.
 pub trait CallOneByte: Visitor {
     /// Visits an operator.
     fn dispatch_one_byte(&mut self, op: Operator<'_>) -> Self::Output
@@ -100,6 +138,20 @@ pub trait CallOneByte: Visitor {
         requires after { IsAfterCode start None code reader.old }
         requires apart { IsOneByteCode code }
         ensures { DecodesAt Self.visits frame start result reader.old reader.new self.old self.new };
+
+    /// As `decode_one_byte`, for an opcode below 0x20.
+    fn decode_below_0x20(
+        &mut self,
+        alloc: Global,
+        reader: &mut BinaryReader<'_>,
+        start: usize,
+        frame: FrameKind,
+        code: u8,
+    ) -> Result<Self::Output>
+        requires after { IsAfterCode start None code reader.old }
+        requires apart { IsOneByteCode code }
+        requires low { code < 0x20 }
+        ensures { DecodesAt Self.visits frame start result reader.old reader.new self.old self.new };
 }
 
 impl<V: CallOneByte> RouteOneByte<V> for Once {
@@ -117,6 +169,18 @@ impl<V: CallOneByte> RouteOneByte<V> for Once {
         code: u8,
     ) -> Result<V::Output> {
         <V as CallOneByte>::decode_one_byte(v, alloc, reader, start, frame, code)
+    }
+
+    #[inline(always)]
+    fn decode_below_0x20(
+        alloc: Global,
+        v: &mut V,
+        reader: &mut BinaryReader<'_>,
+        start: usize,
+        frame: FrameKind,
+        code: u8,
+    ) -> Result<V::Output> {
+        <V as CallOneByte>::decode_below_0x20(v, alloc, reader, start, frame, code)
     }
 }
 
@@ -136,6 +200,18 @@ impl<V: GroupOneByte, R> RouteOneByte<&mut V> for Through<R> {
     ) -> Result<V::Output> {
         (**v).decode_one_byte(alloc, reader, start, frame, code)
     }
+
+    #[inline(always)]
+    fn decode_below_0x20(
+        alloc: Global,
+        v: &mut &mut V,
+        reader: &mut BinaryReader<'_>,
+        start: usize,
+        frame: FrameKind,
+        code: u8,
+    ) -> Result<V::Output> {
+        (**v).decode_below_0x20(alloc, reader, start, frame, code)
+    }
 }
 
 impl<V: GroupOneByte, R> RouteOneByte<Box<V>> for Through<R> {
@@ -153,6 +229,18 @@ impl<V: GroupOneByte, R> RouteOneByte<Box<V>> for Through<R> {
         code: u8,
     ) -> Result<V::Output> {
         (**v).decode_one_byte(alloc, reader, start, frame, code)
+    }
+
+    #[inline(always)]
+    fn decode_below_0x20(
+        alloc: Global,
+        v: &mut Box<V>,
+        reader: &mut BinaryReader<'_>,
+        start: usize,
+        frame: FrameKind,
+        code: u8,
+    ) -> Result<V::Output> {
+        (**v).decode_below_0x20(alloc, reader, start, frame, code)
     }
 }
 
@@ -179,6 +267,20 @@ pub trait GroupOneByte: Visitor {
         requires after { IsAfterCode start None code reader.old }
         requires apart { IsOneByteCode code }
         ensures { DecodesAt Self.visits frame start result reader.old reader.new self.old self.new };
+
+    /// As `decode_one_byte`, for an opcode below 0x20.
+    fn decode_below_0x20(
+        &mut self,
+        alloc: Global,
+        reader: &mut BinaryReader<'_>,
+        start: usize,
+        frame: FrameKind,
+        code: u8,
+    ) -> Result<Self::Output>
+        requires after { IsAfterCode start None code reader.old }
+        requires apart { IsOneByteCode code }
+        requires low { code < 0x20 }
+        ensures { DecodesAt Self.visits frame start result reader.old reader.new self.old self.new };
 }
 
 impl<V: Visitor> GroupOneByte for V
@@ -199,5 +301,17 @@ where
         code: u8,
     ) -> Result<V::Output> {
         <V::Visits as Routes>::OneByte::decode(alloc, self, reader, start, frame, code)
+    }
+
+    #[inline(always)]
+    fn decode_below_0x20(
+        &mut self,
+        alloc: Global,
+        reader: &mut BinaryReader<'_>,
+        start: usize,
+        frame: FrameKind,
+        code: u8,
+    ) -> Result<V::Output> {
+        <V::Visits as Routes>::OneByte::decode_below_0x20(alloc, self, reader, start, frame, code)
     }
 }

@@ -7,8 +7,8 @@ use Rattle.wasm_decode_opcodes.proofs.OperatorLemmas.{visited_without_immediates
 use Rattle.wasm_decode.proofs.DecodingLemmas.{as_read, prefix_bytes}
 use Rattle.wasm_decode.proofs.read.read_after_opcode.Goals as goal
 
-pub one_byte_by-requires-clause-apart : goal.one_byte_by-requires-clause-apart
-one_byte_by-requires-clause-apart c =
+pub read_one_byte-requires-clause-apart : goal.read_one_byte-requires-clause-apart
+read_one_byte-requires-clause-apart c =
     record {
       apart = λ e. (let h = prefix_bytes c.args.code e in grind (arith, h));
       table = λ same. grind (arith, same);

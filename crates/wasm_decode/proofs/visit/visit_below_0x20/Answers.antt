@@ -7,8 +7,8 @@ returns-in-14-clause-scalar g c =
     to_scalar g.V.Visitor.visits c.args.frame c.args.start c.args.code c.args.reader.now c.table_after_opcode.new.reader c.args.v.now c.table_after_opcode.new.v c.table_after_opcode.result
     (λ h. grind (arith, h, c.requires.low)) c.requires.after (c.table_after_opcode.ensures c.args.frame)
 
-pub decode_one_byte-requires-clause-apart : goal.decode_one_byte-requires-clause-apart
-decode_one_byte-requires-clause-apart g c =
+pub decode_below_0x20-requires-clause-apart : goal.decode_below_0x20-requires-clause-apart
+decode_below_0x20-requires-clause-apart g c =
     record {
       apart = λ e. (let h = prefix_bytes c.args.code e in grind (arith, h, c.requires.low));
       table = λ e. grind (arith, e, c.in_default);
@@ -17,5 +17,5 @@ decode_one_byte-requires-clause-apart g c =
 
 pub returns-in_default-clause-scalar : goal.returns-in_default-clause-scalar
 returns-in_default-clause-scalar g c =
-    to_scalar g.V.Visitor.visits c.args.frame c.args.start c.args.code c.args.reader.now c.decode_one_byte.new.reader c.args.v.now c.decode_one_byte.new.self c.decode_one_byte.result
-    (λ h. grind (arith, h, c.requires.low)) c.requires.after c.decode_one_byte.ensures
+    to_scalar g.V.Visitor.visits c.args.frame c.args.start c.args.code c.args.reader.now c.decode_below_0x20.new.reader c.args.v.now c.decode_below_0x20.new.self c.decode_below_0x20.result
+    (λ h. grind (arith, h, c.requires.low)) c.requires.after c.decode_below_0x20.ensures

@@ -4,11 +4,8 @@ use Rattle.wasm_imm.specs.declared.memory_argument.MemArgKind.TheVariants as kin
 use Rattle.wasm_imm.specs.Immediate.{is_memory_argument}
 use Rattle.wasm_decode_opcodes.specs.Entry.{entry_kinds}
 use Rattle.wasm_decode_groups.specs.Arms.{HasArm}
-use Rattle.wasm_decode_groups.proofs.Codes.{one_byte_block_type_02, one_byte_unsigned_20, one_byte_memory_28}
+use Rattle.wasm_decode_groups.proofs.Codes.{one_byte_unsigned_20, one_byte_memory_28}
 use Rattle.wasm_decode_groups.proofs.one_byte_operators.one_byte_by.Goals as goal
-
-pub arm-requires-in-2-to-4-clause-kinds : goal.arm-requires-in-2-to-4-clause-kinds
-arm-requires-in-2-to-4-clause-kinds g c = one_byte_block_type_02 c.args.code (omega (arith, c.in-2-to-4)) (omega (arith, c.in-2-to-4))
 
 pub arm-requires-in-32-to-38-clause-kinds : goal.arm-requires-in-32-to-38-clause-kinds
 arm-requires-in-32-to-38-clause-kinds g c = one_byte_unsigned_20 c.args.code (omega (arith, c.in-32-to-38)) (omega (arith, c.in-32-to-38))
