@@ -81,19 +81,8 @@ enum Next {
     Version,
 }
 
-/// Reads the value of `--function`: an index, in decimal or after `0x` in hexadecimal, or a name.
-fn choice_of(word: String) -> Choice {
-    let index = match word.as_str().strip_prefix("0x") {
-        Some(digits) => u32::from_str_radix(digits, 16),
-        None => word.as_str().parse::<u32>(),
-    };
-    match index {
-        Ok(index) => Choice::Index(index),
-        Err(_) => Choice::Name(word),
-    }
-}
-
-/// Reads `word` as the value of the option `next`.
+/// Reads `word` as the value of the option `next`. That of `--function` is an index, in decimal or
+/// after `0x` in hexadecimal, or a name.
 fn read_value(mut options: Options, next: Next, word: String) -> Result<Options, Mistake> {
     match next {
         Next::Features => match features_of(Some(word.as_str())) {
@@ -104,7 +93,14 @@ fn read_value(mut options: Options, next: Next, word: String) -> Result<Options,
             None => Err(Mistake::NoFeatures(word)),
         },
         _ => {
-            options.function = choice_of(word);
+            let index = match word.as_str().strip_prefix("0x") {
+                Some(digits) => u32::from_str_radix(digits, 16),
+                None => word.as_str().parse::<u32>(),
+            };
+            options.function = match index {
+                Ok(index) => Choice::Index(index),
+                Err(_) => Choice::Name(word),
+            };
             Ok(options)
         }
     }

@@ -84,14 +84,6 @@ fn shown_path(path: &str) -> &str {
     if path == "-" { "<stdin>" } else { path }
 }
 
-/// Returns the last part of a path, after its last slash.
-fn last_part(path: &str) -> &str {
-    match path.rsplit_once('/') {
-        Some((_, name)) => name,
-        None => path,
-    }
-}
-
 /// Returns the index of the requested function, if one is requested.
 ///
 /// Fails with the exit status, after a message, if no function has the requested name.
@@ -157,8 +149,12 @@ fn dump_module(
     bytes: &[u8],
     writer: &mut Output<'_>,
 ) -> u8 {
-    let mut printed = Printed::new(rt, shown_path(path));
-    let title = Some(last_part(shown_path(path)));
+    let shown = shown_path(path);
+    let mut printed = Printed::new(rt, shown);
+    let title = match shown.rsplit_once('/') {
+        Some((_, name)) => Some(name),
+        None => Some(shown),
+    };
     if options.census || !options.headers {
         return dump_functions(rt, options, title, bytes, writer, &mut printed);
     }
@@ -180,23 +176,20 @@ fn dump_module(
     }
 }
 
-/// Writes what is requested of a file, and returns the exit status.
-fn dump_file(rt: &HostRuntime, options: &Options, path: &str, writer: &mut Output<'_>) -> u8 {
-    match read_module(rt, path) {
-        Ok(bytes) => dump_module(rt, options, path, bytes.as_slice(), writer),
-        Err(error) => {
-            let _ = writer.flush();
-            Printed::new(rt, shown_path(path)).unread(rt.alloc(), error)
-        }
-    }
-}
-
 /// Writes what the options request of all files, until standard output fails. Returns the largest
 /// exit status.
 fn dump_files(rt: &HostRuntime, options: &Options, writer: &mut Output<'_>) -> u8 {
     let mut worst: u8 = 0;
     for path in &options.files {
-        worst = worst.max(dump_file(rt, options, path.as_str(), writer));
+        let path = path.as_str();
+        let status = match read_module(rt, path) {
+            Ok(bytes) => dump_module(rt, options, path, bytes.as_slice(), writer),
+            Err(error) => {
+                let _ = writer.flush();
+                Printed::new(rt, shown_path(path)).unread(rt.alloc(), error)
+            }
+        };
+        worst = worst.max(status);
         if writer.failure().is_some() {
             return worst;
         }
