@@ -11,6 +11,7 @@ CRATE = "crates/wasm_visit"
 
 
 def listed_in_words(items):
+    """Returns the items with commas, and with `and` before the last."""
     return f"{', '.join(items[:-1])} and {items[-1]}"
 
 
@@ -93,7 +94,7 @@ def of_bytes(group):
 
 
 class Decoder:
-    """A call that decodes an operator of a group: `name` is that of a route, `own` that of a visitor."""
+    """A call that decodes an operator of a group: `name` in a route, `own` in a visitor."""
 
     def __init__(self, group, module, suffix=""):
         self.name = f"decode{suffix}"

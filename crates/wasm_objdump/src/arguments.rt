@@ -81,8 +81,8 @@ enum Next {
     Version,
 }
 
-/// Reads `word` as the value of the option `next`. That of `--function` is an index, in decimal or
-/// after `0x` in hexadecimal, or a name.
+/// Reads `word` as the value of the option `next`. `--function` takes an index, in decimal or after
+/// `0x` in hexadecimal, or a name.
 fn read_value(mut options: Options, next: Next, word: String) -> Result<Options, Mistake> {
     match next {
         Next::Features => match features_of(Some(word.as_str())) {
