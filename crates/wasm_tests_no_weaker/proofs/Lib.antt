@@ -1,2 +1,0 @@
-pub mod Iterators
-pub mod Memory
