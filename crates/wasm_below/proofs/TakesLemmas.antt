@@ -68,7 +68,7 @@ read_to_copy P F (Ok x) old begun after new start e (text, p, t) went =
 read_to_copy P F (Err e) old begun after new start is h went =
     (went ∙ ap (λ (r : Reader). at_position old r.position) (h.0 ∙ is) ∙ sym is, h.1, h.2)
 
-pub read_by_copy : {X : Type 0} (P : List ℕ → X → Type 0) (F : Message → Reader → ℕ → Type 0) (result : Result X Error) (old lent after new : Reader) →
-    lent ≡ old → Reads P F result lent after → new ≡ at_position old after.position → Reads P F result old new
-read_by_copy P F result old lent after new same h went =
+pub read_by_copy : {X : Type 0} (P : List ℕ → X → Type 0) (F : Message → Reader → ℕ → Type 0) (result : Result X Error) (old copy after new : Reader) →
+    copy ≡ old → Reads P F result copy after → new ≡ at_position old after.position → Reads P F result old new
+read_by_copy P F result old copy after new same h went =
     read_to_copy P F result old old after new old.position refl (subst (λ r. Reads P F result r after) same h) went

@@ -66,7 +66,7 @@ pub record IsRefusedKinds (ks : List Kind) (Memory : Reader → Type 0) (start :
   pub fault : HasFault (KindsFault old.features (old.start + start) ks) e old
   pub memory : e.message ≡ message.OutOfMemory → Memory old × (e.offset ≡ old.start + start)
 
--- Unless allocation fails, `Ok` if and only if a prefix of the rest encodes immediates of these kinds, which are taken. The error is that of the first in error.
+-- Unless allocation fails, `Ok` if and only if a prefix of the rest encodes immediates of these kinds, which are taken. Otherwise the error is that of the first immediate in error.
 -- Then `Left` holds of the reader.
 abbrev pub ReadsKinds : {X : Type 0} → List Kind → (X → List Immediate) → (Reader → Type 0) → (ℕ → Reader → Reader → Type 0) → ℕ → Result X Error → Reader → Reader → Type 0
 ReadsKinds ks listed Memory Left start (Ok x) old new = HasRead (EncodesKinds old.features ks) (listed x) old new

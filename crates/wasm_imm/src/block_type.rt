@@ -63,9 +63,9 @@ fn short_value_type(byte: u8) -> ValType
 fn read_by_copy(reader: &mut BinaryReader<'_>) -> Result<BlockType>
     ensures { Reads EncodesBlockType BlockTypeFault result reader.old reader.new }
 {
-    let mut lent = reader.clone();
-    let outcome = read_other(&mut lent);
-    reader.set_position(lent.current_position());
+    let mut copy = reader.clone();
+    let outcome = read_other(&mut copy);
+    reader.set_position(copy.current_position());
     outcome
 }
 

@@ -135,10 +135,10 @@ fn read_announced(
     ensures { Reads (EncodesMemArg reader.old.features kind max_align)
         (MemArgFault reader.old.features kind) result (at_position reader.old start) reader.new }
 {
-    let mut lent = reader.clone();
-    match read_announced_out_of_line(&mut lent, start, flags, max_align, kind) {
+    let mut copy = reader.clone();
+    match read_announced_out_of_line(&mut copy, start, flags, max_align, kind) {
         Ok(argument) => {
-            reader.set_position(lent.current_position());
+            reader.set_position(copy.current_position());
             Ok(argument)
         }
         Err(e) => {
@@ -148,8 +148,8 @@ fn read_announced(
     }
 }
 
-/// Reads a memory argument after its flags number, without going back on an error. For a memory index alone, `read_rest` is inlined
-/// here, so that the compiler drops the other checks.
+/// Reads a memory argument after its flags number, without going back on an error. For a memory
+/// index alone, `read_rest` is inlined here, so that the compiler drops the other checks.
 fn read_announced_out_of_line(
     reader: &mut BinaryReader<'_>,
     start: usize,

@@ -1,5 +1,5 @@
 -- Errors: from one operator to the constant expression.
-use Rattle.std.proofs.Common.{◌≡◌, ℕ, List, [], ◌++◌, None, true, inl, inr, refl, sym, subst, ap, ◌∙◌, arith}
+use Rattle.std.proofs.Common.{◌≡◌, ℕ, List, [], ◌++◌, None, inl, inr, refl, sym, subst, ap, ◌∙◌, arith}
 use Rattle.std.proofs.lemmas.List.{append-nil}
 use Rattle.wasm_below.specs.declared.error.Error.{Error}
 use Rattle.wasm_below.specs.declared.message.Message.TheVariants as message

@@ -7,5 +7,5 @@ use Rattle.wasm_imm.proofs.block_type.read_by_copy.Goals as goal
 
 pub returns : goal.returns
 returns c =
-    read_by_copy EncodesBlockType BlockTypeFault c.read_other-outcome.result c.args.reader.now c.clone-lent.result c.read_other-outcome.new.reader c.set_position.new.self
-    c.clone-lent.ensures c.read_other-outcome.ensures (c.set_position.ensures ∙ ap (at_position c.args.reader.now) c.current_position.ensures)
+    read_by_copy EncodesBlockType BlockTypeFault c.read_other-outcome.result c.args.reader.now c.clone-copy.result c.read_other-outcome.new.reader c.set_position.new.self
+    c.clone-copy.ensures c.read_other-outcome.ensures (c.set_position.ensures ∙ ap (at_position c.args.reader.now) c.current_position.ensures)
