@@ -35,7 +35,7 @@ abbrev pub ReturnsThere : Result Operator WasmRefusal → Reader → Type 0
 ReturnsThere (Ok op) input = OccursThere input op
 ReturnsThere (Err r) input = RefusesThere r input
 
--- The result of a call at an offset: misuse, or what `There` says of the bytes from there on. The offset may be that of the end.
+-- The result of a call at an offset: misuse, or what `There` says of the bytes from the offset on. The offset may be the end.
 pub record AtOffset (IsMisuse : ℕ → ℕ → Type 0) (There : Reader → Type 0) (bytes : List ℕ) (offset features at : ℕ) : Type 0 where
   pub unknown : 64 ≤ features → IsMisuse 100 offset
   pub past : features < 64 → 2 ^ 64 ≤ offset + length bytes → IsMisuse 101 offset

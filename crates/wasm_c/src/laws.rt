@@ -40,8 +40,8 @@ pub fn whole_expression()
     run_laws::read_to_the_end();
 }
 
-/// States that if `wasm_open_body` and `wasm_finish` return 0, the operators read between them are
-/// those of the body that the bytes encode.
+/// States that if `wasm_open_body` and `wasm_finish` return 0, the bytes encode a body with the
+/// operators that were read between the two calls.
 pub fn whole_body()
     ensures { (opening end : WasmRefusal) (bytes : List ℕ) (offset features : ℕ) (before opened last : WasmReader)
         (frames_before frames_opened frames_last : List ℕ) (placed : Placed)

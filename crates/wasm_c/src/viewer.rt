@@ -50,7 +50,7 @@ impl Visitor for Viewer {
 
     type Visits = ByAny;
 
-    // The C struct is that of the operator at this offset.
+    // The C struct describes the operator at this offset.
     ghost visits = { λ before op outcome after. (after.view ≡ view_of (op, before.offset))
         × (after.change ≡ change_of (role_of op)) };
 

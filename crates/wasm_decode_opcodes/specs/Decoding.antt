@@ -66,11 +66,11 @@ pub record IsRefusedKinds (ks : List Kind) (Memory : Reader → Type 0) (start :
   pub fault : HasFault (KindsFault old.features (old.start + start) ks) e old
   pub memory : e.message ≡ message.OutOfMemory → Memory old × (e.offset ≡ old.start + start)
 
--- Unless allocation fails, `Ok` if and only if a prefix of the rest encodes immediates of these kinds, which are taken. Otherwise the error is that of the first immediate in error.
--- Then `Left` holds of the reader.
+-- Unless allocation fails, `Ok` if and only if a prefix of the rest encodes immediates of these kinds, which are consumed.
+-- On `Err`, the first immediate in error determines the error, and `Moves` says where the reader is.
 abbrev pub ReadsKinds : {X : Type 0} → List Kind → (X → List Immediate) → (Reader → Type 0) → (ℕ → Reader → Reader → Type 0) → ℕ → Result X Error → Reader → Reader → Type 0
-ReadsKinds ks listed Memory Left start (Ok x) old new = HasRead (EncodesKinds old.features ks) (listed x) old new
-ReadsKinds ks listed Memory Left start (Err e) old new = Left start old new × IsRefusedKinds ks Memory start e old
+ReadsKinds ks listed Memory Moves start (Ok x) old new = HasRead (EncodesKinds old.features ks) (listed x) old new
+ReadsKinds ks listed Memory Moves start (Err e) old new = Moves start old new × IsRefusedKinds ks Memory start e old
 
 -- The reader goes back to `start`.
 abbrev pub GoesBack : ℕ → Reader → Reader → Type 0

@@ -1,4 +1,4 @@
-//! The operators whose feature and frame are checked: `else`, and those of the legacy exceptions.
+//! The operators whose feature and frame are checked: `else`, and the legacy exception operators.
 ghost use Rattle.std.specs.Prelude.{◌≡◌, ◌≤◌, ◌<◌, ◌+◌, ℕ, List, IsTrue, ◌↔◌, false, None, Err, IfOk, IfErr};
 ghost use Rattle.wasm_below.specs.Features.{HasFeature, legacy_exceptions};
 ghost use Rattle.wasm_below.specs.Source.{at_position};

@@ -1,4 +1,4 @@
--- The form is that of `wasm-objdump -h` of wabt. Specification: Binary Format, Modules: Sections.
+-- In the form of wabt's `wasm-objdump -h`. Specification: Binary Format, Modules: Sections.
 use Rattle.std.specs.Prelude.{◌≡◌, ◌==◌, ◌⊎◌, ℕ, ◌+◌, ◌/◌, ◌%◌, ◌^◌, ltb, nat_lt, false, List, [], ◌∷◌, ◌++◌, length, Option, Result, Ok, Err, codes, decimal, if◌then◌else◌}
 use Rattle.std.specs.Fmt.{radix_digits}
 use Rattle.std.specs.Io.KnownBytes.{Appends}

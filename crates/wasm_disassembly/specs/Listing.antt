@@ -1,4 +1,4 @@
--- The form is that of `wasm-objdump -d` of wabt. Specification: Binary Format, Modules: Code
+-- In the form of wabt's `wasm-objdump -d`. Specification: Binary Format, Modules: Code
 -- Section.
 use Rattle.std.specs.Prelude.{◌≡◌, ◌==◌, ◌⊎◌, ℕ, ◌+◌, Bool, true, false, List, [], ◌∷◌, ◌++◌, length, ◌≤◌, Option, Some, None, Result, Ok, Err, codes}
 use Rattle.std.specs.Io.KnownBytes.{Appends, Keeps}

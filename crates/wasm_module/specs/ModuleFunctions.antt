@@ -37,7 +37,7 @@ ListsTypes None types = types ≡ []
 ListsTypes (Some contents) types = IsList (EncodesUnsigned 32) contents types
 
 -- The names of all functions, by index: the imported ones, then `count` defined ones. Names of
--- exports replace those of imports; names of the custom section `name` replace both.
+-- exports replace names of imports; names of the custom section `name` replace both.
 pub record NamesFunctions (whole : Reader) (count : ℕ) (names : List (List ℕ)) : Type 0 where
   pub imports : Option Reader
   pub section_of_imports : IsSection whole 2 imports

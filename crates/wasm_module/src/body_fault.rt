@@ -8,7 +8,7 @@ pub enum BodiesFault {
     Functions(ModuleFault),
     /// The number of bodies is in error.
     Code(Error),
-    /// The number of bodies is not that of functions.
+    /// The numbers of bodies and functions differ.
     Counts,
     /// The module defines no function with the requested index.
     NoFunction,

@@ -16,7 +16,7 @@ ghost use Rattle.wasm_operators.specs.Visiting.{scalar_beginning, IsScalar};
 
 use wasm_below::WasmFeatures;
 
-/// States that of two lists that the same bytes start with, the shorter is a prefix of the longer.
+/// States that if bytes start with two lists, the shorter list is a prefix of the longer.
 pub fn one_layout(features: WasmFeatures)
     ensures beginning { BeginsLonger features }
     ensures same { (offset : ℕ) (first second : Placed) (a b x y : List ℕ)

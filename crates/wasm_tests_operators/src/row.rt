@@ -24,7 +24,7 @@ struct Outcomes {
     agree: Agree,
 }
 
-/// For each call, whether its result is that of `read_all`.
+/// For each call, whether it returns what `read_all` returns.
 #[derive(Clone, Copy, Debug, PartialEq, Eq)]
 struct Agree {
     reads: bool,

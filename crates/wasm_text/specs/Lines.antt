@@ -1,4 +1,4 @@
--- The form is that of `wasm-objdump -d` of wabt. Specification: Binary Format, Control
+-- In the form of wabt's `wasm-objdump -d`. Specification: Binary Format, Control
 -- Instructions. Proposal legacy exception handling.
 use Rattle.std.specs.Prelude.{◌==◌, ℕ, ◌+◌, ◌-◌, List, [], ◌∷◌, ◌++◌, take, drop, slice_index, codes, decimal, if◌then◌else◌}
 use Rattle.wasm_grammar.specs.declared.frame_change.FrameChange.{FrameChange}

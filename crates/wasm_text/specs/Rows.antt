@@ -1,4 +1,4 @@
--- The form is that of `wasm-objdump -d` of wabt.
+-- In the form of wabt's `wasm-objdump -d`.
 use Rattle.std.specs.Prelude.{ℕ, zero, suc, ◌+◌, ◌-◌, ◌*◌, ◌/◌, ◌%◌, ◌^◌, ltb, false, List, [], ◌∷◌, ◌++◌, length, take, drop, codes, flat_map, if◌then◌else◌}
 use Rattle.std.specs.Fmt.{radix_digits}
 use Rattle.std.specs.List.{repeat}
