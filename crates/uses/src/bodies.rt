@@ -65,8 +65,6 @@ pub fn locals_size(body: &FunctionBody<'_>) -> Result<usize>
     body_laws::declarations();
     body_laws::refusals();
     let start = body.get_binary_reader().current_position();
-    match body.get_binary_reader_for_operators() {
-        Ok(after) => Ok(after.current_position() - start),
-        Err(error) => Err(error),
-    }
+    let after = body.get_binary_reader_for_operators()?;
+    Ok(after.current_position() - start)
 }

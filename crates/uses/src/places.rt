@@ -81,8 +81,6 @@ pub fn read_ranged<'a>(operators: &mut OperatorsReader<'a>) -> Result<(Operator<
     ensures end { IfOk result (λ found. EndsAt operators.old.reader.features (found.0, found.1.start) found.1.end) }
 {
     let start = operators.original_position();
-    match operators.read() {
-        Ok(operator) => Ok((operator, start..operators.original_position())),
-        Err(error) => Err(error),
-    }
+    let operator = operators.read()?;
+    Ok((operator, start..operators.original_position()))
 }

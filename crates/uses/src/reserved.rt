@@ -34,10 +34,8 @@ fn reserve<'a>(
         return Err(Error::new(Message::OutOfMemory, reader.original_position()));
     }
     let mut allocs = OperatorsReaderAllocations::new(alloc);
-    match allocs.reserve(bytes / 2 + 1) {
-        Ok(()) => Ok(OperatorsReader::new_with_allocs(alloc, reader, allocs)),
-        Err(e) => Err(e),
-    }
+    allocs.reserve(bytes / 2 + 1)?;
+    Ok(OperatorsReader::new_with_allocs(alloc, reader, allocs))
 }
 
 /// Reads the rest of an expression with reserved capacity: allocation can fail only for an
@@ -73,11 +71,7 @@ pub fn operators_reserved<'a>(
 {
     let mut found = Vec::new(alloc);
     let reader = BinaryReader::new_features(bytes, 0, features);
-    match reserve(alloc, reader, &mut found) {
-        Ok(mut operators) => match read_reserved(&mut operators, &mut found) {
-            Ok(()) => Ok(found),
-            Err(e) => Err(e),
-        },
-        Err(e) => Err(e),
-    }
+    let mut operators = reserve(alloc, reader, &mut found)?;
+    read_reserved(&mut operators, &mut found)?;
+    Ok(found)
 }

@@ -132,13 +132,9 @@ pub fn read_in_step<'a>(
     ensures agree { IfOk result (λ both. SameReaderAndFrames first.new second.new) }
 {
     reading_laws::same_result();
-    match first.read() {
-        Ok(operator) => match second.read() {
-            Ok(other) => Ok((operator, other)),
-            Err(error) => Err(error),
-        },
-        Err(error) => Err(error),
-    }
+    let operator = first.read()?;
+    let other = second.read()?;
+    Ok((operator, other))
 }
 
 /// Reads the first operator of an expression, with capacity for its frame. So allocation can fail
@@ -201,14 +197,8 @@ pub fn first_and_rest<'a>(
     run_laws::single_reads();
     run_laws::read_to_the_end();
     let mut reader = OperatorsReader::new(alloc, BinaryReader::new_features(bytes, 0, features));
-    match reader.read() {
-        Ok(first) => {
-            let mut others = Vec::new(alloc);
-            match reader.read_all(&mut others) {
-                Ok(()) => Ok((first, others)),
-                Err(error) => Err(error),
-            }
-        }
-        Err(error) => Err(error),
-    }
+    let first = reader.read()?;
+    let mut others = Vec::new(alloc);
+    reader.read_all(&mut others)?;
+    Ok((first, others))
 }

@@ -22,12 +22,8 @@ pub fn skip_operators(operators: &mut OperatorsReader<'_>, count: u32) -> Result
     run_laws::single_reads();
     run_laws::one_depth();
     run_laws::memory_adds_up();
-    for operator in 0..count {
-        let _ = operator;
-        match operators.read() {
-            Ok(_) => {}
-            Err(error) => return Err(error),
-        }
+    for _operator in 0..count {
+        operators.read()?;
     }
     Ok(())
 }

@@ -83,10 +83,7 @@ pub fn tally_list(alloc: Global, tally: &mut Tally, list: &[(Operator<'_>, u64)]
         → tally.new.operators ≡ tally.old.operators + length list.now) }
 {
     for (op, _offset) in list {
-        match visit_operator_with_simd(alloc, tally, op) {
-            Ok(()) => {}
-            Err(error) => return Err(error),
-        }
+        visit_operator_with_simd(alloc, tally, op)?;
     }
     Ok(())
 }

@@ -1,5 +1,5 @@
 -- In the form of wabt's `wasm-objdump -h`. Specification: Binary Format, Modules: Sections.
-use Rattle.std.specs.Prelude.{◌≡◌, ◌==◌, ◌⊎◌, ℕ, ◌+◌, ◌/◌, ◌%◌, ◌^◌, ltb, nat_lt, false, List, [], ◌∷◌, ◌++◌, length, Option, Result, Ok, Err, codes, decimal, if◌then◌else◌}
+use Rattle.std.specs.Prelude.{◌≡◌, ◌==◌, ◌⊎◌, ℕ, ◌/◌, ◌%◌, ◌^◌, ltb, nat_lt, false, List, [], ◌∷◌, ◌++◌, length, Option, Result, Ok, Err, codes, decimal, if◌then◌else◌}
 use Rattle.std.specs.Fmt.{radix_digits}
 use Rattle.std.specs.Io.KnownBytes.{Appends}
 use Rattle.wasm_operators.specs.below.declared.error.Error.{Error}

@@ -121,7 +121,7 @@ pub fn count_code<C: Complaints>(
             Ok(body) => body,
             Err(e) => return Err(Fault::Code(e)),
         };
-        let one = match count_asked(
+        whole &= count_asked(
             alloc,
             features,
             functions,
@@ -130,11 +130,7 @@ pub fn count_code<C: Complaints>(
             &body,
             &mut counts,
             complaints,
-        ) {
-            Ok(one) => one,
-            Err(fault) => return Err(fault),
-        };
-        whole &= one;
+        )?;
         place = place.saturating_add(1);
     }
     Ok(ModuleCounts { counts, whole })

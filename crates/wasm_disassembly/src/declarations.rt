@@ -100,10 +100,7 @@ pub fn write_declarations<W: Write>(
         };
         let number = declaration.0;
         let shown = bytes_between(bytes, start, offset, locals.original_position());
-        match write_declaration(alloc, writer, line, offset, shown, first, declaration) {
-            Ok(()) => {}
-            Err(fault) => return Err(fault),
-        }
+        write_declaration(alloc, writer, line, offset, shown, first, declaration)?;
         first += u64::from(number);
     }
     Ok(())

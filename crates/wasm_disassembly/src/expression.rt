@@ -55,10 +55,8 @@ fn write_operator<W: Write>(
     let Ok(after) = write_line(line, depth, offset, bytes, &op, callee_of(names, &op)) else {
         return Err(DisassemblyFault::Memory);
     };
-    match write_text(writer, line.as_str()) {
-        Ok(()) => Ok(after),
-        Err(fault) => Err(fault),
-    }
+    write_text(writer, line.as_str())?;
+    Ok(after)
 }
 
 /// Writes the lines of each operator before it reads the next. `bytes` is the body, which starts at
@@ -88,10 +86,7 @@ pub fn write_operators<W: Write>(
             Err(e) => return Err(fault_of(e)),
         };
         let shown = bytes_between(bytes, start, offset, operators.original_position());
-        depth = match write_operator(writer, line, depth, offset, shown, names, op) {
-            Ok(after) => after,
-            Err(fault) => return Err(fault),
-        };
+        depth = write_operator(writer, line, depth, offset, shown, names, op)?;
     }
     match operators.finish() {
         Ok(()) => Ok(()),

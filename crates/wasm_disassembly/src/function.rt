@@ -61,15 +61,12 @@ pub fn disassemble<W: Write>(
     byte_laws::unsigned_numbers();
     let start = body.get_binary_reader().original_position();
     let mut line = String::new(alloc);
-    match write_heading(writer, &mut line, start, index, name_of(names, index)) {
-        Ok(()) => {}
-        Err(fault) => return Err(fault),
-    }
+    write_heading(writer, &mut line, start, index, name_of(names, index))?;
     let mut locals = match body.get_locals_reader() {
         Ok(locals) => locals,
         Err(e) => return Err(DisassemblyFault::Refused(e)),
     };
-    match write_declarations(
+    write_declarations(
         alloc,
         writer,
         &mut line,
@@ -77,10 +74,7 @@ pub fn disassemble<W: Write>(
         start,
         parameters,
         &mut locals,
-    ) {
-        Ok(()) => {}
-        Err(fault) => return Err(fault),
-    }
+    )?;
     write_operators(
         alloc,
         writer,

@@ -174,10 +174,7 @@ pub fn list_sections<W: Write>(
             Ok(detail) => detail,
             Err(e) => return Err(Fault::Section(e)),
         };
-        match write_section(alloc, writer, &mut line, &section, detail) {
-            Ok(()) => {}
-            Err(fault) => return Err(fault),
-        }
+        write_section(alloc, writer, &mut line, &section, detail)?;
     }
     Ok(())
 }

@@ -98,16 +98,13 @@ fn list_asked<W: FlushedWrite, C: Complaints>(
     if !is_asked(only, index) {
         return Ok(true);
     }
-    let outcome = match list_function(alloc, functions, names, place, body, writer) {
-        Ok(outcome) => outcome,
-        Err(fault) => return Err(fault),
-    };
+    let outcome = list_function(alloc, functions, names, place, body, writer)?;
     match outcome {
         Ok(()) => Ok(true),
-        Err(e) => match complain(writer, complaints, index, e) {
-            Ok(()) => Ok(false),
-            Err(fault) => Err(fault),
-        },
+        Err(e) => {
+            complain(writer, complaints, index, e)?;
+            Ok(false)
+        }
     }
 }
 
@@ -147,7 +144,7 @@ pub fn list_code<W: FlushedWrite, C: Complaints>(
             Ok(body) => body,
             Err(e) => return Err(Fault::Code(e)),
         };
-        let one = match list_asked(
+        whole &= list_asked(
             alloc,
             functions,
             names.as_slice(),
@@ -156,11 +153,7 @@ pub fn list_code<W: FlushedWrite, C: Complaints>(
             &body,
             writer,
             complaints,
-        ) {
-            Ok(one) => one,
-            Err(fault) => return Err(fault),
-        };
-        whole &= one;
+        )?;
         place = place.saturating_add(1);
     }
     Ok(whole)

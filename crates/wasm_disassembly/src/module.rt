@@ -98,20 +98,14 @@ fn list_part<W: FlushedWrite, C: Complaints>(
 {
     function_laws::sections();
     function_laws::own_functions();
-    let (functions, code) = match open_module(alloc, features, only, bytes) {
-        Ok(opened) => opened,
-        Err(fault) => return Err(fault),
-    };
-    match write_heading(
+    let (functions, code) = open_module(alloc, features, only, bytes)?;
+    write_heading(
         alloc,
         file,
         module_name(features, bytes),
         CODE_HEADING,
         writer,
-    ) {
-        Ok(()) => {}
-        Err(fault) => return Err(fault),
-    }
+    )?;
     match code {
         Some(code) => list_code(alloc, &functions, code, only, writer, complaints),
         None => Ok(true),
@@ -165,16 +159,13 @@ pub fn list_headers<W: Write>(
         Ok(sections) => sections,
         Err(fault) => return Err(Fault::Module(fault)),
     };
-    match write_heading(
+    write_heading(
         alloc,
         file,
         module_name(features, bytes),
         SECTIONS_HEADING,
         writer,
-    ) {
-        Ok(()) => {}
-        Err(fault) => return Err(fault),
-    }
+    )?;
     list_sections(alloc, sections, writer)
 }
 
@@ -196,10 +187,7 @@ pub fn count_module<C: Complaints>(
 {
     function_laws::sections();
     function_laws::own_functions();
-    let (functions, code) = match open_module(alloc, features, only, bytes) {
-        Ok(opened) => opened,
-        Err(fault) => return Err(fault),
-    };
+    let (functions, code) = open_module(alloc, features, only, bytes)?;
     match code {
         Some(code) => count_code(alloc, features, &functions, code, only, complaints),
         None => Ok(ModuleCounts::none()),

@@ -60,18 +60,13 @@ pub fn run<W: FlushedWrite, C: Complaints>(
             complaints,
         );
     }
-    let found = match count_module(
+    let found = count_module(
         alloc,
         requested.features,
         requested.function,
         bytes,
         complaints,
-    ) {
-        Ok(found) => found,
-        Err(fault) => return Err(fault),
-    };
-    match write_table(alloc, &found.counts, writer) {
-        Ok(()) => Ok(found.whole),
-        Err(fault) => Err(fault),
-    }
+    )?;
+    write_table(alloc, &found.counts, writer)?;
+    Ok(found.whole)
 }

@@ -40,10 +40,9 @@ pub fn find_parameters(
 {
     unsigned_numbers();
     fixed_numbers();
-    match find_section(features, bytes, TYPES) {
-        Ok(Some(contents)) => parameter_counts(alloc, contents),
-        Ok(None) => Ok(Vec::new(alloc)),
-        Err(fault) => Err(fault),
+    match find_section(features, bytes, TYPES)? {
+        Some(contents) => parameter_counts(alloc, contents),
+        None => Ok(Vec::new(alloc)),
     }
 }
 
@@ -57,10 +56,9 @@ pub fn find_imported(features: WasmFeatures, bytes: &[u8]) -> Result<u32, Module
 {
     unsigned_numbers();
     fixed_numbers();
-    match find_section(features, bytes, IMPORTS) {
-        Ok(Some(contents)) => imported_functions(contents),
-        Ok(None) => Ok(0),
-        Err(fault) => Err(fault),
+    match find_section(features, bytes, IMPORTS)? {
+        Some(contents) => imported_functions(contents),
+        None => Ok(0),
     }
 }
 
@@ -78,10 +76,9 @@ pub fn find_types(
 {
     unsigned_numbers();
     fixed_numbers();
-    match find_section(features, bytes, FUNCTIONS) {
-        Ok(Some(contents)) => function_types(alloc, contents),
-        Ok(None) => Ok(Vec::new(alloc)),
-        Err(fault) => Err(fault),
+    match find_section(features, bytes, FUNCTIONS)? {
+        Some(contents) => function_types(alloc, contents),
+        None => Ok(Vec::new(alloc)),
     }
 }
 
@@ -99,10 +96,9 @@ fn find_import_names<'a>(
     ensures fault { IfErr result (λ fault. ((fault ≡ ModuleFault.Memory) × OfSection (reader_of features 0 bytes.now) 2 ImportsFunction)
         ⊎ SectionsFault fault (reader_of features 0 bytes.now)) }
 {
-    match find_section(features, bytes, IMPORTS) {
-        Ok(Some(contents)) => import_names(alloc, contents),
-        Ok(None) => Ok(Vec::new(alloc)),
-        Err(fault) => Err(fault),
+    match find_section(features, bytes, IMPORTS)? {
+        Some(contents) => import_names(alloc, contents),
+        None => Ok(Vec::new(alloc)),
     }
 }
 
@@ -136,10 +132,9 @@ fn set_exports<'a>(
 {
     unsigned_numbers();
     fixed_numbers();
-    match find_section(features, bytes, EXPORTS) {
-        Ok(Some(contents)) => name_exports(contents, names),
-        Ok(None) => Ok(()),
-        Err(fault) => Err(fault),
+    match find_section(features, bytes, EXPORTS)? {
+        Some(contents) => name_exports(contents, names),
+        None => Ok(()),
     }
 }
 
@@ -154,14 +149,10 @@ fn set_names<'a>(
     ensures refused { IfErr result (λ fault. (section : Option Reader) → HasNames (reader_of features 0 bytes.now) section → ⊥) }
     ensures fault { IfErr result (λ fault. SectionsFault fault (reader_of features 0 bytes.now)) }
 {
-    match find_names(features, bytes) {
-        Ok(Some(contents)) => {
-            name_functions(contents, names);
-            Ok(())
-        }
-        Ok(None) => Ok(()),
-        Err(fault) => Err(fault),
+    if let Some(contents) = find_names(features, bytes)? {
+        name_functions(contents, names);
     }
+    Ok(())
 }
 
 /// Returns the names of all functions, by index: the imported functions, then `count` defined ones.
@@ -178,20 +169,9 @@ pub fn find_function_names<'a>(
         → fault ≡ ModuleFault.Memory) }
     ensures fault { IfErr result (λ fault. NamesFault fault (reader_of features 0 bytes.now) count) }
 {
-    let mut names = match find_import_names(alloc, features, bytes) {
-        Ok(names) => names,
-        Err(fault) => return Err(fault),
-    };
-    match push_unnamed(&mut names, count) {
-        Ok(()) => {}
-        Err(fault) => return Err(fault),
-    }
-    match set_exports(features, bytes, &mut names) {
-        Ok(()) => {}
-        Err(fault) => return Err(fault),
-    }
-    match set_names(features, bytes, &mut names) {
-        Ok(()) => Ok(names),
-        Err(fault) => Err(fault),
-    }
+    let mut names = find_import_names(alloc, features, bytes)?;
+    push_unnamed(&mut names, count)?;
+    set_exports(features, bytes, &mut names)?;
+    set_names(features, bytes, &mut names)?;
+    Ok(names)
 }

@@ -55,22 +55,10 @@ impl<'a> Functions<'a> {
     {
         unsigned_numbers();
         fixed_numbers();
-        let parameters = match find_parameters(alloc, features, bytes) {
-            Ok(parameters) => parameters,
-            Err(fault) => return Err(fault),
-        };
-        let imported = match find_imported(features, bytes) {
-            Ok(imported) => imported,
-            Err(fault) => return Err(fault),
-        };
-        let types = match find_types(alloc, features, bytes) {
-            Ok(types) => types,
-            Err(fault) => return Err(fault),
-        };
-        let names = match find_function_names(alloc, features, bytes, types.len()) {
-            Ok(names) => names,
-            Err(fault) => return Err(fault),
-        };
+        let parameters = find_parameters(alloc, features, bytes)?;
+        let imported = find_imported(features, bytes)?;
+        let types = find_types(alloc, features, bytes)?;
+        let names = find_function_names(alloc, features, bytes, types.len())?;
         Ok(Functions {
             imported,
             parameters,

@@ -28,17 +28,12 @@ pub fn imported_functions(contents: BinaryReader<'_>) -> Result<u32, ModuleFault
     unsigned_numbers();
     module_laws::imports();
     let mut reader = contents;
-    let count = match reader.read_var_u32() {
-        Ok(count) => count,
-        Err(e) => return Err(ModuleFault::from(e)),
-    };
+    let count = reader.read_var_u32()?;
     let mut functions: u32 = 0;
     for _import in 0..count {
         let offset = reader.original_position();
-        let kind = match Import::read(&mut reader) {
-            Ok(import) => import.kind(),
-            Err(e) => return Err(ModuleFault::from(e)),
-        };
+        let import = Import::read(&mut reader)?;
+        let kind = import.kind();
         if kind > TAG {
             return Err(ModuleFault::ImportKind(kind, offset));
         }
@@ -86,10 +81,7 @@ pub fn import_names<'a>(
             Ok(import) => import,
             Err(_) => return Ok(names),
         };
-        match push_import(&mut names, &import) {
-            Ok(()) => {}
-            Err(fault) => return Err(fault),
-        }
+        push_import(&mut names, &import)?;
     }
     Ok(names)
 }

@@ -51,15 +51,10 @@ pub fn name_exports<'a>(
     unsigned_numbers();
     module_laws::exports();
     let mut reader = contents;
-    let count = match reader.read_var_u32() {
-        Ok(count) => count,
-        Err(e) => return Err(ModuleFault::from(e)),
-    };
+    let count = reader.read_var_u32()?;
     for _export in 0..count {
-        match Export::read(&mut reader) {
-            Ok(export) => set_exported(names, &export),
-            Err(e) => return Err(ModuleFault::from(e)),
-        }
+        let export = Export::read(&mut reader)?;
+        set_exported(names, &export);
     }
     Ok(())
 }

@@ -68,10 +68,7 @@ pub fn find_section<'a>(
 {
     unsigned_numbers();
     fixed_numbers();
-    let mut reader = match open_sections(features, bytes) {
-        Ok(reader) => reader,
-        Err(fault) => return Err(fault),
-    };
+    let mut reader = open_sections(features, bytes)?;
     let mut found = None;
     'sections: while !reader.eof() {
         let section = match read_section(&mut reader) {
@@ -123,10 +120,7 @@ pub fn find_names<'a>(
 {
     unsigned_numbers();
     fixed_numbers();
-    let mut reader = match open_sections(features, bytes) {
-        Ok(reader) => reader,
-        Err(fault) => return Err(fault),
-    };
+    let mut reader = open_sections(features, bytes)?;
     let mut found = None;
     'customs: while !reader.eof() {
         let section = match read_section(&mut reader) {

@@ -40,10 +40,7 @@ fn read_rec_type(
     module_laws::types();
     for _ty in 0..len {
         let offset = reader.original_position();
-        let ty = match CompositeType::read(reader) {
-            Ok(ty) => ty,
-            Err(e) => return Err(ModuleFault::from(e)),
-        };
+        let ty = CompositeType::read(reader)?;
         if let CompositeType::Other(kind) = ty {
             return Err(ModuleFault::TypeKind(kind, offset));
         }
@@ -67,19 +64,10 @@ pub fn parameter_counts(alloc: Global, contents: BinaryReader<'_>) -> Result<Vec
     module_laws::types();
     let mut reader = contents;
     let mut counts = Vec::new(alloc);
-    let rec_types = match reader.read_var_u32() {
-        Ok(rec_types) => rec_types,
-        Err(e) => return Err(ModuleFault::from(e)),
-    };
+    let rec_types = reader.read_var_u32()?;
     for _rec_type in 0..rec_types {
-        let len = match read_rec_type_len(&mut reader) {
-            Ok(len) => len,
-            Err(e) => return Err(ModuleFault::from(e)),
-        };
-        match read_rec_type(&mut reader, len, &mut counts) {
-            Ok(()) => {}
-            Err(fault) => return Err(fault),
-        }
+        let len = read_rec_type_len(&mut reader)?;
+        read_rec_type(&mut reader, len, &mut counts)?;
     }
     Ok(counts)
 }
@@ -94,15 +82,9 @@ pub fn function_types(alloc: Global, contents: BinaryReader<'_>) -> Result<Vec<u
     unsigned_numbers();
     let mut reader = contents;
     let mut types = Vec::new(alloc);
-    let count = match reader.read_var_u32() {
-        Ok(count) => count,
-        Err(e) => return Err(ModuleFault::from(e)),
-    };
+    let count = reader.read_var_u32()?;
     for _function in 0..count {
-        let ty = match reader.read_var_u32() {
-            Ok(ty) => ty,
-            Err(e) => return Err(ModuleFault::from(e)),
-        };
+        let ty = reader.read_var_u32()?;
         if types.push(ty).is_err() {
             return Err(ModuleFault::Memory);
         }

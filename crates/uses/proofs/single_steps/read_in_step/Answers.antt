@@ -1,7 +1,7 @@
 use Rattle.uses.proofs.single_steps.read_in_step.Goals as goal
 
-pub returns-in-Ok-read : goal.returns-in-Ok-read
-returns-in-Ok-read c =
-    let same = c.same_result.ensures.taken c.in-Ok.operator c.in-Ok-read.other c.args.first.now c.read.new.self c.args.second.now c.read-in-Ok.new.self
-    c.requires c.in-Ok.ensures c.in-Ok-read.ensures in
-    record { read = c.in-Ok.ensures; same = same.0; agree = same.1 }
+pub returns : goal.returns
+returns c =
+    let same = c.same_result.ensures.taken c.in_ok-operator.operator c.in_ok-other.other c.args.first.now c.read.new.self c.args.second.now c.read-2.new.self
+    c.requires c.in_ok-operator.ensures c.in_ok-other.ensures in
+    record { read = c.in_ok-operator.ensures; same = same.0; agree = same.1 }

@@ -1,4 +1,5 @@
 use Rattle.std.proofs.Common.{arith}
+use Rattle.std.proofs.lemmas.Result.{err_from_is_err_and}
 use Rattle.uses.proofs.Skipped.{skips_none, skips_on, skips_refused}
 use Rattle.uses.proofs.skipping.skip_operators.Goals as goal
 
@@ -7,19 +8,27 @@ loop-operator-init c = skips_none c.args.operators.now c.single_reads.ensures.fi
 
 pub loop-operator-preserved : goal.loop-operator-preserved
 loop-operator-preserved c =
-    skips_on _ c.loop-operator.operator c.args.operators.now c.loop-operator.operators c.read.new.self c.one_depth.ensures.any c.memory_adds_up.ensures
-    c.single_reads.ensures.next c.loop-operator.invariant c.in-Ok.ensures
+    skips_on _ c.loop-operator._operator c.args.operators.now c.loop-operator.operators c.read.new.self c.one_depth.ensures.any c.memory_adds_up.ensures
+    c.single_reads.ensures.next c.loop-operator.invariant c.in_ok-read.ensures
 
-pub returns-in-Err : goal.returns-in-Err
-returns-in-Err c =
-    let h = skips_refused c.loop-operator.operator c.args.operators.now c.loop-operator.operators c.read.new.self c.memory_adds_up.ensures
-    c.single_reads.ensures.refused c.loop-operator.invariant c.in-Err.ensures.0 in
-    record {
-      skipped = tt;
-      refused = (h.placed, omega (arith, h.many), h.taken, c.in-Err.ensures.1);
-      depth = h.depth;
-      memory = h.memory;
-    }
+pub returns-in_err-read-clause-refused : goal.returns-in_err-read-clause-refused
+returns-in_err-read-clause-refused c =
+    let h = skips_refused c.loop-operator._operator c.args.operators.now c.loop-operator.operators c.read.new.self c.memory_adds_up.ensures
+    c.single_reads.ensures.refused c.loop-operator.invariant c.in_err-read.ensures.0 in
+    let p = err_from_is_err_and c.from_residual.result c.from_residual.ensures.1 in
+    rw (p.1, p.2) (h.placed, omega (arith, h.many), h.taken, c.in_err-read.ensures.1)
+
+pub returns-in_err-read-clause-depth : goal.returns-in_err-read-clause-depth
+returns-in_err-read-clause-depth c =
+    let h = skips_refused c.loop-operator._operator c.args.operators.now c.loop-operator.operators c.read.new.self c.memory_adds_up.ensures
+    c.single_reads.ensures.refused c.loop-operator.invariant c.in_err-read.ensures.0 in
+    h.depth
+
+pub returns-in_err-read-clause-memory : goal.returns-in_err-read-clause-memory
+returns-in_err-read-clause-memory c =
+    let h = skips_refused c.loop-operator._operator c.args.operators.now c.loop-operator.operators c.read.new.self c.memory_adds_up.ensures
+    c.single_reads.ensures.refused c.loop-operator.invariant c.in_err-read.ensures.0 in
+    h.memory
 
 pub returns : goal.returns
 returns c =

@@ -1,13 +1,15 @@
-use Rattle.std.proofs.Common.{[], ◌∷◌, ◌++◌, ◌<◌, refl, sym, subst, ap, ◌∙◌, arith, inl, inr}
+use Rattle.std.proofs.Common.{Err, [], ◌∷◌, ◌++◌, ◌<◌, refl, sym, subst, ap, ◌∙◌, arith, inl, inr}
+use Rattle.std.proofs.lemmas.Result.{err_from_is_err_and}
 use Rattle.wasm_operators.specs.Section.{SectionItems}
 use Rattle.wasm_disassembly.proofs.Added.{adds_more}
-use Rattle.wasm_disassembly.proofs.Asked.{item_read}
+use Rattle.wasm_disassembly.proofs.Asked.{item_read, halts_later}
 use Rattle.wasm_disassembly.proofs.Bodies.{body_more, none_both}
 use Rattle.wasm_disassembly.proofs.Ended.{all_read, stopped_after}
 use Rattle.wasm_disassembly.proofs.Found.{asked_split, both_true}
-use Rattle.wasm_disassembly.specs.Listing.{AreAsked}
-use Rattle.wasm_disassembly.specs.ModuleCensus.{IsCounted}
+use Rattle.wasm_disassembly.specs.Listing.{AreAsked, IsOutside}
+use Rattle.wasm_disassembly.specs.ModuleCensus.{CountsCode, IsCounted}
 use Rattle.wasm_disassembly.proofs.Counted.{fits_32, place_more, fewer_left}
+use Rattle.wasm_disassembly.proofs.Shown.{at_halt}
 use Rattle.wasm_disassembly.proofs.counts.count_code.Goals as goal
 
 pub bodies-preserved : goal.bodies-preserved
@@ -15,7 +17,7 @@ bodies-preserved g c =
     let (bodies, occur, sum, none, place, reported, adds, whole, all) = c.bodies.invariant in
     let body = c.in-Ok-item.body in
     let (refused, still, one, reads, placed) = item_read c.in-Some.item body c.bodies.items c.next.new.self c.in-Ok-item.is c.in-Some.ensures.steps in
-    let (new_reported, added, reports, is_whole) = c.in-Ok-count_asked.ensures.adds in
+    let (new_reported, added, reports, is_whole) = c.in_ok-whole.ensures.adds in
     let first = c.in-Ok.ensures.count in
     let fits = subst (λ n. n < 4294967296) (sym (ap (λ (s : SectionItems). s.remaining) c.into_iter-items.ensures.into_iter_gives)) (fits_32 first.0 c.in-Ok.section.count first.1) in (
       bodies ++ body ∷ [],
@@ -30,7 +32,7 @@ bodies-preserved g c =
       cc (whole, is_whole) ∙ none_both reported new_reported,
       λ asked.
           let split = asked_split (IsCounted c.args.features) c.args.functions.now c.args.only 0 bodies body c.bodies.place (place ∙ sym (omega arith)) asked in
-          both_true c.bodies.whole c.in-Ok-count_asked.one (all split.0) (c.in-Ok-count_asked.ensures.whole split.1),
+          both_true c.bodies.whole c.in_ok-whole.field-0 (all split.0) (c.in_ok-whole.ensures.whole split.1),
     )
 
 pub returns-in-Err-clause-whole : goal.returns-in-Err-clause-whole
@@ -50,3 +52,20 @@ returns-clause-whole g c =
     let read = all_read c.args.code c.in-Ok.section c.into_iter-items.result c.bodies.items bodies c.in-Ok.ensures.count
     c.into_iter-items.ensures.into_iter_gives occur sum none c.in_default.ensures.steps.1 in
     λ all code asked. each (subst (λ bs. AreAsked (IsCounted c.args.features) c.args.functions.now c.args.only 0 bs) (c.one_list.ensures c.args.code all bodies code read) asked)
+
+pub returns-in_err-whole-clause-counts : goal.returns-in_err-whole-clause-counts
+returns-in_err-whole-clause-counts g c =
+    let p = err_from_is_err_and c.from_residual.result c.from_residual.ensures.1 in
+    rw (p.1, p.2) (at_halt (λ f. CountsCode g.C.Complaints.reports c.args.features c.args.functions.now c.args.only c.args.code (Err f) c.args.complaints.now
+    c.count_asked.new.complaints) c.in_err-whole.field-0.0 c.in_err-whole.ensures.halts tt tt)
+
+pub returns-in_err-whole-clause-whole : goal.returns-in_err-whole-clause-whole
+returns-in_err-whole-clause-whole g c =
+    λ all code asked.
+    let p = err_from_is_err_and c.from_residual.result c.from_residual.ensures.1 in
+    rw (p.1, p.2) (at_halt (λ f. IsOutside f) c.in_err-whole.field-0.0 c.in_err-whole.ensures.halts tt tt)
+
+pub returns-in_err-whole-clause-later : goal.returns-in_err-whole-clause-later
+returns-in_err-whole-clause-later g c =
+    let p = err_from_is_err_and c.from_residual.result c.from_residual.ensures.1 in
+    rw (p.1, p.2) (halts_later c.in_err-whole.field-0.0 c.in_err-whole.ensures.halts)

@@ -1,4 +1,5 @@
 use Rattle.std.proofs.Common.{◌≡◌, ◌+◌, ◌<◌, Err, ap, ◌∙◌, arith}
+use Rattle.std.proofs.lemmas.Result.{err_from_is_err_and}
 use Rattle.wasm_text.specs.Lines.{between}
 use Rattle.wasm_disassembly.specs.LocalLines.{ListsDeclarations}
 use Rattle.wasm_disassembly.proofs.Halts.{at_halt}
@@ -17,7 +18,7 @@ loop-declaration-preserved g c =
     c.read.new.self (g.W.Write.contents c.args.writer.now) (g.W.Write.contents l.writer) (g.W.Write.contents c.write_declaration.new.writer) d c.original_position-offset.result _
     l.invariant c.in-Ok.ensures c.original_position-offset.ensures
     (c.bytes_between-shown.ensures.bytes ∙ ap (λ n. between c.args.start c.args.bytes.now c.original_position-offset.result n) c.original_position.ensures)
-    c.in-Ok-write_declaration.ensures.ok (ap (λ n. l.first + n) c.from-first-in-loop-declaration.ensures)
+    c.in_ok-write_declaration.ensures.ok (ap (λ n. l.first + n) c.from-first-in-loop-declaration.ensures)
 
 pub returns-in-Err-clause-lists : goal.returns-in-Err-clause-lists
 returns-in-Err-clause-lists g c =
@@ -43,8 +44,13 @@ returns-clause-lists g c =
     way_ends tt c.args.start c.args.bytes.now c.args.parameters l._declaration l.first c.args.locals.now l.locals (g.W.Write.contents c.args.writer.now)
     (g.W.Write.contents l.writer) all l.invariant
 
-pub returns-in-Err-write_declaration-clause-lists : goal.returns-in-Err-write_declaration-clause-lists
-returns-in-Err-write_declaration-clause-lists g c =
-    at_halt (λ f. ListsDeclarations {X = Unit {0}} c.args.start c.args.bytes.now c.args.parameters (Err f) c.args.locals.now c.read.new.self
-    (g.W.Write.contents c.args.writer.now) (g.W.Write.contents c.write_declaration.new.writer)) c.in-Err-write_declaration.fault
-    c.in-Err-write_declaration.ensures.halts tt tt
+pub returns-in_err-write_declaration-clause-lists : goal.returns-in_err-write_declaration-clause-lists
+returns-in_err-write_declaration-clause-lists g c =
+    let p = err_from_is_err_and c.from_residual.result c.from_residual.ensures.1 in
+    rw (p.1, p.2) (at_halt (λ f. ListsDeclarations {X = Unit {0}} c.args.start c.args.bytes.now c.args.parameters (Err f) c.args.locals.now c.read.new.self
+    (g.W.Write.contents c.args.writer.now) (g.W.Write.contents c.write_declaration.new.writer)) c.in_err-write_declaration.field-0.0
+    c.in_err-write_declaration.ensures.halts tt tt)
+
+pub returns-in_err-write_declaration-clause-whole : goal.returns-in_err-write_declaration-clause-whole
+returns-in_err-write_declaration-clause-whole g c =
+    λ declarations text more each occurs few. let p = err_from_is_err_and c.from_residual.result c.from_residual.ensures.1 in rw (p.1, p.2) c.in_err-write_declaration.ensures.halts

@@ -1,4 +1,5 @@
 use Rattle.std.proofs.Common.{◌≡◌, ◌≢◌, [], Err, map, ap, ◌∙◌, sym, subst, refl, rules, inl, inr}
+use Rattle.std.proofs.lemmas.Result.{err_from_is_err_and}
 use Rattle.std.specs.Prelude.{string_bytes}
 use Rattle.wasm_operators.specs.below.declared.message.Message.TheVariants as message
 use Rattle.wasm_operators.specs.below.Source.{rest, source_of}
@@ -18,10 +19,10 @@ operators-preserved g c =
     let l = c.operators in
     let at = c.original_position-offset.result in
     let shown = c.bytes_between-shown.ensures.bytes ∙ ap (λ n. between c.args.start c.args.bytes.now at n) c.original_position.ensures in
-    listed_more (map string_bytes c.args.names.now) c.args.start l.depth c.in-Ok-write_operator.after at c.args.bytes.now c.bytes_between-shown.result.now c.new-operators.result l.operators
+    listed_more (map string_bytes c.args.names.now) c.args.start l.depth c.in_ok-depth.depth at c.args.bytes.now c.bytes_between-shown.result.now c.new-operators.result l.operators
     c.read.new.self (g.W.Write.contents c.args.writer.now) (g.W.Write.contents l.writer) (g.W.Write.contents c.write_operator.new.writer) c.in-Ok.op
     c.single_reads.ensures.next c.single_reads.ensures.progress l.invariant c.in-Ok.ensures c.original_position-offset.ensures shown
-    c.in-Ok-write_operator.ensures.lines c.in-Ok-write_operator.ensures.after
+    c.in_ok-depth.ensures.lines c.in_ok-depth.ensures.after
 
 pub operators-smaller : goal.operators-smaller
 operators-smaller g c = fewer_left c.in-Ok.op c.operators.operators c.read.new.self c.single_reads.ensures.progress c.in-Ok.ensures
@@ -96,7 +97,12 @@ returns-clause-whole g c =
     let frames = left.2 in
     absurd (cc (memory, frames))
 
-pub returns-in-Err-write_operator-clause-lists : goal.returns-in-Err-write_operator-clause-lists
-returns-in-Err-write_operator-clause-lists g c =
-    at_halt (λ f. ListsOperators {X = Unit {0}} (map string_bytes c.args.names.now) c.args.start c.args.bytes.now (Err f) c.args.reader (g.W.Write.contents c.args.writer.now)
-    (g.W.Write.contents c.write_operator.new.writer)) c.in-Err-write_operator.fault c.in-Err-write_operator.ensures.halts tt tt
+pub returns-in_err-depth-clause-lists : goal.returns-in_err-depth-clause-lists
+returns-in_err-depth-clause-lists g c =
+    let p = err_from_is_err_and c.from_residual.result c.from_residual.ensures.1 in
+    rw (p.1, p.2) (at_halt (λ f. ListsOperators {X = Unit {0}} (map string_bytes c.args.names.now) c.args.start c.args.bytes.now (Err f) c.args.reader
+    (g.W.Write.contents c.args.writer.now) (g.W.Write.contents c.write_operator.new.writer)) c.in_err-depth.field-0.0
+    c.in_err-depth.ensures.halts tt tt)
+
+pub returns-in_err-depth-clause-whole : goal.returns-in_err-depth-clause-whole
+returns-in_err-depth-clause-whole g c = λ placed encodes. let p = err_from_is_err_and c.from_residual.result c.from_residual.ensures.1 in rw (p.1, p.2) c.in_err-depth.ensures.halts

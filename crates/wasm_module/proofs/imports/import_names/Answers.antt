@@ -1,5 +1,6 @@
 use Rattle.std.proofs.Common.{◌≡◌, ◌+◌, ◌<◌, [], ◌∷◌, ◌++◌, length, refl, sym, ap, ◌∙◌, inl, inr, arith, rules}
 use Rattle.std.proofs.lemmas.List.{length_push}
+use Rattle.std.proofs.lemmas.Result.{err_from_is_err_and}
 use Rattle.wasm_module.specs.Imports.{EncodesImport}
 use Rattle.wasm_module.specs.FunctionNames.{function_name}
 use Rattle.wasm_module.specs.Refusals.{IsAny}
@@ -18,7 +19,7 @@ loop-import-preserved c =
       h.0 ++ import ∷ [],
       item_more EncodesImport c.read_var_u32.new.self h.0 c.loop-import.reader c.read.new.reader import h.1 c.in-Ok-read.ensures,
       length_push h.0 import ∙ ap (λ n. n + 1) h.2,
-      c.in-Ok-push_import.ensures.ok ∙ ap (λ z. z ++ function_name import) h.3 ∙ sym (imports_more h.0 import),
+      c.in_ok-push_import.ensures.ok ∙ ap (λ z. z ++ function_name import) h.3 ∙ sym (imports_more h.0 import),
     )
 
 pub returns-clause-ok : goal.returns-clause-ok
@@ -33,12 +34,13 @@ returns-clause-ok c =
       h.3,
     )
 
-pub returns-in-Err-push_import-clause-memory : goal.returns-in-Err-push_import-clause-memory
-returns-in-Err-push_import-clause-memory c =
-    let h = c.loop-import.invariant in
+pub returns-in_err-push_import-clause-memory : goal.returns-in_err-push_import-clause-memory
+returns-in_err-push_import-clause-memory c =
+    let p = err_from_is_err_and c.from_residual.result c.from_residual.ensures.1 in
+    rw (p.1, p.2) (let h = c.loop-import.invariant in
     let fewer : length h.0 < c.in-Ok.count = let so = h.2 in let test = c.loop-import-test.true in omega (arith, so, test) in
     let items = items_to EncodesImport IsAny c.args.contents c.read_var_u32.new.self c.loop-import.reader c.in-Ok.count h.0 c.in-Ok.ensures h.1 fewer
     (any_items h.0) in (
-      c.in-Err-push_import.ensures.memory,
-      (c.loop-import.reader, items, c.in-Ok-read.import, c.read.new.reader, c.in-Ok-read.ensures, c.in-Err-push_import.ensures.function),
-    )
+      c.in_err-push_import.ensures.memory,
+      (c.loop-import.reader, items, c.in-Ok-read.import, c.read.new.reader, c.in-Ok-read.ensures, c.in_err-push_import.ensures.function),
+    ))
