@@ -11,24 +11,17 @@ loop-operator-preserved c =
     skips_on _ c.loop-operator._operator c.args.operators.now c.loop-operator.operators c.read.new.self c.one_depth.ensures.any c.memory_adds_up.ensures
     c.single_reads.ensures.next c.loop-operator.invariant c.in_ok-read.ensures
 
-pub returns-in_err-read-clause-refused : goal.returns-in_err-read-clause-refused
-returns-in_err-read-clause-refused c =
+pub returns-in_err-read : goal.returns-in_err-read
+returns-in_err-read c =
     let h = skips_refused c.loop-operator._operator c.args.operators.now c.loop-operator.operators c.read.new.self c.memory_adds_up.ensures
     c.single_reads.ensures.refused c.loop-operator.invariant c.in_err-read.ensures.0 in
     let p = err_from_is_err_and c.from_residual.result c.from_residual.ensures.1 in
-    rw (p.1, p.2) (h.placed, omega (arith, h.many), h.taken, c.in_err-read.ensures.1)
-
-pub returns-in_err-read-clause-depth : goal.returns-in_err-read-clause-depth
-returns-in_err-read-clause-depth c =
-    let h = skips_refused c.loop-operator._operator c.args.operators.now c.loop-operator.operators c.read.new.self c.memory_adds_up.ensures
-    c.single_reads.ensures.refused c.loop-operator.invariant c.in_err-read.ensures.0 in
-    h.depth
-
-pub returns-in_err-read-clause-memory : goal.returns-in_err-read-clause-memory
-returns-in_err-read-clause-memory c =
-    let h = skips_refused c.loop-operator._operator c.args.operators.now c.loop-operator.operators c.read.new.self c.memory_adds_up.ensures
-    c.single_reads.ensures.refused c.loop-operator.invariant c.in_err-read.ensures.0 in
-    h.memory
+    record {
+      skipped = rw p.1 tt;
+      refused = rw (p.1, p.2) (h.placed, omega (arith, h.many), h.taken, c.in_err-read.ensures.1);
+      depth = h.depth;
+      memory = h.memory;
+    }
 
 pub returns : goal.returns
 returns c =
