@@ -1,6 +1,6 @@
 -- The first byte of a type, and the errors of its parts.
 use Rattle.std.proofs.Common.{◌≡◌, ◌≢◌, ℕ, ◌<◌, ◌≤◌, inl, inr, Bool, true, false, List, [], ◌∷◌, ◌++◌, refl, sym, subst, ap, ◌∙◌, append_assoc, arith, lit≤, ℤ, pos}
-use Rattle.std.proofs.lemmas.Bool.{le-ltb}
+use Rattle.std.proofs.lemmas.Bool.{le-ltb, lt-ltb}
 use Rattle.std.proofs.lemmas.Int.{ints}
 use Rattle.wasm_below.specs.declared.types.AbstractHeapType.{AbstractHeapType}
 use Rattle.wasm_below.specs.declared.types.AbstractHeapType.TheVariants as ty
@@ -70,6 +70,9 @@ pub heap_concrete : (b : ℕ) → (LeadsShort b → ⊥) → b ≢ 98 → (tail 
 heap_concrete b l x tail (heap.Abstract shared t) p = absurd (l (short_leads b tail (heap.Abstract shared t) p))
 heap_concrete b l x tail (heap.Concrete i) p = p
 heap_concrete b l x tail (heap.Exact i) p = absurd (x (cc (p.1)))
+
+pub short_index : (byte : ℕ) → byte < 64 → EncodesSigned 33 (byte ∷ []) (pos byte)
+short_index byte lt = (omega arith, ap (λ t. with_sign t byte 128) (sym (lt-ltb byte 64 lt)), (omega (arith, ints), omega (arith, ints)))
 
 pub short_heap : (text : List ℕ) (h : HeapType) → EncodesShort text h → EncodesHeapType text h
 short_heap text (heap.Abstract shared t) p = p

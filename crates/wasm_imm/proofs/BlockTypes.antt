@@ -1,5 +1,4 @@
-use Rattle.std.proofs.Common.{◌≡◌, ℕ, ◌+◌, ◌-◌, ◌≤◌, List, [], ◌∷◌, ◌++◌, length, inl, inr, ℤ, pos, refl, sym, subst, ap, ◌∙◌, append_assoc, length-append, length-drop, arith, negsuc, Fits, w32, false, ◌<◌}
-use Rattle.std.proofs.lemmas.Bool.{lt-ltb}
+use Rattle.std.proofs.Common.{◌≡◌, ℕ, ◌+◌, ◌-◌, ◌≤◌, List, [], ◌∷◌, ◌++◌, length, inl, inr, ℤ, pos, refl, sym, subst, ap, ◌∙◌, append_assoc, length-append, length-drop, arith, negsuc, Fits, w32, false}
 use Rattle.std.proofs.lemmas.Int.{ints}
 use Rattle.std.proofs.Math.Dec.{T}
 use lib.Signed.{non_neg, lt_z}
@@ -8,7 +7,7 @@ use Rattle.wasm_below.specs.Ahead.{Fails}
 use Rattle.wasm_below.specs.declared.error.Error.{Error}
 use Rattle.wasm_below.specs.declared.types.ValType.{ValType}
 use Rattle.wasm_below.specs.declared.types.ValType.TheVariants as value
-use Rattle.wasm_below.specs.Number.{EncodesSigned, FitsWidth, with_sign}
+use Rattle.wasm_below.specs.Number.{EncodesSigned, FitsWidth}
 use Rattle.wasm_below.specs.Refusal.{IsReadFault}
 use Rattle.wasm_below.specs.Sequence.{PrefixCode}
 use Rattle.wasm_below.specs.Source.{Reader, rest, offset_of, NoPrefix, HasRead, S33Fault}
@@ -22,9 +21,6 @@ use Rattle.wasm_below.proofs.Blocks.{refused_now}
 use Rattle.wasm_below.proofs.Ahead.{fails_as}
 use Rattle.wasm_imm.specs.BlockTypes.{EncodesBlockType, EncodesFunctionType}
 use Rattle.wasm_imm.specs.BlockTypeFaults.{NegativeFault, FunctionTypeFault}
-
-pub short_index : (byte : ℕ) → byte < 64 → EncodesSigned 33 (byte ∷ []) (pos byte)
-short_index byte lt = (omega arith, ap (λ t. with_sign t byte 128) (sym (lt-ltb byte 64 lt)), (omega (arith, ints), omega (arith, ints)))
 
 pub block_empty : (t : BlockType) → EncodesBlockType [] t → ⊥
 block_empty block.Empty p = absurd (cc p)

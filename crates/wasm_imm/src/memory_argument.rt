@@ -166,10 +166,7 @@ fn read_announced_out_of_line(
     if names_memory_alone(reader.features(), flags) {
         return read_rest(reader, start, flags, max_align, kind);
     }
-    match read_other(reader, start, flags, max_align, kind) {
-        Ok(argument) => Ok(argument),
-        Err(e) => Err(e),
-    }
+    read_other(reader, start, flags, max_align, kind)
 }
 
 #[inline(never)]

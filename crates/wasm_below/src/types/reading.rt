@@ -49,6 +49,20 @@ impl HeapType {
     pub fn read(reader: &mut BinaryReader<'_>) -> Result<HeapType>
         ensures { Reads EncodesHeapType HeapTypeFault result reader.old reader.new }
     {
+        match reader.peek() {
+            Ok(byte @ 0x00..=0x3f) => {
+                reader.advance();
+                Ok(HeapType::Concrete(u32::from(byte)))
+            }
+            _ => HeapType::read_other(reader),
+        }
+    }
+
+    /// Reads like `read`, which is faster for an index of one byte.
+    #[inline(never)]
+    fn read_other(reader: &mut BinaryReader<'_>) -> Result<HeapType>
+        ensures { Reads EncodesHeapType HeapTypeFault result reader.old reader.new }
+    {
         let byte = reader.peek()?;
         if leads_short(byte) {
             return HeapType::read_short(reader, TypeName::HeapType);
@@ -145,7 +159,7 @@ impl RefType {
     {
         let mut ahead = reader.clone();
         ahead.advance();
-        let heap_type = HeapType::read(&mut ahead)?;
+        let heap_type = HeapType::read_other(&mut ahead)?;
         *reader = ahead;
         Ok(RefType::of(nullable, heap_type))
     }

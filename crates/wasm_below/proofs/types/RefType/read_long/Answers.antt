@@ -16,7 +16,7 @@ returns c =
     let went = subst (λ (r : Reader). mid ≡ at_position r (r.position + 1)) c.clone-ahead.ensures c.advance.ensures in
     let first = advanced old mid code c.requires went in
     let referred = subst (EncodesHeapType r.0) (sym c.of.ensures.referred) r.1 in
-    (code ∷ r.0, (r.0, ap (λ z. ref_byte z ∷ r.0) (sym c.of.ensures.nullable), referred), takes_then old mid c.read.new.reader (code ∷ []) r.0 first r.2)
+    (code ∷ r.0, (r.0, ap (λ z. ref_byte z ∷ r.0) (sym c.of.ensures.nullable), referred), takes_then old mid c.read_other.new.reader (code ∷ []) r.0 first r.2)
 
 pub returns-in_err-heap_type : goal.returns-in_err-heap_type
 returns-in_err-heap_type c =

@@ -1,7 +1,7 @@
 use Rattle.std.proofs.Common.{◌∷◌, [], pos, sym, subst, arith}
 use Rattle.wasm_below.specs.Number.{EncodesSigned}
 use Rattle.wasm_below.proofs.Prefixes.{advanced}
-use Rattle.wasm_imm.proofs.BlockTypes.{short_index}
+use Rattle.wasm_below.proofs.TypeEncodings.{short_index}
 use Rattle.wasm_imm.proofs.block_type.BlockType.read.Goals as goal
 
 pub returns-in-Ok-123-to-127 : goal.returns-in-Ok-123-to-127
