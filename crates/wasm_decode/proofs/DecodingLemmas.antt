@@ -1,9 +1,8 @@
 -- From the first byte of an operator to its visit.
-use Rattle.std.proofs.Common.{◌≡◌, ◌≢◌, ℕ, ◌+◌, ◌≤◌, ◌<◌, inl, inr, Bool, true, false, List, [], ◌∷◌, ◌++◌, length, Option, Some, None, Result, Ok, Err, refl, sym, subst, ap, ◌∙◌, append_assoc, arith}
+use Rattle.std.proofs.Common.{◌≡◌, ◌≢◌, ℕ, ◌+◌, ◌<◌, inl, inr, Bool, true, false, List, [], ◌∷◌, ◌++◌, length, Option, Some, None, Result, Ok, Err, refl, sym, subst, ap, ◌∙◌, append_assoc, arith}
 use Rattle.wasm_below.specs.declared.error.Error.{Error}
 use Rattle.wasm_below.specs.declared.features.WasmFeatures.{WasmFeatures}
 use Rattle.wasm_below.specs.declared.message.Message.{Message}
-use Rattle.wasm_below.specs.declared.message.Message.TheVariants as message
 use Rattle.wasm_below.specs.FromReader.{IsRefused}
 use Rattle.wasm_below.specs.Number.{EncodesUnsigned}
 use Rattle.wasm_below.specs.Refusal.{IsReadFault}
@@ -19,10 +18,8 @@ use Rattle.wasm_imm.specs.Immediate.{Kind}
 use Rattle.wasm_instr.specs.Kinds.{IsVector}
 use Rattle.wasm_instr.specs.Row.{prefix_of, opcode_of}
 use Rattle.wasm_decode_opcodes.specs.Allowed.{EncodesAllowed, EncodesScalar, EncodesIn}
-use Rattle.wasm_decode_opcodes.specs.Decoding.{Decodes, DecodesAt, DecodesOperator, DecodesOperatorAt, IsAfterCode}
+use Rattle.wasm_decode_opcodes.specs.Decoding.{Decodes, DecodesOperator, IsAfterCode}
 use Rattle.wasm_decode_groups.specs.Arms.{ReadsOperatorAt}
-use Rattle.wasm_decode_groups.specs.ByCopy.{DecodesByCopy}
-use Rattle.wasm_decode_groups.specs.declared.reader_copy.ReaderCopy.{ReaderCopy}
 use Rattle.wasm_decode_opcodes.specs.declared.guard.Guard.{Guard}
 use Rattle.wasm_instr.specs.Roles.{role_of}
 use Rattle.wasm_decode_opcodes.specs.Entry.{Entry, prefixes, guard_of, kinds_of, guarded_entry, entry_of}
@@ -30,7 +27,6 @@ use Rattle.wasm_decode_opcodes.specs.Entries.{opcode_entries, entry_at}
 use Rattle.wasm_decode_opcodes.specs.OperatorFaults.{EntryFault, OperatorFault, ScalarOperatorFault, FaultIn}
 use Rattle.wasm_decode_opcodes.specs.Refused.{MayAllocate}
 use Rattle.wasm_decode_opcodes.proofs.EntriesAgree.{entry_agrees}
-use Rattle.wasm_decode_groups.proofs.Copies.{left_within, by_copy}
 use Rattle.wasm_decode_groups.proofs.Ranges.{InRanges, codes_in}
 use Rattle.wasm_decode.specs.Reading.{DecodesGcAt}
 
@@ -184,33 +180,6 @@ pub as_read : {V : Type 0} (E : List ℕ → Operator → Type 0) (F : Message �
     Decodes {V = V} (λ before op outcome after. outcome ≡ op) E F result old new v w → DecodesOperator E F result old new
 as_read E F old new v w (Ok op) (it, read, same) = subst (λ z. HasRead E z old new) (sym same) read
 as_read E F old new v w (Err e) (same, h) = h
-
--- reading is decoding by such a visitor
-pub as_visited : (E : List ℕ → Operator → Type 0) (F : Message → Reader → ℕ → Type 0) (old new : Reader) (result : Result Operator Error) →
-    DecodesOperator E F result old new → Decodes {V = Unit {0}} (λ before op outcome after. outcome ≡ op) E F result old new tt tt
-as_visited E F old new (Ok op) read = (op, read, refl)
-as_visited E F old new (Err e) h = (refl, h)
-
-abbrev ReturnsOperator : Unit {0} → Operator → Operator → Unit {0} → Type 0
-ReturnsOperator before op outcome after = outcome ≡ op
-
-module _ (k : FrameKind) (start : ℕ) (old copy mid : Reader) (same : copy ≡ old) where
-  visited : (result : Result Operator Error) → DecodesOperatorAt k start result copy mid → DecodesAt ReturnsOperator k start result copy mid tt tt
-  visited result h = as_visited (EncodesAllowed copy.features k) (OperatorFault copy.features k) (at_position copy start) mid result h
-
-  -- the same by a copy of the reader
-  pub read_by_copy : (result : Result Operator Error) (new : Reader) → DecodesOperatorAt k start result copy mid → new ≡ at_position old mid.position →
-      DecodesOperatorAt k start result old new
-  read_by_copy result new h went =
-      as_read (EncodesAllowed old.features k) (OperatorFault old.features k) (at_position old start) new tt tt result
-      (by_copy ReturnsOperator k start old copy mid tt tt same result new (visited result h) went)
-
-pub read_within : (k : FrameKind) (start : ℕ) (old : Reader) (copy left : ReaderCopy) (p : Option ℕ) (code : ℕ) (outcome : Option Operator) → copy.reader ≡ old →
-    IsAfterCode start p code old → DecodesByCopy (λ r a b. DecodesOperatorAt k start r a b) outcome copy left → left.reader.position ≤ length old.buffer
-read_within k start old copy left p code (Some op) same b h =
-    left_within ReturnsOperator k start old copy left tt tt p code (Some op) same b (visited k start old copy.reader left.reader same (Ok op) h)
-read_within k start old copy left p code None same b h =
-    left_within {A = Operator} ReturnsOperator k start old copy left tt tt p code None same b (visited k start old copy.reader left.reader same (Err left.error) h)
 
 -- reading a `GcOperator` after the subopcode is reading its operator
 pub as_gc : (k : FrameKind) (start : ℕ) (old mid new : Reader) (result : Result GcOperator Error) → mid ≡ at_position old mid.position →

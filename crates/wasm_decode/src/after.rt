@@ -1,6 +1,5 @@
-//! Decodes the bytes after an opcode, except a branch table. After a prefix byte, only SIMD
-//! operators without immediates are visited inline.
-ghost use Rattle.std.specs.Prelude.{◌≡◌, ◌≢◌, [], Some, None, Err, IfOk, IfErr};
+//! Decodes the bytes after a prefix byte. Only SIMD operators without immediates are visited inline.
+ghost use Rattle.std.specs.Prelude.{◌≡◌, [], Some, None, Err, IfOk, IfErr};
 ghost use Rattle.wasm_below.specs.Source.{at_position};
 ghost use Rattle.wasm_grammar.specs.declared.frame_kind.FrameKind.{FrameKind};
 ghost use Rattle.wasm_decode_opcodes.specs.Decoding.{IsAfterCode, DecodesAt, DecodesOperatorAt, VisitsRow};
@@ -9,14 +8,10 @@ ghost use Rattle.wasm_decode_opcodes.specs.Entry.{free, prefixes};
 ghost use Rattle.wasm_decode_groups.specs.WithoutImmediates.{IsVectorWithoutImmediates};
 
 use crate::out_of_line::visit_after_prefix;
-use crate::prefixes::{Atomic, Gc, Misc, Simd};
-use std::alloc::Global;
+use crate::prefixes::Simd;
 use wasm_below::{BinaryReader, Result};
-use wasm_grammar::FrameKind;
 use wasm_instr_simd::SimdOperator;
-use wasm_visit::{
-    GroupAtomic, GroupGc, GroupMisc, GroupNumeric, GroupOneByte, GroupSimdHigh, GroupSimdLow,
-};
+use wasm_visit::{GroupSimdHigh, GroupSimdLow};
 
 /// Reads the subopcode after a prefix byte at the position `start`: a u32 that may be overlong. On
 /// an error, goes back to `start`.
@@ -34,31 +29,6 @@ pub fn subopcode(reader: &mut BinaryReader<'_>, start: usize, prefix: u8) -> Res
             reader.rewind(start);
             Err(e)
         }
-    }
-}
-
-#[inline(always)]
-pub fn group_after_opcode<V>(
-    alloc: Global,
-    v: &mut V,
-    reader: &mut BinaryReader<'_>,
-    start: usize,
-    frame: FrameKind,
-    code: u8,
-) -> Result<V::Output>
-where
-    V: GroupOneByte + GroupNumeric + GroupGc + GroupMisc + GroupAtomic,
-    requires after { IsAfterCode start None code reader.old }
-    requires table { code ≢ 0x0e }
-    requires vector { code ≢ 0xfd }
-    ensures { DecodesAt V.visits frame start result reader.old reader.new v.old v.new }
-{
-    match code {
-        0xfb => visit_after_prefix(v, reader, start, Gc),
-        0xfc => visit_after_prefix(v, reader, start, Misc),
-        0xfe => visit_after_prefix(v, reader, start, Atomic),
-        0x45..=0xc4 => Ok(v.decode_numeric(code)),
-        _ => v.decode_one_byte(alloc, reader, start, frame, code),
     }
 }
 

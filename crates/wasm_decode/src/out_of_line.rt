@@ -3,12 +3,14 @@
 //!
 //! The call is cold, so that the compiler places the code around it after the loop.
 ghost use Rattle.std.specs.Prelude.{ℕ, Option};
-ghost use Rattle.wasm_decode_groups.specs.ByCopy.{DecodesByCopy};
+ghost use Rattle.wasm_decode_groups.specs.OutOfLine.{with_error};
 ghost use Rattle.wasm_grammar.specs.declared.frame_kind.FrameKind.{FrameKind};
-ghost use Rattle.wasm_decode_opcodes.specs.Decoding.{IsAfterCode, DecodesAt};
+ghost use Rattle.wasm_decode_opcodes.specs.Decoding.{IsAfterCode, DecodesAt, DecodesOperatorAt};
 
-use wasm_below::{BinaryReader, Result};
-use wasm_decode_groups::ReaderCopy;
+use wasm_below::{BinaryReader, Error, Result};
+use wasm_decode_groups::no_error;
+use wasm_instr::Operator;
+use wasm_visit::Made;
 use wasm_visit_groups::Visitor;
 
 /// A decoder that starts after a prefix byte or after its subopcode, for the visitor `V`.
@@ -24,6 +26,8 @@ pub trait AfterPrefix<V: Visitor> {
         ensures { (frame : FrameKind) → DecodesAt V.visits frame start result reader.old reader.new v.old v.new };
 }
 
+/// Visits the operator. The call borrows a copy of the reader, so that the caller's reader stays in
+/// registers.
 #[inline(always)]
 pub fn visit_after_prefix<V: Visitor, B: AfterPrefix<V>>(
     v: &mut V,
@@ -34,12 +38,30 @@ pub fn visit_after_prefix<V: Visitor, B: AfterPrefix<V>>(
     requires { IsAfterCode start (B.prefix after) (B.code after) reader.old }
     ensures { (frame : FrameKind) → DecodesAt V.visits frame start result reader.old reader.new v.old v.new }
 {
-    let mut copy = ReaderCopy::new(reader);
-    let outcome = out_of_line(v, &mut copy, start, after);
-    copy.set_position_of(reader);
+    let mut error = no_error();
+    let mut copy = reader.clone();
+    let outcome = out_of_line(v, &mut copy, &mut error, start, after);
+    reader.set_position(copy.current_position());
     match outcome {
         Some(outcome) => Ok(outcome),
-        None => Err(copy.error),
+        None => Err(error),
+    }
+}
+
+/// Reads the operator. The call borrows the reader, since that of `read` is in memory.
+#[inline(always)]
+pub fn read_after_prefix<B: AfterPrefix<Made>>(
+    reader: &mut BinaryReader<'_>,
+    start: usize,
+    after: B,
+) -> Result<Operator<'static>>
+    requires { IsAfterCode start (B.prefix after) (B.code after) reader.old }
+    ensures { (frame : FrameKind) → DecodesOperatorAt frame start result reader.old reader.new }
+{
+    let mut error = no_error();
+    match out_of_line(&mut Made, reader, &mut error, start, after) {
+        Some(op) => Ok(op),
+        None => Err(error),
     }
 }
 
@@ -47,18 +69,19 @@ pub fn visit_after_prefix<V: Visitor, B: AfterPrefix<V>>(
 #[inline(never)]
 fn out_of_line<V: Visitor, B: AfterPrefix<V>>(
     v: &mut V,
-    copy: &mut ReaderCopy<'_>,
+    reader: &mut BinaryReader<'_>,
+    error: &mut Error,
     start: usize,
     after: B,
 ) -> Option<V::Output>
-    requires { IsAfterCode start (B.prefix after) (B.code after) copy.old.reader }
+    requires { IsAfterCode start (B.prefix after) (B.code after) reader.old }
     ensures { (frame : FrameKind)
-        → DecodesByCopy (λ r old new. DecodesAt V.visits frame start r old new v.old v.new) result copy.old copy.new }
+        → DecodesAt V.visits frame start (with_error result error.new) reader.old reader.new v.old v.new }
 {
-    match after.visit(v, &mut copy.reader, start) {
+    match after.visit(v, reader, start) {
         Ok(outcome) => Some(outcome),
         Err(e) => {
-            copy.error = e;
+            *error = e;
             None
         }
     }

@@ -1,18 +1,18 @@
 //! Reads an operator by the visitor `Made` or, with the prefix byte 0xfb, without a visitor.
 ghost use Rattle.std.specs.Prelude.{◌<◌, None, Some};
 ghost use Rattle.wasm_decode.specs.Reading.{DecodesOperatorIn, DecodesGcAt};
-ghost use Rattle.wasm_decode_groups.specs.ByCopy.{DecodesByCopy};
 ghost use Rattle.wasm_decode_groups.specs.OneByte.{IsOneByteCode};
+ghost use Rattle.wasm_decode_groups.specs.OutOfLine.{with_error};
 ghost use Rattle.wasm_grammar.specs.declared.frame_kind.FrameKind.{FrameKind};
 ghost use Rattle.wasm_decode_opcodes.specs.Decoding.{DecodesOperatorAt, IsAfterCode};
 
 use crate::after::{subopcode, vector_without_immediates};
-use crate::out_of_line::visit_after_prefix;
+use crate::out_of_line::read_after_prefix;
 use crate::prefixes::{Atomic, Misc, Simd};
 use crate::refusals::no_frame;
 use std::alloc::Global;
-use wasm_below::{BinaryReader, Result};
-use wasm_decode_groups::{ReaderCopy, below_0x20_by, numeric_by, one_byte_by, read_gc_operator};
+use wasm_below::{BinaryReader, Error, Result};
+use wasm_decode_groups::{below_0x20_by, no_error, numeric_by, one_byte_by, read_gc_operator};
 use wasm_decode_opcodes::immediates;
 use wasm_grammar::FrameKind;
 use wasm_instr::Operator;
@@ -62,11 +62,11 @@ pub fn read_after_opcode<'a>(
 {
     match code {
         0x0e => read_table(reader, start),
-        0xfb => read_gc(reader, start),
-        0xfd => read_simd(reader, start),
-        0xfc => visit_after_prefix(&mut Made, reader, start, Misc),
-        0xfe => visit_after_prefix(&mut Made, reader, start, Atomic),
         0x45..=0xc4 => Ok(numeric_by::<Made, ByAny>(&mut Made, code)),
+        0xfb => read_gc(reader, start),
+        0xfc => read_after_prefix(reader, start, Misc),
+        0xfd => read_simd(reader, start),
+        0xfe => read_after_prefix(reader, start, Atomic),
         _ => read_one_byte(alloc, reader, start, frame, code),
     }
 }
@@ -125,27 +125,29 @@ fn read_gc(reader: &mut BinaryReader<'_>, start: usize) -> Result<Operator<'stat
     requires { IsAfterCode start None 0xfb reader.old }
     ensures { (frame : FrameKind) → DecodesOperatorAt frame start result reader.old reader.new }
 {
-    let mut copy = ReaderCopy::new(reader);
-    let outcome = gc_out_of_line(&mut copy, start);
-    copy.set_position_of(reader);
-    match outcome {
+    let mut error = no_error();
+    match gc_out_of_line(reader, &mut error, start) {
         Some(op) => Ok(op),
-        None => Err(copy.error),
+        None => Err(error),
     }
 }
 
 /// Makes the `Operator` at an exit that no error reaches.
 #[cold]
 #[inline(never)]
-fn gc_out_of_line(copy: &mut ReaderCopy<'_>, start: usize) -> Option<Operator<'static>>
-    requires { IsAfterCode start None 0xfb copy.old.reader }
+fn gc_out_of_line(
+    reader: &mut BinaryReader<'_>,
+    error: &mut Error,
+    start: usize,
+) -> Option<Operator<'static>>
+    requires { IsAfterCode start None 0xfb reader.old }
     ensures { (frame : FrameKind)
-        → DecodesByCopy (λ r old new. DecodesOperatorAt frame start r old new) result copy.old copy.new }
+        → DecodesOperatorAt frame start (with_error result error.new) reader.old reader.new }
 {
-    let op = match gc_of(&mut copy.reader, start) {
+    let op = match gc_of(reader, start) {
         Ok(op) => op,
         Err(e) => {
-            copy.error = e;
+            *error = e;
             return None;
         }
     };
@@ -184,5 +186,5 @@ fn read_simd_of(reader: &mut BinaryReader<'_>, start: usize, code: u32) -> Resul
     if wasm_decode_groups::has_no_immediates(code) {
         return Ok(Operator::Simd(vector_without_immediates(code)));
     }
-    visit_after_prefix(&mut Made, reader, start, Simd { code })
+    read_after_prefix(reader, start, Simd { code })
 }

@@ -3,7 +3,9 @@ ghost use Rattle.wasm_grammar.specs.declared.frame_kind.FrameKind.{FrameKind};
 ghost use Rattle.wasm_imm.specs.Immediate.{branch_table, is_branch_table};
 ghost use Rattle.wasm_decode_opcodes.specs.Decoding.{DecodesIn, DecodesScalarIn, IsAfterCode, DecodesAt, DecodesScalarAt, ReadsKinds, GoesBack};
 
-use crate::after::{group_after_opcode, simd_after_prefix};
+use crate::after::simd_after_prefix;
+use crate::out_of_line::visit_after_prefix;
+use crate::prefixes::{Atomic, Gc, Misc};
 use crate::refusals::{no_frame, unexpected_simd};
 use std::alloc::Global;
 use wasm_below::{BinaryReader, Result};
@@ -61,8 +63,12 @@ pub fn visit_after_opcode_simd<'a, V: VisitOperator<'a>>(
 {
     match code {
         0x0e => table_after_opcode(v, reader, start),
+        0x45..=0xc4 => Ok(v.decode_numeric(code)),
+        0xfb => visit_after_prefix(v, reader, start, Gc),
+        0xfc => visit_after_prefix(v, reader, start, Misc),
         0xfd => simd_after_prefix(v, reader, start),
-        _ => group_after_opcode(alloc, v, reader, start, frame, code),
+        0xfe => visit_after_prefix(v, reader, start, Atomic),
+        _ => v.decode_one_byte(alloc, reader, start, frame, code),
     }
 }
 
@@ -108,8 +114,12 @@ pub fn visit_after_opcode<'a, V: VisitOperator<'a>>(
 {
     match code {
         0x0e => table_after_opcode(v, reader, start),
+        0x45..=0xc4 => Ok(v.decode_numeric(code)),
+        0xfb => visit_after_prefix(v, reader, start, Gc),
+        0xfc => visit_after_prefix(v, reader, start, Misc),
         0xfd => Err(unexpected_simd(reader, start)),
-        _ => group_after_opcode(alloc, v, reader, start, frame, code),
+        0xfe => visit_after_prefix(v, reader, start, Atomic),
+        _ => v.decode_one_byte(alloc, reader, start, frame, code),
     }
 }
 

@@ -1,5 +1,5 @@
 -- Decoding by a copy of the reader.
-use Rattle.std.proofs.Common.{◌≡◌, ℕ, ◌+◌, ◌≤◌, length, Option, Some, None, Result, Ok, Err, sym, subst, ap, ◌∙◌, arith}
+use Rattle.std.proofs.Common.{◌≡◌, ℕ, ◌+◌, ◌≤◌, length, Option, Result, Ok, Err, sym, subst, ap, ◌∙◌, arith}
 use Rattle.wasm_below.specs.declared.error.Error.{Error}
 use Rattle.wasm_below.specs.Source.{Reader, at_position, Takes}
 use Rattle.wasm_below.proofs.TakesLemmas.{within_buffer}
@@ -7,8 +7,7 @@ use Rattle.wasm_grammar.specs.declared.frame_kind.FrameKind.{FrameKind}
 use Rattle.wasm_instr.specs.declared.operator.Operator.{Operator}
 use Rattle.wasm_decode_opcodes.specs.Decoding.{DecodesAt, IsAfterCode}
 use Rattle.wasm_decode_opcodes.proofs.OperatorLemmas.{within_after_code}
-use Rattle.wasm_decode_groups.specs.ByCopy.{DecodesByCopy}
-use Rattle.wasm_decode_groups.specs.declared.reader_copy.ReaderCopy.{ReaderCopy}
+use Rattle.wasm_decode_groups.specs.OutOfLine.{with_error}
 
 -- a call changes only the reader's position
 position_alone : {V A : Type 0} (visits : V → Operator → A → V → Type 0) (k : FrameKind) (start : ℕ) (result : Result A Error) (old mid : Reader) (v w : V) →
@@ -40,8 +39,7 @@ module _ {V A : Type 0} (visits : V → Operator → A → V → Type 0) (k : Fr
       subst (λ r. DecodesAt visits k start result old r v w) (sym e) read
 
 -- the position of the copy is at most the length of the bytes
-pub left_within : {V A : Type 0} (visits : V → Operator → A → V → Type 0) (k : FrameKind) (start : ℕ) (old : Reader) (copy left : ReaderCopy) (v w : V) (p : Option ℕ) (code : ℕ)
-    (outcome : Option A) → copy.reader ≡ old → IsAfterCode start p code old → DecodesByCopy (λ r a b. DecodesAt visits k start r a b v w) outcome copy left →
-    left.reader.position ≤ length old.buffer
-left_within visits k start old copy left v w p code (Some a) same b h = copy_within visits k start old copy.reader left.reader v w same p code (Ok a) b h
-left_within visits k start old copy left v w p code None same b h = copy_within visits k start old copy.reader left.reader v w same p code (Err left.error) b h
+pub left_within : {V A : Type 0} (visits : V → Operator → A → V → Type 0) (k : FrameKind) (start : ℕ) (old copy left : Reader) (error : Error) (v w : V) (p : Option ℕ) (code : ℕ)
+    (outcome : Option A) → copy ≡ old → IsAfterCode start p code old → DecodesAt visits k start (with_error outcome error) copy left v w →
+    left.position ≤ length old.buffer
+left_within visits k start old copy left error v w p code outcome same b h = copy_within visits k start old copy left v w same p code (with_error outcome error) b h

@@ -1,4 +1,4 @@
 pub mod Arms
-pub mod ByCopy
 pub mod OneByte
+pub mod OutOfLine
 pub mod WithoutImmediates

@@ -11,7 +11,6 @@ mod one_byte_arms;
 mod one_byte_operators;
 mod out_of_line;
 mod read_arm;
-mod reader_copy;
 mod simd_high_operators;
 mod simd_low_operators;
 mod vectors_without_immediates;
@@ -21,7 +20,7 @@ pub use gc_operators::{AtGc, gc, gc_by, read_gc_operator};
 pub use misc_operators::{AtMisc, misc, misc_by};
 pub use numeric_operators::{numeric, numeric_by};
 pub use one_byte_operators::{AtOneByte, below_0x20, below_0x20_by, one_byte, one_byte_by};
-pub use reader_copy::ReaderCopy;
+pub use out_of_line::no_error;
 pub use simd_high_operators::{AtSimdHigh, simd_high, simd_high_by};
 pub use simd_low_operators::{AtSimdLow, simd_low, simd_low_by};
 pub use vectors_without_immediates::{

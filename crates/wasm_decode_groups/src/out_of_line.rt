@@ -1,17 +1,23 @@
 //! The less frequent operators with a one-byte opcode, decoded by one call that is not inlined.
 ghost use Rattle.std.specs.Prelude.{None};
-ghost use Rattle.wasm_decode_groups.specs.ByCopy.{DecodesByCopy};
 ghost use Rattle.wasm_decode_groups.specs.OneByte.{IsOneByteCode};
+ghost use Rattle.wasm_decode_groups.specs.OutOfLine.{with_error};
 ghost use Rattle.wasm_decode_opcodes.specs.Decoding.{DecodesAt, IsAfterCode};
 
 use crate::one_byte_operators::{AtOneByte, any_one_byte_by};
-use crate::reader_copy::ReaderCopy;
 use std::alloc::Global;
-use wasm_below::{BinaryReader, Result};
+use wasm_below::{BinaryReader, Error, Message, Result};
 use wasm_grammar::FrameKind;
 use wasm_visit_groups::Visitor;
 
-/// Reads the immediates of an operator with a one-byte opcode and passes them to `R`.
+/// Returns a placeholder, which a call that is not inlined overwrites if it fails.
+#[inline(always)]
+pub fn no_error() -> Error {
+    Error::new(Message::EndOfData, 0)
+}
+
+/// Reads the immediates of an operator with a one-byte opcode and passes them to `R`. The call
+/// borrows a copy of the reader, so that the caller's reader stays in registers.
 #[inline(always)]
 pub fn other_one_byte_by<V: Visitor, R: AtOneByte<V>>(
     alloc: Global,
@@ -25,12 +31,13 @@ pub fn other_one_byte_by<V: Visitor, R: AtOneByte<V>>(
     requires apart { IsOneByteCode code }
     ensures { DecodesAt V.visits frame start result reader.old reader.new v.old v.new }
 {
-    let mut copy = ReaderCopy::new(reader);
-    let outcome = out_of_line::<V, R>(alloc, v, &mut copy, start, frame, code);
-    copy.set_position_of(reader);
+    let mut error = no_error();
+    let mut copy = reader.clone();
+    let outcome = out_of_line::<V, R>(alloc, v, &mut copy, &mut error, start, frame, code);
+    reader.set_position(copy.current_position());
     match outcome {
         Some(outcome) => Ok(outcome),
-        None => Err(copy.error),
+        None => Err(error),
     }
 }
 
@@ -39,19 +46,20 @@ pub fn other_one_byte_by<V: Visitor, R: AtOneByte<V>>(
 fn out_of_line<V: Visitor, R: AtOneByte<V>>(
     alloc: Global,
     v: &mut V,
-    copy: &mut ReaderCopy<'_>,
+    reader: &mut BinaryReader<'_>,
+    error: &mut Error,
     start: usize,
     frame: FrameKind,
     code: u8,
 ) -> Option<V::Output>
-    requires after { IsAfterCode start None code copy.old.reader }
+    requires after { IsAfterCode start None code reader.old }
     requires apart { IsOneByteCode code }
-    ensures { DecodesByCopy (λ r old new. DecodesAt V.visits frame start r old new v.old v.new) result copy.old copy.new }
+    ensures { DecodesAt V.visits frame start (with_error result error.new) reader.old reader.new v.old v.new }
 {
-    match any_one_byte_by::<V, R>(alloc, v, &mut copy.reader, start, frame, code) {
+    match any_one_byte_by::<V, R>(alloc, v, reader, start, frame, code) {
         Ok(outcome) => Some(outcome),
         Err(e) => {
-            copy.error = e;
+            *error = e;
             None
         }
     }

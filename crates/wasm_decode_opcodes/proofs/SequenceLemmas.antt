@@ -1,6 +1,6 @@
 -- Sequences whose reader goes back only at the end.
-use Rattle.std.proofs.Common.{◌≡◌, ℕ, ◌+◌, ◌≤◌, inl, inr, List, [], ◌∷◌, ◌++◌, length, length-append, drop, Err, map, refl, sym, subst, ap, ◌∙◌, append_assoc, arith}
-use Rattle.std.proofs.lemmas.List.{drop-drop}
+use Rattle.std.proofs.Common.{◌≡◌, ℕ, ◌+◌, ◌≤◌, inl, inr, List, [], ◌∷◌, ◌++◌, length, length-append, drop, Result, Ok, Err, map, refl, sym, subst, ap, ◌∙◌, append_assoc, arith}
+use Rattle.std.proofs.lemmas.List.{append-nil, drop-drop}
 use Rattle.std.proofs.Math.Seq.{drop-append_seam}
 use Rattle.wasm_below.specs.declared.error.Error.{Error}
 use Rattle.wasm_below.specs.declared.features.WasmFeatures.{WasmFeatures}
@@ -10,7 +10,7 @@ use Rattle.wasm_below.proofs.TakesLemmas.{takes_then, same_rest}
 use Rattle.wasm_imm.specs.Orderings.{EncodesFence, FenceFault}
 use Rattle.wasm_imm.specs.Immediate.{Immediate, Kind, is_fence_order, kind_of, EncodesImmediates}
 use Rattle.wasm_imm.proofs.ImmediatePrefixCodes.{immediates_prefix_code}
-use Rattle.wasm_decode_opcodes.specs.Decoding.{IsRefusedKinds, StaysAhead}
+use Rattle.wasm_decode_opcodes.specs.Decoding.{IsRefusedKinds, ReadsKinds, StaysAhead}
 use Rattle.wasm_decode_opcodes.specs.Kinds.{EncodesKinds}
 use Rattle.wasm_decode_opcodes.specs.OperatorFaults.{KindFault, KindsFault}
 use Rattle.wasm_decode_opcodes.proofs.KindLemmas.{OfKind, RefusesKinds, first_refused, fence_refused, moved_features, moved_start}
@@ -115,6 +115,14 @@ pub one_failed : {X : Type 0} (P : List ℕ → X → Type 0) (k : Kind) (immedi
     start ≤ old.position → Reads P (KindFault old.features (old.start + start) k) (Err e) old new → FailsKinds (k ∷ []) (λ r. ⊥) start e old new
 one_failed P k immediate start e old new o begun h =
     (stays start old new h.0, (first_refused P k [] immediate (λ r. ⊥) start e old new (at_position new start) o begun h refl).1)
+
+-- a call that reads one immediate
+pub one_read : {X : Type 0} (P : List ℕ → X → Type 0) (k : Kind) (immediate : X → Immediate) (start : ℕ) (result : Result X Error) (old new : Reader) →
+    OfKind P old.features k immediate → start ≤ old.position → Reads P (KindFault old.features (old.start + start) k) result old new →
+    ReadsKinds (k ∷ []) (λ x. immediate x ∷ []) (λ r. ⊥) StaysAhead start result old new
+one_read P k immediate start (Ok x) old new o begun (text, p, t) =
+    (text, (ap (λ z. z ∷ []) (o.kind x), (text, [], sym (append-nil text), o.encodes text x p, refl)), t)
+one_read P k immediate start (Err e) old new o begun h = one_failed P k immediate start e old new o begun h
 
 pub fence_failed : (start begun : ℕ) (e : Error) (old new : Reader) → begun ≡ old.start + start → start ≤ old.position →
     ReadsFrom begun (EncodesFence old.features) (FenceFault old.features begun) (Err e) old new → FailsKinds (is_fence_order ∷ []) (λ r. ⊥) start e old new

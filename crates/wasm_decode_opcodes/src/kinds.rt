@@ -85,10 +85,7 @@ impl Immediates for u32 {
 
     #[inline(always)]
     fn read(reader: &mut BinaryReader<'_>, _start: usize, _bound: u8) -> Result<u32> {
-        match reader.read_var_u32() {
-            Ok(read) => Ok(read),
-            Err(e) => Err(e),
-        }
+        reader.read_var_u32()
     }
 }
 
@@ -99,10 +96,7 @@ impl Immediates for i32 {
 
     #[inline(always)]
     fn read(reader: &mut BinaryReader<'_>, _start: usize, _bound: u8) -> Result<i32> {
-        match reader.read_var_i32() {
-            Ok(read) => Ok(read),
-            Err(e) => Err(e),
-        }
+        reader.read_var_i32()
     }
 }
 
@@ -113,10 +107,7 @@ impl Immediates for i64 {
 
     #[inline(always)]
     fn read(reader: &mut BinaryReader<'_>, _start: usize, _bound: u8) -> Result<i64> {
-        match reader.read_var_i64() {
-            Ok(read) => Ok(read),
-            Err(e) => Err(e),
-        }
+        reader.read_var_i64()
     }
 }
 
@@ -127,10 +118,7 @@ impl Immediates for Ieee32 {
 
     #[inline(always)]
     fn read(reader: &mut BinaryReader<'_>, _start: usize, _bound: u8) -> Result<Ieee32> {
-        match reader.read_f32() {
-            Ok(read) => Ok(read),
-            Err(e) => Err(e),
-        }
+        reader.read_f32()
     }
 }
 
@@ -141,10 +129,7 @@ impl Immediates for Ieee64 {
 
     #[inline(always)]
     fn read(reader: &mut BinaryReader<'_>, _start: usize, _bound: u8) -> Result<Ieee64> {
-        match reader.read_f64() {
-            Ok(read) => Ok(read),
-            Err(e) => Err(e),
-        }
+        reader.read_f64()
     }
 }
 
@@ -225,10 +210,7 @@ impl Immediates for BlockType {
 
     #[inline(always)]
     fn read(reader: &mut BinaryReader<'_>, _start: usize, _bound: u8) -> Result<BlockType> {
-        match BlockType::read(reader) {
-            Ok(read) => Ok(read),
-            Err(e) => Err(e),
-        }
+        BlockType::read(reader)
     }
 }
 

@@ -15,20 +15,6 @@ read_one_byte-requires-clause-apart c =
       numeric = λ from to. grind (arith, from, to);
     }
 
-pub returns-in-252 : goal.returns-in-252
-returns-in-252 c =
-    let r = c.args.reader.now in
-    let k = c.args.frame in
-    let call = c.visit_after_prefix in
-    as_read (EncodesAllowed r.features k) (OperatorFault r.features k) (at_position r c.args.start) call.new.reader _ call.new.v call.result (call.ensures k)
-
-pub returns-in-254 : goal.returns-in-254
-returns-in-254 c =
-    let r = c.args.reader.now in
-    let k = c.args.frame in
-    let call = c.visit_after_prefix-in-254 in
-    as_read (EncodesAllowed r.features k) (OperatorFault r.features k) (at_position r c.args.start) call.new.reader _ call.new.v call.result (call.ensures k)
-
 pub returns-in-69-to-196 : goal.returns-in-69-to-196
 returns-in-69-to-196 c =
     let r = c.args.reader.now in

@@ -18,8 +18,3 @@ returns-then-has_no_immediates c k =
     as_read (EncodesAllowed r.features k) (OperatorFault r.features k) (at_position r c.args.start) r r r (Ok (operator.Simd op.result))
     (visited_without_immediates {V = Reader} (λ before op outcome after. outcome ≡ op) (OperatorFault r.features k) k (Some 0xfd) c.args.code c.args.start r r r (operator.Simd op.result) is c.requires
     (operator.Simd op.result, refl, op.ensures.0, op.ensures.1, refl))
-
-pub returns : goal.returns
-returns c k =
-    let r = c.args.reader.now in
-    as_read (EncodesAllowed r.features k) (OperatorFault r.features k) (at_position r c.args.start) c.visit_after_prefix.new.reader _ c.visit_after_prefix.new.v c.visit_after_prefix.result (c.visit_after_prefix.ensures k)
