@@ -9,7 +9,7 @@ use wasm_visit::{HoldOperator, HoldTable, VisitOperator};
 use wasm_visit_groups::{ByAny, Visitor};
 
 /// Appends an item made of the operator, with the offset that was set before the visit. The item is
-/// made in place.
+/// made in place. The capacity was reserved before the visit, so that no visit allocates.
 #[derive(Drop)]
 pub struct Collector<T> {
     pub items: Vec<(T, u64)>,
@@ -28,13 +28,19 @@ impl<T: HoldOperator + Drop> Visitor for Collector<T> {
 
     #[inline(always)]
     fn visit_any(&mut self, op: Operator<'static>) {
-        let _ = self.items.push((T::hold_operator(op), self.offset));
+        if self.items.len() < self.items.capacity() {
+            self.items
+                .push_reserved((T::hold_operator(op), self.offset));
+        }
     }
 }
 
 impl<'a, T: HoldTable<'a> + Drop> VisitOperator<'a> for Collector<T> {
     #[inline(always)]
     fn visit_br_table(&mut self, targets: BrTable<'a>) {
-        let _ = self.items.push((T::hold_table(targets), self.offset));
+        if self.items.len() < self.items.capacity() {
+            self.items
+                .push_reserved((T::hold_table(targets), self.offset));
+        }
     }
 }
