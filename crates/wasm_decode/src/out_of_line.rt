@@ -48,7 +48,7 @@ pub fn visit_after_prefix<V: Visitor, B: AfterPrefix<V>>(
     }
 }
 
-/// Reads the operator. The call borrows the reader, since that of `read` is in memory.
+/// Reads the operator. The call borrows the reader itself, which `read` has in memory anyway.
 #[inline(always)]
 pub fn read_after_prefix<B: AfterPrefix<Made>>(
     reader: &mut BinaryReader<'_>,
