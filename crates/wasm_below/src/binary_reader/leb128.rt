@@ -172,7 +172,10 @@ impl<'a> BinaryReader<'a> {
     }
 }
 
-/// Replaces `IntegerTooLarge` by `IntegerTooLong`: `read_var_s33` reports both with one text.
+/// Replaces `IntegerTooLarge` by `IntegerTooLong`: `read_var_s33` reports both with one text. Inlined,
+/// it would make the compiler keep a number as single bytes.
+#[cold]
+#[inline(never)]
 fn as_too_long(e: Error) -> Error
     ensures offset { result.offset ≡ e.offset }
     ensures message { result.message ≡ as_too_long e.message }

@@ -49,13 +49,11 @@ impl HeapType {
     pub fn read(reader: &mut BinaryReader<'_>) -> Result<HeapType>
         ensures { Reads EncodesHeapType HeapTypeFault result reader.old reader.new }
     {
-        match reader.peek() {
-            Ok(byte @ 0x00..=0x3f) => {
-                reader.advance();
-                Ok(HeapType::Concrete(u32::from(byte)))
-            }
-            _ => HeapType::read_other(reader),
+        if let Ok(byte @ 0x00..=0x3f) = reader.peek() {
+            reader.advance();
+            return Ok(HeapType::Concrete(u32::from(byte)));
         }
+        HeapType::read_other(reader)
     }
 
     /// Reads like `read`, which is faster for an index of one byte.
