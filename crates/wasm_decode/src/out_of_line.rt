@@ -21,8 +21,12 @@ pub trait AfterPrefix<V: Visitor> {
     // The code that was read last: the prefix byte or the subopcode.
     ghost code: { Self → ℕ };
 
+    // The codes that it decodes.
+    ghost codes: { ℕ → Type 0 } = { λ code. Unit {0} };
+
     fn visit(self, v: &mut V, reader: &mut BinaryReader<'_>, start: usize) -> Result<V::Output>
-        requires { IsAfterCode start (prefix self) (code self) reader.old }
+        requires after { IsAfterCode start (prefix self) (code self) reader.old }
+        requires codes { codes (code self) }
         ensures { (frame : FrameKind) → DecodesAt V.visits frame start result reader.old reader.new v.old v.new };
 }
 
@@ -35,7 +39,8 @@ pub fn visit_after_prefix<V: Visitor, B: AfterPrefix<V>>(
     start: usize,
     after: B,
 ) -> Result<V::Output>
-    requires { IsAfterCode start (B.prefix after) (B.code after) reader.old }
+    requires after { IsAfterCode start (B.prefix after) (B.code after) reader.old }
+    requires codes { B.codes (B.code after) }
     ensures { (frame : FrameKind) → DecodesAt V.visits frame start result reader.old reader.new v.old v.new }
 {
     let mut error = no_error();
@@ -55,7 +60,8 @@ pub fn read_after_prefix<B: AfterPrefix<Made>>(
     start: usize,
     after: B,
 ) -> Result<Operator<'static>>
-    requires { IsAfterCode start (B.prefix after) (B.code after) reader.old }
+    requires after { IsAfterCode start (B.prefix after) (B.code after) reader.old }
+    requires codes { B.codes (B.code after) }
     ensures { (frame : FrameKind) → DecodesOperatorAt frame start result reader.old reader.new }
 {
     let mut error = no_error();
@@ -74,7 +80,8 @@ fn out_of_line<V: Visitor, B: AfterPrefix<V>>(
     start: usize,
     after: B,
 ) -> Option<V::Output>
-    requires { IsAfterCode start (B.prefix after) (B.code after) reader.old }
+    requires after { IsAfterCode start (B.prefix after) (B.code after) reader.old }
+    requires codes { B.codes (B.code after) }
     ensures { (frame : FrameKind)
         → DecodesAt V.visits frame start (with_error result error.new) reader.old reader.new v.old v.new }
 {

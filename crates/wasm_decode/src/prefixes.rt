@@ -1,10 +1,15 @@
 //! Decoders that start after a prefix byte.
-ghost use Rattle.std.specs.Prelude.{Some, None};
+ghost use Rattle.std.specs.Prelude.{◌≢◌, ◌≤◌, Some, None};
 
 use crate::after::subopcode;
 use crate::out_of_line::AfterPrefix;
 use wasm_below::{BinaryReader, Result};
+use wasm_decode_opcodes::unknown_opcode;
 use wasm_visit::{GroupAtomic, GroupGc, GroupMisc, GroupSimdHigh, GroupSimdLow};
+
+/// From here on, a byte is a prefix byte or 0xff, which is no opcode. One comparison separates these
+/// from the opcodes.
+pub const FIRST_PREFIX: u8 = 0xfb;
 
 /// The decoder after the prefix byte 0xfb.
 #[derive(Drop)]
@@ -24,38 +29,31 @@ impl<V: GroupGc> AfterPrefix<V> for Gc {
     }
 }
 
-/// The decoder after the prefix byte 0xfc.
+/// The decoder after the prefix bytes 0xfc and 0xfe, and after 0xff, which is no opcode.
 #[derive(Drop)]
-pub struct Misc;
-
-impl<V: GroupMisc> AfterPrefix<V> for Misc {
-    ghost prefix = { λ it. None };
-
-    ghost code = { λ it. 0xfc };
-
-    #[inline(always)]
-    fn visit(self, v: &mut V, reader: &mut BinaryReader<'_>, start: usize) -> Result<V::Output> {
-        match subopcode(reader, start, 0xfc) {
-            Ok(code) => v.decode_misc(reader, start, code),
-            Err(e) => Err(e),
-        }
-    }
+pub struct OtherPrefix {
+    pub byte: u8,
 }
 
-/// The decoder after the prefix byte 0xfe.
-#[derive(Drop)]
-pub struct Atomic;
-
-impl<V: GroupAtomic> AfterPrefix<V> for Atomic {
+impl<V: GroupMisc + GroupAtomic> AfterPrefix<V> for OtherPrefix {
     ghost prefix = { λ it. None };
 
-    ghost code = { λ it. 0xfe };
+    ghost code = { λ it. it.byte };
+
+    ghost codes = { λ code. (0xfc ≤ code) × (code ≢ 0xfd) };
 
     #[inline(always)]
     fn visit(self, v: &mut V, reader: &mut BinaryReader<'_>, start: usize) -> Result<V::Output> {
-        match subopcode(reader, start, 0xfe) {
-            Ok(code) => v.decode_atomic(reader, start, code),
-            Err(e) => Err(e),
+        match self.byte {
+            0xfc => match subopcode(reader, start, 0xfc) {
+                Ok(code) => v.decode_misc(reader, start, code),
+                Err(e) => Err(e),
+            },
+            0xfe => match subopcode(reader, start, 0xfe) {
+                Ok(code) => v.decode_atomic(reader, start, code),
+                Err(e) => Err(e),
+            },
+            byte => Err(unknown_opcode(reader, start, byte)),
         }
     }
 }

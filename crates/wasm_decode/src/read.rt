@@ -1,14 +1,15 @@
 //! Reads an operator by the visitor `Made` or, with the prefix byte 0xfb, without a visitor.
-ghost use Rattle.std.specs.Prelude.{◌<◌, None, Some};
+ghost use Rattle.std.specs.Prelude.{◌≡◌, ◌<◌, None, Some};
 ghost use Rattle.wasm_decode.specs.Reading.{DecodesOperatorIn, DecodesGcAt};
 ghost use Rattle.wasm_decode_groups.specs.OneByte.{IsOneByteCode};
 ghost use Rattle.wasm_decode_groups.specs.OutOfLine.{with_error};
 ghost use Rattle.wasm_grammar.specs.declared.frame_kind.FrameKind.{FrameKind};
+ghost use Rattle.wasm_instr.specs.declared.operator.Operator.{Operator};
 ghost use Rattle.wasm_decode_opcodes.specs.Decoding.{DecodesOperatorAt, IsAfterCode};
 
 use crate::after::{subopcode, vector_without_immediates};
 use crate::out_of_line::read_after_prefix;
-use crate::prefixes::{Atomic, Misc, Simd};
+use crate::prefixes::{FIRST_PREFIX, OtherPrefix, Simd};
 use crate::refusals::no_frame;
 use std::alloc::Global;
 use wasm_below::{BinaryReader, Error, Result};
@@ -60,14 +61,18 @@ pub fn read_after_opcode<'a>(
     requires { IsAfterCode start None code reader.old }
     ensures { DecodesOperatorAt frame start result reader.old reader.new }
 {
-    match code {
-        0x0e => read_table(reader, start),
-        0x45..=0xc4 => Ok(numeric_by::<Made, ByAny>(&mut Made, code)),
-        0xfb => read_gc(reader, start),
-        0xfc => read_after_prefix(reader, start, Misc),
-        0xfd => read_simd(reader, start),
-        0xfe => read_after_prefix(reader, start, Atomic),
-        _ => read_one_byte(alloc, reader, start, frame, code),
+    if code >= FIRST_PREFIX {
+        match code {
+            0xfb => read_gc(reader, start),
+            0xfd => read_simd(reader, start),
+            byte => read_after_prefix(reader, start, OtherPrefix { byte }),
+        }
+    } else {
+        match code {
+            0x0e => read_table(reader, start),
+            0x45..=0xc4 => Ok(numeric_by::<Made, ByAny>(&mut Made, code)),
+            _ => read_one_byte(alloc, reader, start, frame, code),
+        }
     }
 }
 
@@ -151,6 +156,14 @@ fn gc_out_of_line(
             return None;
         }
     };
+    some_gc(op)
+}
+
+/// Made apart, so that the unused bytes of the result are cleared here and nowhere else.
+#[inline(always)]
+fn some_gc(op: GcOperator) -> Option<Operator<'static>>
+    ensures { result ≡ Some (Operator.Gc op) }
+{
     Some(Operator::Gc(op))
 }
 

@@ -5,7 +5,7 @@ ghost use Rattle.wasm_decode_opcodes.specs.Decoding.{DecodesIn, DecodesScalarIn,
 
 use crate::after::simd_after_prefix;
 use crate::out_of_line::visit_after_prefix;
-use crate::prefixes::{Atomic, Gc, Misc};
+use crate::prefixes::{FIRST_PREFIX, Gc, OtherPrefix};
 use crate::refusals::{no_frame, unexpected_simd};
 use std::alloc::Global;
 use wasm_below::{BinaryReader, Result};
@@ -61,14 +61,18 @@ pub fn visit_after_opcode_simd<'a, V: VisitOperator<'a>>(
     requires { IsAfterCode start None code reader.old }
     ensures { DecodesAt V.visits frame start result reader.old reader.new v.old v.new }
 {
-    match code {
-        0x0e => table_after_opcode(v, reader, start),
-        0x45..=0xc4 => Ok(v.decode_numeric(code)),
-        0xfb => visit_after_prefix(v, reader, start, Gc),
-        0xfc => visit_after_prefix(v, reader, start, Misc),
-        0xfd => simd_after_prefix(v, reader, start),
-        0xfe => visit_after_prefix(v, reader, start, Atomic),
-        _ => v.decode_one_byte(alloc, reader, start, frame, code),
+    if code >= FIRST_PREFIX {
+        match code {
+            0xfb => visit_after_prefix(v, reader, start, Gc),
+            0xfd => simd_after_prefix(v, reader, start),
+            byte => visit_after_prefix(v, reader, start, OtherPrefix { byte }),
+        }
+    } else {
+        match code {
+            0x0e => table_after_opcode(v, reader, start),
+            0x45..=0xc4 => Ok(v.decode_numeric(code)),
+            _ => v.decode_one_byte(alloc, reader, start, frame, code),
+        }
     }
 }
 
@@ -112,14 +116,18 @@ pub fn visit_after_opcode<'a, V: VisitOperator<'a>>(
     requires { IsAfterCode start None code reader.old }
     ensures { DecodesScalarAt V.visits frame start result reader.old reader.new v.old v.new }
 {
-    match code {
-        0x0e => table_after_opcode(v, reader, start),
-        0x45..=0xc4 => Ok(v.decode_numeric(code)),
-        0xfb => visit_after_prefix(v, reader, start, Gc),
-        0xfc => visit_after_prefix(v, reader, start, Misc),
-        0xfd => Err(unexpected_simd(reader, start)),
-        0xfe => visit_after_prefix(v, reader, start, Atomic),
-        _ => v.decode_one_byte(alloc, reader, start, frame, code),
+    if code >= FIRST_PREFIX {
+        match code {
+            0xfb => visit_after_prefix(v, reader, start, Gc),
+            0xfd => Err(unexpected_simd(reader, start)),
+            byte => visit_after_prefix(v, reader, start, OtherPrefix { byte }),
+        }
+    } else {
+        match code {
+            0x0e => table_after_opcode(v, reader, start),
+            0x45..=0xc4 => Ok(v.decode_numeric(code)),
+            _ => v.decode_one_byte(alloc, reader, start, frame, code),
+        }
     }
 }
 

@@ -10,7 +10,7 @@ set_position-requires g c =
     let after = c.args.after in
     let old = c.args.reader.now in
     let within = left_within g.V.Visitor.visits frame_kind.Block c.args.start old c.clone-copy.result call.new.reader call.new.error c.args.v.now call.new.v
-    (g.B.AfterPrefix.prefix after) (g.B.AfterPrefix.code after) call.result c.clone-copy.ensures c.requires (call.ensures frame_kind.Block) in
+    (g.B.AfterPrefix.prefix after) (g.B.AfterPrefix.code after) call.result c.clone-copy.ensures c.requires.after (call.ensures frame_kind.Block) in
     subst (λ n. n ≤ length old.buffer) (sym c.current_position.ensures) within
 
 pub returns-in-Some : goal.returns-in-Some

@@ -26,20 +26,14 @@ returns-in-251 g c =
     to_scalar g.V.Visitor.visits c.args.frame c.args.start c.args.code c.args.reader.now call.new.reader c.args.v.now call.new.v call.result
     (λ h. grind (arith, h)) c.requires (call.ensures c.args.frame)
 
-pub returns-in-252 : goal.returns-in-252
-returns-in-252 g c =
-    let call = c.visit_after_prefix-in-252 in
-    to_scalar g.V.Visitor.visits c.args.frame c.args.start c.args.code c.args.reader.now call.new.reader c.args.v.now call.new.v call.result
-    (λ h. grind (arith, h)) c.requires (call.ensures c.args.frame)
-
 pub returns-in-253 : goal.returns-in-253
 returns-in-253 g c = (refl, c.unexpected_simd.ensures c.args.frame)
 
-pub returns-in-254 : goal.returns-in-254
-returns-in-254 g c =
-    let call = c.visit_after_prefix-in-254 in
+pub returns-in_default : goal.returns-in_default
+returns-in_default g c =
+    let call = c.visit_after_prefix-in_default in
     to_scalar g.V.Visitor.visits c.args.frame c.args.start c.args.code c.args.reader.now call.new.reader c.args.v.now call.new.v call.result
-    (λ h. grind (arith, h)) c.requires (call.ensures c.args.frame)
+    (λ h. grind (arith, h, c.in_default)) c.requires (call.ensures c.args.frame)
 
 pub decode_one_byte-requires-clause-apart : goal.decode_one_byte-requires-clause-apart
 decode_one_byte-requires-clause-apart g c =
@@ -49,8 +43,8 @@ decode_one_byte-requires-clause-apart g c =
       numeric = λ from to. grind (arith, from, to);
     }
 
-pub returns-in_default : goal.returns-in_default
-returns-in_default g c =
+pub returns-in_default-code : goal.returns-in_default-code
+returns-in_default-code g c =
     let call = c.decode_one_byte in
     to_scalar g.V.Visitor.visits c.args.frame c.args.start c.args.code c.args.reader.now call.new.reader c.args.v.now call.new.self call.result
     (λ h. grind (arith, h)) c.requires call.ensures
