@@ -76,6 +76,8 @@ pub fn visit_next<'a, V: VisitOperator<'a>>(
     }
 }
 
+/// Visits to the end of the data or to an error. Whether data is left is found after each visit, so
+/// that the compiler jumps from there to the next visit, without a test for an error.
 #[inline(always)]
 pub fn visit_rest_simd<'a, V>(
     alloc: Global,
@@ -91,15 +93,18 @@ where
     ensures end { OnOk result (rest reader.new ≡ []) }
     ensures stopped { IfErr result (λ e. StopsRun simd e (state_of reader.new control.new)) }
 {
-    'visits: while !reader.eof() {
+    let mut more = !reader.eof();
+    'visits: while more {
         match visit_next_simd(alloc, v, reader, control) {
             Ok(_) => {}
             Err(e) => return Err(e),
         }
+        more = !reader.eof();
     }
     Ok(())
 }
 
+/// Visits like `visit_rest_simd`, for a visitor without SIMD operators.
 #[inline(always)]
 pub fn visit_rest<'a, V: VisitOperator<'a>>(
     alloc: Global,
@@ -114,11 +119,13 @@ where
     ensures end { OnOk result (rest reader.new ≡ []) }
     ensures stopped { IfErr result (λ e. StopsRun scalar e (state_of reader.new control.new)) }
 {
-    'scalar_visits: while !reader.eof() {
+    let mut more = !reader.eof();
+    'scalar_visits: while more {
         match visit_next(alloc, v, reader, control) {
             Ok(_) => {}
             Err(e) => return Err(e),
         }
+        more = !reader.eof();
     }
     Ok(())
 }

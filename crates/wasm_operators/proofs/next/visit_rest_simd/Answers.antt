@@ -9,23 +9,26 @@ use Rattle.wasm_operators.proofs.DecoderPremises.{sound}
 use Rattle.wasm_operators.proofs.next.visit_rest_simd.Goals as goal
 
 pub visits-init : goal.visits-init
-visits-init g c = ([], ([], (refl, refl)), ran_start (state_of c.args.reader.now c.args.control.now))
+visits-init g c = (([], ([], (refl, refl)), ran_start (state_of c.args.reader.now c.args.control.now)), (search rules, search rules))
 
 pub visits-preserved : goal.visits-preserved
 visits-preserved g c =
-    let i = c.visits.invariant in
+    let i = c.visits.invariant.0 in
     let h = c.in-Ok.ensures in
     let s = state_of c.visits.reader c.visits.control in
     let op = h.0 in
     let at = offset_of s.reader in (
-      i.0 ++ (op, at) ∷ [],
-      visited_push g.V.Visitor.visits i.0 op at c.in-Ok.field-0 c.args.v.now c.visits.v c.visit_next_simd.new.v i.1 h.2,
-      ran_push EncodesAllowed sound (state_of c.args.reader.now c.args.control.now) s (state_of c.visit_next_simd.new.reader c.visit_next_simd.new.control) i.0 op i.2 h.1,
+      (
+        i.0 ++ (op, at) ∷ [],
+        visited_push g.V.Visitor.visits i.0 op at c.in-Ok.field-0 c.args.v.now c.visits.v c.visit_next_simd.new.v i.1 h.2,
+        ran_push EncodesAllowed sound (state_of c.args.reader.now c.args.control.now) s (state_of c.visit_next_simd.new.reader c.visit_next_simd.new.control) i.0 op i.2 h.1,
+      ),
+      (search rules, search rules),
     )
 
 pub returns-in-Err-clause-visited : goal.returns-in-Err-clause-visited
 returns-in-Err-clause-visited g c =
-    let i = c.visits.invariant in
+    let i = c.visits.invariant.0 in
     let h = c.in-Err.ensures in (
       i.0,
       subst (λ w. Visited g.V.Visitor.visits c.args.v.now w i.0) (sym h.1) i.1,
@@ -35,5 +38,8 @@ returns-in-Err-clause-visited g c =
 pub returns-in-Err-clause-stopped : goal.returns-in-Err-clause-stopped
 returns-in-Err-clause-stopped g c =
     let h = c.in-Err.ensures in
-    let left : rest c.visits.reader ≡ [] → ⊥ = search rules in
+    let left : rest c.visits.reader ≡ [] → ⊥ = c.visits.invariant.1.0 (search rules) in
     run_stops simd c.in-Err.e (state_of c.visits.reader c.visits.control) (state_of c.visit_next_simd.new.reader c.visit_next_simd.new.control) left h.0 h.2
+
+pub returns-clause-end : goal.returns-clause-end
+returns-clause-end g c = c.visits.invariant.1.1 (search rules)
