@@ -1,5 +1,5 @@
 -- From the first byte of an operator to its visit.
-use Rattle.std.proofs.Common.{◌≡◌, ◌≢◌, ℕ, ◌+◌, ◌<◌, inl, inr, Bool, true, false, List, [], ◌∷◌, ◌++◌, length, Option, Some, None, Result, Ok, Err, refl, sym, subst, ap, ◌∙◌, append_assoc, arith}
+use Rattle.std.proofs.Common.{◌≡◌, ◌≢◌, ℕ, ◌+◌, ◌<◌, ◌≤◌, inl, inr, Bool, true, false, List, [], ◌∷◌, ◌++◌, length, Option, Some, None, Result, Ok, Err, refl, sym, subst, ap, ◌∙◌, append_assoc, arith}
 use Rattle.wasm_below.specs.declared.error.Error.{Error}
 use Rattle.wasm_below.specs.declared.features.WasmFeatures.{WasmFeatures}
 use Rattle.wasm_below.specs.declared.message.Message.{Message}
@@ -20,6 +20,7 @@ use Rattle.wasm_instr.specs.Row.{prefix_of, opcode_of}
 use Rattle.wasm_decode_opcodes.specs.Allowed.{EncodesAllowed, EncodesScalar, EncodesIn}
 use Rattle.wasm_decode_opcodes.specs.Decoding.{Decodes, DecodesOperator, IsAfterCode}
 use Rattle.wasm_decode_groups.specs.Arms.{ReadsOperatorAt}
+use Rattle.wasm_decode_groups.specs.OneByte.{IsOneByteCode}
 use Rattle.wasm_decode_opcodes.specs.declared.guard.Guard.{Guard}
 use Rattle.wasm_instr.specs.Roles.{role_of}
 use Rattle.wasm_decode_opcodes.specs.Entry.{Entry, prefixes, guard_of, kinds_of, guarded_entry, entry_of}
@@ -202,6 +203,10 @@ is_prefixes _ = false
 -- the prefix bytes are 0xfb to 0xfe
 pub prefix_bytes : (code : ℕ) → entry_at None code ≡ prefixes → InRanges code ((0xfb, 0xfe) ∷ [])
 prefix_bytes code e = codes_in is_prefixes ((0xfb, 0xfe) ∷ []) opcode_entries code refl refl (ap is_prefixes e)
+
+-- below the prefix bytes
+pub one_byte_code : (code : ℕ) → code < 0xfb → code ≢ 0x0e → (0x45 ≤ code → code ≤ 0xc4 → ⊥) → IsOneByteCode code
+one_byte_code code below table numeric = record { apart = λ e. (let h = prefix_bytes code e in grind (arith, below, h)); table = table; numeric = numeric }
 
 opened : (E : FrameKind → List ℕ → Operator → Type 0) (F : FrameKind → Message → Reader → ℕ → Type 0) (k : FrameKind) (e : Error) (old : Reader) →
     IsRefusedOperator (E k) (F k) e old → IsRefusedOperator (EncodesIn E (Some k)) (FaultIn F (Some k)) e old

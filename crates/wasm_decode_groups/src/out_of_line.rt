@@ -1,5 +1,5 @@
 //! The less frequent operators with a one-byte opcode, decoded by one call that is not inlined.
-ghost use Rattle.std.specs.Prelude.{None};
+ghost use Rattle.std.specs.Prelude.{◌≡◌, None};
 ghost use Rattle.wasm_decode_groups.specs.OneByte.{IsOneByteCode};
 ghost use Rattle.wasm_decode_groups.specs.OutOfLine.{with_error};
 ghost use Rattle.wasm_decode_opcodes.specs.Decoding.{DecodesAt, IsAfterCode};
@@ -12,7 +12,10 @@ use wasm_visit_groups::Visitor;
 
 /// Returns a placeholder, which a call that is not inlined overwrites if it fails.
 #[inline(always)]
-pub fn no_error() -> Error {
+pub fn no_error() -> Error
+    ensures message { result.message ≡ Message.EndOfData }
+    ensures offset { result.offset ≡ 0 }
+{
     Error::new(Message::EndOfData, 0)
 }
 

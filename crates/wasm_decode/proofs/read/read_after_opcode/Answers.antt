@@ -4,16 +4,11 @@ use Rattle.wasm_decode_opcodes.specs.Allowed.{EncodesAllowed}
 use Rattle.wasm_decode_opcodes.specs.OperatorFaults.{OperatorFault}
 use Rattle.wasm_decode_groups.proofs.Codes.{numeric_without_immediates_45}
 use Rattle.wasm_decode_opcodes.proofs.OperatorLemmas.{visited_without_immediates}
-use Rattle.wasm_decode.proofs.DecodingLemmas.{as_read, prefix_bytes}
+use Rattle.wasm_decode.proofs.DecodingLemmas.{as_read, one_byte_code}
 use Rattle.wasm_decode.proofs.read.read_after_opcode.Goals as goal
 
 pub read_one_byte-requires-clause-apart : goal.read_one_byte-requires-clause-apart
-read_one_byte-requires-clause-apart c =
-    record {
-      apart = λ e. (let h = prefix_bytes c.args.code e in grind (arith, h));
-      table = λ same. grind (arith, same);
-      numeric = λ from to. grind (arith, from, to);
-    }
+read_one_byte-requires-clause-apart c = one_byte_code c.args.code (grind arith) (λ same. grind (arith, same)) (λ from to. grind (arith, from, to))
 
 pub returns-in-69-to-196 : goal.returns-in-69-to-196
 returns-in-69-to-196 c =

@@ -2,7 +2,7 @@ use Rattle.std.proofs.Common.{None, Ok, refl, arith}
 use Rattle.wasm_decode_opcodes.proofs.OperatorLemmas.{visited_without_immediates}
 use Rattle.wasm_decode_opcodes.specs.OperatorFaults.{OperatorFault}
 use Rattle.wasm_decode_groups.proofs.Codes.{numeric_without_immediates_45}
-use Rattle.wasm_decode.proofs.DecodingLemmas.{prefix_bytes, to_scalar}
+use Rattle.wasm_decode.proofs.DecodingLemmas.{one_byte_code, to_scalar}
 use Rattle.wasm_decode.proofs.visit.visit_after_opcode.Goals as goal
 
 pub returns-in-14 : goal.returns-in-14
@@ -36,12 +36,7 @@ returns-in_default g c =
     (λ h. grind (arith, h, c.in_default)) c.requires (call.ensures c.args.frame)
 
 pub decode_one_byte-requires-clause-apart : goal.decode_one_byte-requires-clause-apart
-decode_one_byte-requires-clause-apart g c =
-    record {
-      apart = λ e. (let h = prefix_bytes c.args.code e in grind (arith, h));
-      table = λ same. grind (arith, same);
-      numeric = λ from to. grind (arith, from, to);
-    }
+decode_one_byte-requires-clause-apart g c = one_byte_code c.args.code (grind arith) (λ same. grind (arith, same)) (λ from to. grind (arith, from, to))
 
 pub returns-in_default-code : goal.returns-in_default-code
 returns-in_default-code g c =

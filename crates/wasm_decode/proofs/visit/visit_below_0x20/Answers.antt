@@ -1,5 +1,5 @@
 use Rattle.std.proofs.Common.{arith}
-use Rattle.wasm_decode.proofs.DecodingLemmas.{prefix_bytes, to_scalar}
+use Rattle.wasm_decode.proofs.DecodingLemmas.{one_byte_code, to_scalar}
 use Rattle.wasm_decode.proofs.visit.visit_below_0x20.Goals as goal
 
 pub returns-in-14-clause-scalar : goal.returns-in-14-clause-scalar
@@ -9,11 +9,7 @@ returns-in-14-clause-scalar g c =
 
 pub decode_below_0x20-requires-clause-apart : goal.decode_below_0x20-requires-clause-apart
 decode_below_0x20-requires-clause-apart g c =
-    record {
-      apart = λ e. (let h = prefix_bytes c.args.code e in grind (arith, h, c.requires.low));
-      table = λ e. grind (arith, e, c.in_default);
-      numeric = λ from to. grind (arith, from, c.requires.low);
-    }
+    one_byte_code c.args.code (grind (arith, c.requires.low)) (λ same. grind (arith, same, c.in_default)) (λ from to. grind (arith, from, c.requires.low))
 
 pub returns-in_default-clause-scalar : goal.returns-in_default-clause-scalar
 returns-in_default-clause-scalar g c =
