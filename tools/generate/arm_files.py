@@ -318,7 +318,7 @@ def one_byte_proofs(ops, group):
     module = "one_byte_operators"
     out = {}
     for name, below in ((ONE_CALL, False), (BELOW_CALL, True)):
-        few, few_names = run_proofs(those, lambda op: op.is_common and is_below(op) == below, True)
+        few, few_names = run_proofs(those, lambda op: op.is_common and is_below(op) == below, below)
         out[f"{module}.{name}_by"] = group_proof(f"{module}.{name}_by", few, few_names)
     return {
         **out,

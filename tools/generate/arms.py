@@ -288,13 +288,13 @@ def common(ops, group, below):
 
     those = [part for part in parts(ops, group) if any(takes(op) for op in part.free)]
     singles = [part for part in alone(ops, group) if is_below(part.ops[0]) == below]
-    return [
-        "match code {",
-        *arms(those, "code as u32", takes),
-        *[f"{part.ops[0].hex()} => {call(part, part.ops[0].hex(), only(part))}," for part in singles],
-        f"_ => {OTHERS_CALL}_by::<V, R>(alloc, v, reader, start, frame, code),",
-        "}",
-    ]
+    first, *more = arms(those, "code as u32", takes)
+    more += [f"{part.ops[0].hex()} => {call(part, part.ops[0].hex(), only(part))}," for part in singles]
+    more.append(f"_ => {OTHERS_CALL}_by::<V, R>(alloc, v, reader, start, frame, code),")
+    if below:
+        return ["match code {", first, *more, "}"]
+    # In one match, the compiler would test single codes before ranges.
+    return ["match code {", first, "_ => match code {", *more, "},", "}"]
 
 
 def one_byte(ops, those, group):
@@ -314,7 +314,8 @@ def one_byte(ops, those, group):
         inlined = f"Common operators {where}are inlined."
         by_visits = [f"{name}_by::<V, Own>(alloc, v, reader, start, frame, code)"]
         out += own_function(group, name, f"V: {group.trait}", f"visits it. {inlined}", by_visits)
-        out += own_function(group, f"{name}_by", by_route, f"passes them to `R`. {inlined}", common(ops, group, below))
+        first = "" if below else " The most frequent, 0x20 to 0x26, are compared first."
+        out += own_function(group, f"{name}_by", by_route, f"passes them to `R`. {inlined}{first}", common(ops, group, below))
     return [
         *out,
         *own_function(group, f"{EVERY_CALL}_by", by_route, "passes them to `R`. Every operator has an arm here.", ["match code {", *every_arm, "}"]),

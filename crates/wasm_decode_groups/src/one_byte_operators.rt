@@ -37,7 +37,7 @@ pub fn one_byte<V: VisitOneByte>(
 }
 
 /// Reads the immediates of an operator with a one-byte opcode and passes them to `R`. Common
-/// operators from 0x20 on are inlined.
+/// operators from 0x20 on are inlined. The most frequent, 0x20 to 0x26, are compared first.
 #[inline(always)]
 pub fn one_byte_by<V: Visitor, R: AtOneByte<V>>(
     alloc: Global,
@@ -53,16 +53,18 @@ pub fn one_byte_by<V: Visitor, R: AtOneByte<V>>(
 {
     match code {
         0x20..=0x26 => arm::<V, OneByte, u32, R>(v, reader, start, code as u32, 0),
-        0x28..=0x3e => arm::<V, OneByte, PlainMemArg, R>(
-            v,
-            reader,
-            start,
-            code as u32,
-            align_of_memory(code as u32),
-        ),
-        0x41 => arm::<V, OneByte, i32, R>(v, reader, start, 0x41, 0),
-        0x42 => arm::<V, OneByte, i64, R>(v, reader, start, 0x42, 0),
-        _ => other_one_byte_by::<V, R>(alloc, v, reader, start, frame, code),
+        _ => match code {
+            0x28..=0x3e => arm::<V, OneByte, PlainMemArg, R>(
+                v,
+                reader,
+                start,
+                code as u32,
+                align_of_memory(code as u32),
+            ),
+            0x41 => arm::<V, OneByte, i32, R>(v, reader, start, 0x41, 0),
+            0x42 => arm::<V, OneByte, i64, R>(v, reader, start, 0x42, 0),
+            _ => other_one_byte_by::<V, R>(alloc, v, reader, start, frame, code),
+        },
     }
 }
 
