@@ -7,7 +7,7 @@ use Rattle.wasm_operators.specs.opcodes.Allowed.{EncodesAllowed}
 use Rattle.wasm_operators.specs.Expression.{Placed}
 use Rattle.wasm_operators.specs.Laws.{IsNoLonger}
 use Rattle.wasm_operators.specs.MainTheorem.{IsWithinDepth}
-use Rattle.wasm_operators.specs.Next.{ListMayAllocate, NextMayAllocate, adding}
+use Rattle.wasm_operators.specs.Next.{ListMayAllocate, NextMayAllocate, collecting}
 use Rattle.wasm_operators.specs.Reading.{State, Adds, RunsToEnd, StopsRun, TakesOperators}
 use Rattle.wasm_operators.specs.Stack.{frame_memory}
 
@@ -15,7 +15,7 @@ some_left : (bytes : List ℕ) → (bytes ≡ [] → ⊥) → 0 < length bytes
 some_left [] none = absurd (none refl)
 some_left (byte ∷ bytes) none = omega arith
 
-data_left : (e : Error) (s : State) → StopsRun adding e s → e.message ≡ message.OutOfMemory → 0 < length (rest s.reader)
+data_left : (e : Error) (s : State) → StopsRun collecting e s → e.message ≡ message.OutOfMemory → 0 < length (rest s.reader)
 data_left e s (inl (all, open_frame, left, at)) is = absurd (cc (sym left ∙ is))
 data_left e s (inr (some, why)) is = some_left (rest s.reader) some
 
@@ -45,7 +45,7 @@ left_over (inr c) none other = absurd (other c)
 
 pub only_lists : {X : Type 0} (result : Result X Error) (old new : State) (items more : Placed) (capacity grown : ℕ) → IsNoLonger old.reader.features →
     length (rest old.reader) ≤ 2 * old.room → length items + length (rest old.reader) ≤ capacity → capacity ≤ grown →
-    RunsToEnd adding (Adds items more) result old new → IsWithinDepth old new →
+    RunsToEnd collecting (Adds items more) result old new → IsWithinDepth old new →
     IfErr result (λ e. e.message ≡ message.OutOfMemory → NextMayAllocate EncodesAllowed new ⊎ (grown < length more + 1)) →
     IfErr result (λ e. e.message ≡ message.OutOfMemory → ListMayAllocate EncodesAllowed new)
 only_lists (Ok x) old new items more capacity grown shorter frames fits kept runs depth memory = tt

@@ -19,7 +19,7 @@ use Rattle.wasm_operators.specs.opcodes.Allowed.{EncodesAllowed}
 use Rattle.wasm_operators.specs.opcodes.OperatorFaults.{OperatorFault}
 use Rattle.wasm_operators.specs.opcodes.Refused.{LeadsList}
 use Rattle.wasm_operators.specs.Expression.{Placed, operators, LaidOut, EncodesRest, EncodesExpression}
-use Rattle.wasm_operators.specs.Next.{NextMayAllocate, ReadsNext, StopsNext, simd}
+use Rattle.wasm_operators.specs.Next.{NextMayAllocate, ReadsNext, StopsNext, all_operators}
 use Rattle.wasm_operators.specs.Reading.{State, TakesOperator, StopsRead, StopsFinish, Decoder}
 use Rattle.uses.specs.Complaints.{IsRefusal}
 use Rattle.uses.specs.Input.{input}
@@ -63,8 +63,8 @@ fault_of decoder e old new frame inner other (unchanged, stops) =
     subst (λ (r : Reader). decoder.Fault r.features frame e.message r e.offset) unchanged.0 there
 
 pub fault_before : (e : Error) (old new : State) (frame : FrameKind) → innermost old.frames ≡ Some frame → e.message ≢ message.OutOfMemory →
-    StopsNext simd e old new → OperatorFault old.reader.features frame e.message old.reader e.offset
-fault_before = fault_of simd
+    StopsNext all_operators e old new → OperatorFault old.reader.features frame e.message old.reader e.offset
+fault_before = fault_of all_operators
 
 pub read_fault : (result : Option Error) (old new : State) (frame : FrameKind) → innermost old.frames ≡ Some frame →
     ((m : Message) (r : Reader) (offset : ℕ) → OperatorFault old.reader.features frame m r offset → IsReadFault m) → IsRefusal result old new →
@@ -87,7 +87,7 @@ first_read (Ok op) r old new same inner taken =
 first_read (Err e) r old new same inner stopped = tt
 
 none_there : (e : Error) (s : State) (frame : FrameKind) → innermost s.frames ≡ Some frame → e.message ≢ message.OutOfMemory →
-    StopsRead simd e s → (op : Operator) (text more : List ℕ) → rest s.reader ≡ text ++ more → EncodesAllowed s.reader.features frame text op → ⊥
+    StopsRead all_operators e s → (op : Operator) (text more : List ℕ) → rest s.reader ≡ text ++ more → EncodesAllowed s.reader.features frame text op → ⊥
 none_there e s frame inner other (inl (closed, said, at)) op text more parts encodes =
     let none : innermost [] ≡ Some frame = subst (λ frames. innermost frames ≡ Some frame) closed inner in
     absurd (cc none)
@@ -116,7 +116,7 @@ is_no_expression features bytes (p ∷ ps) closes none ((at, text, more, parts, 
     none p.0 text more parts (encodes, allowed)
 
 abbrev pub IsAsked : Type 0
-IsAsked = (e : Error) (s : State) → StopsRead simd e s → e.message ≡ message.OutOfMemory → NextMayAllocate EncodesAllowed s
+IsAsked = (e : Error) (s : State) → StopsRead all_operators e s → e.message ≡ message.OutOfMemory → NextMayAllocate EncodesAllowed s
 
 pub first_memory : (result : Result Operator Error) (r : Reader) (old new : State) → IsAsked → old.reader ≡ r → 0 < old.room → ReadsNext result old new →
     IfErr result (λ e. e.message ≡ message.OutOfMemory → (byte : ℕ) × LeadsList byte × BeginsWith byte (rest r))

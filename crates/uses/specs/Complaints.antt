@@ -9,14 +9,14 @@ use Rattle.wasm_operators.specs.opcodes.declared.guard.Guard.{Guard}
 use Rattle.wasm_operators.specs.opcodes.Entry.{guarded_role}
 use Rattle.wasm_operators.specs.opcodes.OperatorFaults.{LacksFeature}
 use Rattle.wasm_operators.specs.Guarded.{BeginsGuarded}
-use Rattle.wasm_operators.specs.Next.{StopsNext, simd}
+use Rattle.wasm_operators.specs.Next.{StopsNext, all_operators}
 use Rattle.wasm_operators.specs.Reading.{State, TakesOperator}
 use Rattle.uses.specs.declared.single_steps.Complaint.{Complaint}
 use Rattle.uses.specs.declared.single_steps.Complaint.TheVariants as complaint
 
 -- Reading the next operator fails with this error, or takes an operator.
 abbrev pub IsRefusal : Option Error → State → State → Type 0
-IsRefusal (Some e) old new = StopsNext simd e old new
+IsRefusal (Some e) old new = StopsNext all_operators e old new
 IsRefusal None old new = (op : Operator) × TakesOperator EncodesAllowed op old new
 
 -- `Feature`: the next operator's is disabled. `Frame`: the innermost forbids it. `Other`: no claim.

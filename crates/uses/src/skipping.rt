@@ -2,7 +2,7 @@ ghost use Rattle.std.specs.Prelude.{◌≡◌, ◌-◌, ◌<◌, length, IfOk, I
 ghost use Rattle.wasm_operators.specs.Expression.{Placed};
 ghost use Rattle.wasm_operators.specs.MainTheorem.{IsWithinDepth};
 ghost use Rattle.wasm_operators.specs.Reading.{GrowsLittle, TakesOperators, StopsRead};
-ghost use Rattle.wasm_operators.specs.Next.{simd};
+ghost use Rattle.wasm_operators.specs.Next.{all_operators};
 
 use wasm_operators::{OperatorsReader, Result, run_laws};
 
@@ -15,7 +15,7 @@ pub fn skip_operators(operators: &mut OperatorsReader<'_>, count: u32) -> Result
         × TakesOperators operators.old operators.new placed) }
     ensures refused { IfErr result (λ e. (placed : Placed) × (length placed < count)
         × TakesOperators operators.old operators.new placed
-        × StopsRead simd e operators.new) }
+        × StopsRead all_operators e operators.new) }
     ensures depth { IsWithinDepth operators.old operators.new }
     ensures memory { GrowsLittle (operators.new.reader.position - operators.old.reader.position) operators.old operators.new }
 {

@@ -7,7 +7,7 @@ use Rattle.wasm_operators.specs.instr.declared.operator.Operator.{Operator}
 use Rattle.wasm_operators.specs.opcodes.Allowed.{EncodesAllowed}
 use Rattle.wasm_operators.specs.Expression.{Placed, EncodesExpression}
 use Rattle.wasm_operators.specs.MainTheorem.{ReadSoFar, ReadsTree, ReadsBeginning}
-use Rattle.wasm_operators.specs.Next.{NextMayAllocate, simd, adding}
+use Rattle.wasm_operators.specs.Next.{NextMayAllocate, all_operators, collecting}
 use Rattle.wasm_operators.specs.Reading.{State, IsFresh, TakesOperators, StopsRead, StopsRun}
 use Rattle.wasm_operators.specs.Body.{EncodesBody}
 use Rattle.wasm_operators.specs.Locals.{Declaration, IsPastLocals}
@@ -23,10 +23,10 @@ OfTree = (before : List Operator) (old new : State) (placed : Placed) → ReadSo
 
 abbrev pub OfBeginning : Type 0
 OfBeginning = (before : List Operator) (e : Error) (old new : State) (placed : Placed) → ReadSoFar before old → TakesOperators old new placed →
-    StopsRun adding e new → ReadsBeginning adding before e old new placed
+    StopsRun collecting e new → ReadsBeginning collecting before e old new placed
 
 abbrev pub OfStops : Type 0
-OfStops = (e : Error) (s : State) → StopsRead simd e s → StopsRead adding e s
+OfStops = (e : Error) (s : State) → StopsRead all_operators e s → StopsRead collecting e s
 
 -- `past_locals`
 abbrev pub OfLocals : Type 0
@@ -35,4 +35,4 @@ OfLocals = (body r : Reader) (declarations : List Declaration) (placed : Placed)
 
 -- `memory_asked`
 abbrev pub OfMemory : Type 0
-OfMemory = (e : Error) (s : State) → StopsRun simd e s → e.message ≡ message.OutOfMemory → NextMayAllocate EncodesAllowed s
+OfMemory = (e : Error) (s : State) → StopsRun all_operators e s → e.message ≡ message.OutOfMemory → NextMayAllocate EncodesAllowed s

@@ -5,7 +5,7 @@ use Rattle.wasm_operators.specs.below.Source.{Reader, rest, offset_of, end_of}
 use Rattle.wasm_operators.specs.Body.{OpensBody}
 use Rattle.wasm_operators.specs.Expression.{Placed, OfPlaced}
 use Rattle.wasm_operators.specs.Reading.{State, TakesOperators, EndsRun, RunsToEnd}
-use Rattle.wasm_operators.specs.Next.{simd, adding}
+use Rattle.wasm_operators.specs.Next.{all_operators, collecting}
 use Rattle.wasm_operators.specs.MainTheorem.{ReadSoFar}
 use Rattle.wasm_operators.specs.Laws.{TakesBoth, IsNoLonger}
 use Rattle.wasm_view.specs.declared.view.WasmOperator.{WasmOperator}
@@ -14,25 +14,25 @@ use Rattle.wasm_c.proofs.Cited.{OfTree, OfBeginning, OfStops, OfMemory, OfLocals
 use Rattle.wasm_c.proofs.Written.{written_first}
 
 -- The contract of a body does not say when allocation may fail.
-ends_anywhere : {X : Type 0} → OfStops → (result : Result X Error) (s : State) → EndsRun simd result s → EndsRun adding result s
+ends_anywhere : {X : Type 0} → OfStops → (result : Result X Error) (s : State) → EndsRun all_operators result s → EndsRun collecting result s
 ends_anywhere law (Ok x) s h = h
 ends_anywhere law (Err e) s (inl left) = inl left
 ends_anywhere law (Err e) s (inr (some, stops)) = inr (some, law e s stops)
 
 ends_run : {X : Type 0} → OfTree → OfBeginning → (result : Result X Error) (opened new : State) (all : Placed) → ReadSoFar [] opened →
-    TakesOperators opened new all → EndsRun adding result new → EndsOperators result opened all
+    TakesOperators opened new all → EndsRun collecting result new → EndsOperators result opened all
 ends_run tree beginning (Ok x) opened new all read_so_far ran (closed, taken) = (tree [] opened new all read_so_far ran closed taken).encodes
 ends_run tree beginning (Err e) opened new all read_so_far ran stops = (new, beginning [] e opened new all read_so_far ran stops)
 
 asked_memory : {X : Type 0} → OfMemory → (result : Result X Error) (opened new : State) (all : Placed) → TakesOperators opened new all →
-    EndsRun simd result new → IfMemory result (MayAllocateAfter opened all)
+    EndsRun all_operators result new → IfMemory result (MayAllocateAfter opened all)
 asked_memory asked (Ok x) opened new all ran ends = tt
 asked_memory asked (Err e) opened new all ran stops = λ is. record { stopped = new; takes = ran; asks = asked e new stops is }
 
 -- The operators found before, and those visited to the end after them.
 pub ends_visited : {X : Type 0} (Effect : OfPlaced) → TakesBoth → OfTree → OfBeginning → OfStops → OfMemory → (result : Result X Error)
     (opened old new : State) (found : Placed) → ReadSoFar [] opened → TakesOperators opened old found →
-    RunsToEnd simd Effect result old new →
+    RunsToEnd all_operators Effect result old new →
     (more : Placed) × Effect more × TakesOperators old new more × EndsOperators result opened (found ++ more) ×
     IfMemory result (MayAllocateAfter opened (found ++ more))
 ends_visited Effect joined tree beginning stops asked result opened old new found read_so_far ran (placed, effect, on, ends) = (

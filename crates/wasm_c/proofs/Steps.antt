@@ -14,7 +14,7 @@ use Rattle.wasm_operators.specs.opcodes.Allowed.{EncodesAllowed}
 use Rattle.wasm_operators.specs.opcodes.Decoding.{DecodesOperator}
 use Rattle.wasm_operators.specs.opcodes.OperatorFaults.{OperatorFault}
 use Rattle.wasm_operators.specs.Openings.{opened_by}
-use Rattle.wasm_operators.specs.Next.{ListMayAllocate, simd_if}
+use Rattle.wasm_operators.specs.Next.{ListMayAllocate, all_operators_if}
 use Rattle.wasm_operators.specs.Reading.{State, TakesOperator, StopsRead, StopsFinish}
 use Rattle.wasm_c.specs.declared.reader.WasmReader.{WasmReader}
 use Rattle.wasm_c.specs.Frames.{kinds}
@@ -31,7 +31,7 @@ is_memory _ = inr (λ e. cc e)
 -- An error inside the innermost frame stops a read.
 pub stops_inside : (e : Error) (s : State) (new : Reader) (kind : FrameKind) → innermost s.frames ≡ Some kind →
     DecodesOperator (EncodesAllowed s.reader.features kind) (OperatorFault s.reader.features kind) (Err e) s.reader new →
-    StopsRead (simd_if (ListMayAllocate EncodesAllowed)) e s
+    StopsRead (all_operators_if (ListMayAllocate EncodesAllowed)) e s
 stops_inside e s new kind inside (same, refused) = elim (is_memory e.message) [
   | inl is ↦
       let memory = refused.memory is in
@@ -42,7 +42,7 @@ stops_inside e s new kind inside (same, refused) = elim (is_memory e.message) [
 
 -- If no frame is open, no operator is read.
 pub stops_outside : (e : Error) (bytes frames : List ℕ) (r : WasmReader) → r.depth ≡ 0 → e.message ≡ message.OperatorsRemaining →
-    e.offset ≡ offset_of (reader_at bytes r) → StopsRead (simd_if (ListMayAllocate EncodesAllowed)) e (state_at bytes r frames)
+    e.offset ≡ offset_of (reader_at bytes r) → StopsRead (all_operators_if (ListMayAllocate EncodesAllowed)) e (state_at bytes r frames)
 stops_outside e bytes frames r none is at = inl (ap (λ n. kinds (take n frames)) none, is, at)
 
 opened_one : (c : FrameChange) → OpensFrame c → opened c ≡ 1

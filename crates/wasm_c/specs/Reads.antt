@@ -8,7 +8,7 @@ use Rattle.wasm_operators.specs.opcodes.Allowed.{EncodesAllowed}
 use Rattle.wasm_operators.specs.Expression.{Placed, EncodesExpression}
 use Rattle.wasm_operators.specs.MainTheorem.{ReadsBeginning}
 use Rattle.wasm_operators.specs.Locals.{Declaration}
-use Rattle.wasm_operators.specs.Next.{NextMayAllocate, simd, adding}
+use Rattle.wasm_operators.specs.Next.{NextMayAllocate, all_operators, collecting}
 use Rattle.wasm_operators.specs.Reading.{State, StopsRun, TakesOperators}
 use Rattle.wasm_view.specs.Lists.{written}
 use Rattle.wasm_view.specs.View.{views}
@@ -57,7 +57,7 @@ FindsPlain r input count old new placed =
 -- How reading the operators of a new reader ended.
 abbrev pub EndsOperators : {X : Type 0} → Result X Error → State → Placed → Type 0
 EndsOperators (Ok x) opened placed = EncodesExpression (source_of opened.reader) placed
-EndsOperators (Err e) opened placed = (stopped : State) × ReadsBeginning adding [] e opened stopped placed
+EndsOperators (Err e) opened placed = (stopped : State) × ReadsBeginning collecting [] e opened stopped placed
 
 -- As `FindsBody`, for the operators of a new reader.
 pub record FindsOperators {X : Type 0} (result : Result X Error) (opened : State) (count : ℕ) (old new : List WasmOperator) (placed : Placed) : Type 0 where
@@ -69,7 +69,7 @@ pub record FindsOperators {X : Type 0} (result : Result X Error) (opened : State
 -- Why filling an array ended: it is full, no data is left, or no operator is read.
 abbrev pub EndsFilling : {X : Type 0} → Result X Error → State → Type 0 → Type 0
 EndsFilling (Ok x) now Full = Full ⊎ (rest now.reader ≡ [])
-EndsFilling (Err e) now Full = StopsRun simd e now
+EndsFilling (Err e) now Full = StopsRun all_operators e now
 
 -- These operators were read, and are at the start of the array; its other elements are unchanged.
 pub record FillsArray {X : Type 0} (result : Result X Error) (opened now : State) (count : ℕ) (old new : List WasmOperator) (found : Placed) : Type 0 where

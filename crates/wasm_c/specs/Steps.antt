@@ -8,7 +8,7 @@ use Rattle.wasm_operators.specs.grammar.Frames.{innermost}
 use Rattle.wasm_operators.specs.instr.declared.operator.Operator.{Operator}
 use Rattle.wasm_operators.specs.opcodes.Allowed.{EncodesAllowed}
 use Rattle.wasm_operators.specs.Openings.{opened_by}
-use Rattle.wasm_operators.specs.Next.{ListMayAllocate, simd_if}
+use Rattle.wasm_operators.specs.Next.{ListMayAllocate, all_operators_if}
 use Rattle.wasm_operators.specs.Reading.{State, IsFresh, TakesOperator, StopsRead, Finishes}
 use Rattle.wasm_operators.specs.Body.{OpensBody}
 use Rattle.wasm_operators.specs.Locals.{RefusesLocals}
@@ -68,7 +68,7 @@ pub record FindsNoRoom (s : State) : Type 0 where
 abbrev pub StopsPlain : WasmRefusal → List ℕ → WasmReader → List ℕ → Type 0
 StopsPlain r bytes reader frames =
     (IsReader bytes (length frames) reader × (e : Error) × (r ≡ refusal_of e) ×
-    StopsRead (simd_if (ListMayAllocate EncodesAllowed)) e (state_at bytes reader frames))
+    StopsRead (all_operators_if (ListMayAllocate EncodesAllowed)) e (state_at bytes reader frames))
     ⊎ ((IsReader bytes (length frames) reader × (r ≡ misuse 102 (offset_of (reader_at bytes reader))) × FindsNoRoom (state_at bytes reader frames))
     ⊎ ((IsReader bytes (length frames) reader → ⊥) × (r ≡ misuse 103 reader.offset)))
 

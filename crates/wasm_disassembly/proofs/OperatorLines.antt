@@ -11,7 +11,7 @@ use Rattle.wasm_operators.specs.Expression.{Placed, EncodesExpression}
 use Rattle.wasm_operators.specs.MainTheorem.{ReadsTree, ReadsBeginning}
 use Rattle.wasm_operators.specs.Laws.{TakesNone, TakesOneMore, TakesBytes}
 use Rattle.wasm_operators.specs.Reading.{State, IsFresh, TakesOperator, TakesOperators}
-use Rattle.wasm_operators.specs.Next.{adding}
+use Rattle.wasm_operators.specs.Next.{collecting}
 use Rattle.wasm_text.specs.Rows.{line_of}
 use Rattle.wasm_text.specs.Lines.{change_in, depth_of, depth_after, between, next_offset, lines_from, lines_of}
 use Rattle.wasm_disassembly.specs.declared.fault.DisassemblyFault.TheVariants as fault
@@ -106,7 +106,7 @@ listed_whole x names start depth bytes reader opened now before after l same tre
 
 pub listed_part : (names : List (List ℕ)) (start depth : ℕ) (bytes : List ℕ) (reader : Reader) (e : Error) (opened now stopped : State) (before after : Option (List ℕ))
     (l : AreListed names start bytes opened now depth before after) → opened.reader ≡ reader → IsFresh opened → stopped.reader ≡ now.reader →
-    ReadsBeginning adding [] e opened stopped l.placed → e.message ≢ message.OutOfMemory →
+    ReadsBeginning collecting [] e opened stopped l.placed → e.message ≢ message.OutOfMemory →
     ListsOperators {X = Unit {0}} names start bytes (Err (fault.Refused e)) reader before after
 listed_part names start depth bytes reader e opened now stopped before after l same fresh still b other = (
   other,

@@ -11,7 +11,7 @@ use Rattle.wasm_operators.specs.MainTheorem.{ReadsBeginning}
 use Rattle.wasm_operators.specs.Locals.{Locals, OpensLocals, ReadsDeclaration}
 use Rattle.wasm_operators.specs.Reading.{State, IsFresh}
 use Rattle.wasm_operators.specs.instr.declared.operator.Operator.{Operator}
-use Rattle.wasm_operators.specs.Next.{adding}
+use Rattle.wasm_operators.specs.Next.{collecting}
 use Rattle.wasm_operators.specs.instr.declared.operator.Operator.TheVariants as operator
 use Rattle.wasm_text.specs.Lines.{shown_name, header_of, lines_of}
 use Rattle.wasm_text.specs.Operands.{text_of}
@@ -114,6 +114,6 @@ ListsOperators names start bytes (Ok x) reader before after =
     Appends before after (lines_of (called_text names) start bytes (offset_of reader + length (rest reader)) placed)
 ListsOperators names start bytes (Err (fault.Refused e)) reader before after =
     (e.message ≢ message.OutOfMemory) × (opened stopped : State) × (opened.reader ≡ reader) × IsFresh opened × (placed : Placed) ×
-    ReadsBeginning adding [] e opened stopped placed ×
+    ReadsBeginning collecting [] e opened stopped placed ×
     Appends before after (lines_of (called_text names) start bytes (offset_of stopped.reader) placed)
 ListsOperators names start bytes (Err _) reader before after = Unit {0}

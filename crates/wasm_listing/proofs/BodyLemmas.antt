@@ -5,7 +5,7 @@ use Rattle.wasm_operators.specs.below.Source.{Reader, source_of}
 use Rattle.wasm_operators.specs.opcodes.Allowed.{EncodesAllowed}
 use Rattle.wasm_operators.specs.Expression.{Placed, OfPlaced}
 use Rattle.wasm_operators.specs.MainTheorem.{ReadsTree, ReadsBeginning, ReadsRestAfter}
-use Rattle.wasm_operators.specs.Next.{NextMayAllocate, simd}
+use Rattle.wasm_operators.specs.Next.{NextMayAllocate, all_operators}
 use Rattle.wasm_operators.specs.Reading.{State, StopsRun, RunsToEnd, Decoder}
 use Rattle.wasm_operators.specs.Body.{EncodesBody, OpensBody, StopsBody, ReadsBody}
 use Rattle.wasm_operators.specs.Locals.{Declaration}
@@ -34,8 +34,8 @@ opened_body decoder Effect (Err e) body opened new whole stopped opens h =
     λ other. (h.beginning.0, h.beginning.1, stopped e body opened new h.beginning.0 opens h.beginning.2)
 
 pub opened_memory : {X : Type 0} (Effect : OfPlaced) (r : Result X Error) (body : Reader) (opened new : State) →
-    ((e : Error) (s : State) → StopsRun simd e s → e.message ≡ message.OutOfMemory → NextMayAllocate EncodesAllowed s) → OpensBody (Ok opened) body →
-    RunsToEnd simd Effect r opened new →
+    ((e : Error) (s : State) → StopsRun all_operators e s → e.message ≡ message.OutOfMemory → NextMayAllocate EncodesAllowed s) → OpensBody (Ok opened) body →
+    RunsToEnd all_operators Effect r opened new →
     IfErr r (λ e. e.message ≡ message.OutOfMemory → BodyMayAllocate body)
 opened_memory Effect (Ok x) body opened new asked opens runs = tt
 opened_memory Effect (Err e) body opened new asked opens (placed, effect, takes, stops) = λ is.

@@ -7,7 +7,7 @@ use Rattle.wasm_below.proofs.TakesLemmas.{same_rest}
 use Rattle.wasm_operators.specs.Expression.{Placed, EncodesExpression}
 use Rattle.wasm_operators.specs.Reading.{Allocating, State, StopsRun}
 use Rattle.wasm_operators.specs.MainTheorem.{ReadsTree, ReadsBeginning}
-use Rattle.wasm_operators.specs.Next.{adding, simd_if}
+use Rattle.wasm_operators.specs.Next.{collecting, all_operators_if}
 use Rattle.wasm_operators.specs.Locals.{Declaration, EncodesLocals, RefusesLocals, IsPastLocals}
 use Rattle.wasm_operators.specs.Body.{source_after, EncodesBody, OpensBody, NoExpression, StopsBody}
 use Rattle.wasm_operators.proofs.LocalsLemmas.{locals_prefix_code}
@@ -47,14 +47,14 @@ pub body_tree : (body : Reader) (opened new : State) (placed : Placed) → Opens
     (declarations : List Declaration) × EncodesBody (source_of body) declarations placed
 body_tree body opened new placed opens h = (opens.0.0, past_body body opened.reader opens.0.0 placed opens.0.1 h.encodes)
 
-anywhere : (Allocates : Allocating) (e : Error) (s : State) → StopsRun (simd_if Allocates) e s → StopsRun adding e s
+anywhere : (Allocates : Allocating) (e : Error) (s : State) → StopsRun (all_operators_if Allocates) e s → StopsRun collecting e s
 anywhere Allocates e s (inl left) = inl left
 anywhere Allocates e s (inr (some, inl none)) = inr (some, inl none)
 anywhere Allocates e s (inr (some, inr (inl there))) = inr (some, inr (inl there))
 anywhere Allocates e s (inr (some, inr (inr memory))) = inr (some, inr (inr (memory.0, memory.1, tt)))
 
 pub body_beginning : (Allocates : Allocating) (e : Error) (body : Reader) (opened new : State) (placed : Placed) → OpensBody (Ok opened) body →
-    ReadsBeginning (simd_if Allocates) [] e opened new placed → NoExpression e body placed
+    ReadsBeginning (all_operators_if Allocates) [] e opened new placed → NoExpression e body placed
 body_beginning Allocates e body opened new placed opens h =
     record {
       opened = opened;

@@ -18,7 +18,7 @@ use Rattle.wasm_operators.specs.Reading.{Taking, Refusing, State, TakesOperator,
 use Rattle.wasm_operators.proofs.LayoutLemmas.{roles_of-append}
 use Rattle.wasm_operators.proofs.OpeningLemmas.{twice_opened, after_length}
 use Rattle.wasm_operators.proofs.Premises.{IsSound, IsReading, IsDetermined}
-use Rattle.wasm_operators.specs.Next.{simd, adding}
+use Rattle.wasm_operators.specs.Next.{all_operators, collecting}
 use Rattle.wasm_grammar.proofs.Paths.{some_is}
 
 pub is_memory : (m : Message) → (m ≡ message.OutOfMemory) ⊎ (m ≡ message.OutOfMemory → ⊥)
@@ -46,10 +46,10 @@ stops_read decoder e old new kind reader frames open_frame refuses ahead fault m
       }))
     ]
 
-pub stops_adding : (e : Error) (s : State) → StopsRead simd e s → StopsRead adding e s
-stops_adding e s (inl none) = inl none
-stops_adding e s (inr (inl there)) = inr (inl there)
-stops_adding e s (inr (inr memory)) = inr (inr (memory.0, memory.1, tt))
+pub stops_collecting : (e : Error) (s : State) → StopsRead all_operators e s → StopsRead collecting e s
+stops_collecting e s (inl none) = inl none
+stops_collecting e s (inr (inl there)) = inr (inl there)
+stops_collecting e s (inr (inr memory)) = inr (inr (memory.0, memory.1, tt))
 
 pub refused_none : (Encodes : Taking) (Fault : Refusing) (e : Error) (s : State) (h : IsRefusedThere Encodes Fault e s) (after : List ℕ) →
     MayFollow e.message after → (text more : List ℕ) (op : Operator) → (Allows h.kind (role_of op) → Encodes s.reader.features h.kind text op) →

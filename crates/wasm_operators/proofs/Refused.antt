@@ -14,7 +14,7 @@ use Rattle.wasm_instr.specs.Encoding.{EncodesOperator}
 use Rattle.wasm_instr.specs.Roles.{role_of}
 use Rattle.wasm_decode_opcodes.specs.Allowed.{EncodesAllowed}
 use Rattle.wasm_decode_opcodes.specs.OperatorFaults.{OperatorFault}
-use Rattle.wasm_operators.specs.Next.{NextMayAllocate, simd}
+use Rattle.wasm_operators.specs.Next.{NextMayAllocate, all_operators}
 use Rattle.wasm_operators.proofs.DecoderPremises.{takes_all, is_reading}
 use Rattle.wasm_operators.specs.Expression.{Placed, operators}
 use Rattle.wasm_operators.specs.Reading.{State, IsFresh, IsUnchanged, TakesOperators, TakesOperator, StopsRead}
@@ -27,7 +27,7 @@ use Rattle.wasm_operators.proofs.OneEnd.{stays_open}
 use Rattle.wasm_operators.proofs.Passed.{from_block, passes, none_follows, none_inside, inside_fault, within_data, before, ahead_after}
 
 abbrev pub Stops : Error → State → Type 0
-Stops e t = StopsRead simd e t
+Stops e t = StopsRead all_operators e t
 
 stuck : (e : Error) (t : State) (more : List ℕ) → Stops e t → MayFollow e.message more → (text after : List ℕ) (op : Operator) →
     EncodesOperator t.reader.features text op → rest t.reader ++ more ≡ text ++ after → frames_after t.frames (role_of op) ≡ None
@@ -94,7 +94,7 @@ pub memory_there : (e d : Error) (s mid t : State) (placed : Placed) → IsFresh
     IsUnchanged mid t → Stops e t → d.message ≡ e.message → d.message ≡ message.OutOfMemory → ConstantMayAllocate s.reader
 memory_there e d s mid t placed fresh r no_end same stops is memory =
     let q = ran_unchanged s mid t placed r same in
-    (s, t, placed, refl, fresh, q, passes s t placed fresh q no_end, memory_needs simd is_reading e t stops (sym is ∙ memory))
+    (s, t, placed, refl, fresh, q, passes s t placed fresh q no_end, memory_needs all_operators is_reading e t stops (sym is ∙ memory))
 
 pub refused_there : (e d : Error) (s mid t : State) (placed : Placed) → IsFresh s → TakesOperators s mid placed → HasNoEnd (operators placed) →
     IsUnchanged mid t → Stops e t →

@@ -17,7 +17,7 @@ use Rattle.wasm_operators.proofs.Premises.{Everything}
 use Rattle.wasm_operators.proofs.Runs.{run_only, fresh_before}
 use Rattle.wasm_operators.proofs.DecoderPremises.{takes_all, keeps_all}
 use Rattle.wasm_decode.proofs.DeterminedOperatorRefusals.{operator_determines}
-use Rattle.wasm_operators.specs.Next.{adding}
+use Rattle.wasm_operators.specs.Next.{collecting}
 use Rattle.wasm_operators.specs.Body.{EncodesBody, OpensBody, NoExpression, StopsBody}
 use Rattle.wasm_operators.specs.Locals.{Declaration, EncodesLocals, RefusesLocals}
 use Rattle.wasm_operators.proofs.Bodies.{no_body, expression_after_locals}
@@ -28,7 +28,7 @@ use Rattle.wasm_operators.proofs.Determined.{locals_determine}
 abbrev roomy : ℕ → State → State
 roomy room s = record { reader = s.reader; frames = s.frames; room = room }
 
-stops_roomy : (room : ℕ) (e : Error) (s : State) → StopsRun adding e s → StopsRun adding e (roomy room s)
+stops_roomy : (room : ℕ) (e : Error) (s : State) → StopsRun collecting e s → StopsRun collecting e (roomy room s)
 stops_roomy room e s (inl left) = inl left
 stops_roomy room e s (inr (some, inl none)) = inr (some, inl none)
 stops_roomy room e s (inr (some, inr (inl there))) =
@@ -75,7 +75,7 @@ pub stopped_none : (e : Error) (body : Reader) (placed whole : Placed) (declarat
     StopsBody e body placed → EncodesBody (source_of body) declarations whole → ⊥
 stopped_none e body placed whole declarations other (inl h) encodes = no_body e body declarations whole h.refused encodes
 stopped_none e body placed whole declarations other (inr h) encodes =
-    other (run_only Everything adding keeps_all [] e (roomy 0 h.opened) (roomy (enough e body placed h) h.stopped) placed whole
+    other (run_only Everything collecting keeps_all [] e (roomy 0 h.opened) (roomy (enough e body placed h) h.stopped) placed whole
     (fresh_before (roomy 0 h.opened) h.opens.1) (ran_after e body placed h) tt (stops_roomy (enough e body placed h) e h.stopped h.reads.stops)
     (expression_after_locals body h.opened declarations whole h.opens encodes) tt)
 
@@ -90,7 +90,7 @@ stopped_same d e body first second other others (inr p) (inl q) = absurd (no_loc
 stopped_same d e body first second other others (inr p) (inr q) =
     let reader : q.opened.reader ≡ p.opened.reader = (one_past p.opened.reader q.opened.reader body p.opens.0.0 q.opens.0.0 p.opens.0.1 q.opens.0.1).0 in
     let frames : q.opened.frames ≡ p.opened.frames = q.opens.1 ∙ sym p.opens.1 in
-    let same = run_determined {X = Unit {0}} {Y = Unit {0}} adding Everything takes_all operator_determines (Err d) (Err e)
+    let same = run_determined {X = Unit {0}} {Y = Unit {0}} collecting Everything takes_all operator_determines (Err d) (Err e)
     (roomy 0 p.opened) (roomy (enough d body first p) p.stopped) (roomy 0 q.opened) (roomy (enough e body second q) q.stopped) first second reader frames
     (ran_after d body first p) (ran_after e body second q) (λ before after at is. tt) (λ before after at is. tt)
     (stops_roomy (enough d body first p) d p.stopped p.reads.stops) (stops_roomy (enough e body second q) e q.stopped q.reads.stops) other others in

@@ -31,10 +31,10 @@ module _ {V A : Type 0} (visits : V → Operator → A → V → Type 0) (Encode
   refused_after old mid new kind code start e v w b (same, refused) frames room =
       let stops = begun_stopped Encodes Fault old mid new kind code start e b refused frames room in (stops.0, same, stops.1)
 
-  pub visited_from_20 : IsSound Encodes → TakesAllowed Encodes → (old mid new : State) (kind : FrameKind) (code start : ℕ) (result : Result A Error) (v w : V) →
+  pub visited_keeping : IsSound Encodes → TakesAllowed Encodes → (old mid new : State) (kind : FrameKind) (code start : ℕ) (result : Result A Error) (v w : V) →
       0x20 ≤ code → BeginsOperator old mid kind start code → After mid new kind start result v w → new.frames ≡ mid.frames → new.room ≡ mid.room →
       VisitsOperator visits (one_read Encodes Fault) result old new v w
-  visited_from_20 sound allowed old mid new kind code start (Ok a) v w high b (op, (text, encodes, takes), visit) frames room =
+  visited_keeping sound allowed old mid new kind code start (Ok a) v w high b (op, (text, encodes, takes), visit) frames room =
       (op, begun_kept Encodes sound allowed old mid new kind code start op text high b encodes takes frames room, visit)
-  visited_from_20 sound allowed old mid new kind code start (Err e) v w high b after frames room =
+  visited_keeping sound allowed old mid new kind code start (Err e) v w high b after frames room =
       refused_after old mid new kind code start e v w b after frames room

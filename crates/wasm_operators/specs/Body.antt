@@ -6,7 +6,7 @@ use Rattle.wasm_below.specs.Source.{Source, Reader, source_of}
 use Rattle.wasm_operators.specs.Expression.{Placed, OfPlaced, EncodesExpression}
 use Rattle.wasm_operators.specs.Reading.{State, IsFresh}
 use Rattle.wasm_operators.specs.MainTheorem.{ReadsBeginning}
-use Rattle.wasm_operators.specs.Next.{adding}
+use Rattle.wasm_operators.specs.Next.{collecting}
 use Rattle.wasm_operators.specs.Locals.{Declaration, EncodesLocals, RefusesLocals, ReadsPastLocals}
 
 -- The bytes of a source after the prefix `text`, as a source.
@@ -37,7 +37,7 @@ pub record NoExpression (e : Error) (body : Reader) (placed : Placed) : Type 0 w
   pub opened : State
   pub opens : OpensBody (Ok opened) body
   pub stopped : State
-  pub reads : ReadsBeginning adding [] e opened stopped placed
+  pub reads : ReadsBeginning collecting [] e opened stopped placed
 
 -- Except after `OutOfMemory`: the bytes encode no body; these operators are the longest prefix of
 -- an expression, or none if the locals are in error.

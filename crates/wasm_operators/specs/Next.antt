@@ -23,34 +23,34 @@ abbrev pub NextMayAllocate : Taking → Allocating
 NextMayAllocate Encodes s = FrameMayAllocate s ⊎ ListMayAllocate Encodes s
 
 -- All operators are decoded; allocation may fail in these states.
-abbrev pub simd_if : Allocating → Decoder
-simd_if Allocates = record { Encodes = EncodesAllowed; Fault = OperatorFault; Allocates = Allocates; Kept = IsAny }
+abbrev pub all_operators_if : Allocating → Decoder
+all_operators_if Allocates = record { Encodes = EncodesAllowed; Fault = OperatorFault; Allocates = Allocates; Kept = IsAny }
 
 -- The same, for the states of `NextMayAllocate`.
-abbrev pub simd : Decoder
-simd = simd_if (NextMayAllocate EncodesAllowed)
+abbrev pub all_operators : Decoder
+all_operators = all_operators_if (NextMayAllocate EncodesAllowed)
 
--- As `simd`, with a list of operators: adding one may fail anywhere.
-abbrev pub adding : Decoder
-adding = simd_if Anywhere
+-- As `all_operators`, with a list of operators: adding one may fail anywhere.
+abbrev pub collecting : Decoder
+collecting = all_operators_if Anywhere
 
--- As `simd`, without SIMD operators.
-abbrev pub scalar : Decoder
-scalar = record { Encodes = EncodesScalar; Fault = ScalarOperatorFault; Allocates = NextMayAllocate EncodesScalar; Kept = IsScalar }
+-- As `all_operators`, without SIMD operators.
+abbrev pub scalar_operators : Decoder
+scalar_operators = record { Encodes = EncodesScalar; Fault = ScalarOperatorFault; Allocates = NextMayAllocate EncodesScalar; Kept = IsScalar }
 
 -- `Ok`, and `TakesOperator`, if and only if an operator that the innermost frame allows is next,
 -- unless allocation fails; otherwise `StopsNext`.
 abbrev pub ReadsNext : Result Operator Error → State → State → Type 0
-ReadsNext = ReadsOperator simd
+ReadsNext = ReadsOperator all_operators
 
 -- As `ReadsNext`, and the visitor's relation holds at the operator. On `Err`, the visitor is
 -- unchanged.
 abbrev pub VisitsNext : {V A : Type 0} → (V → Operator → A → V → Type 0) → Result A Error → State → State → V → V → Type 0
-VisitsNext visits = VisitsOperator visits simd
+VisitsNext visits = VisitsOperator visits all_operators
 
 -- As `VisitsNext`, by a visitor without SIMD operators.
 abbrev pub VisitsNextScalar : {V A : Type 0} → (V → Operator → A → V → Type 0) → Result A Error → State → State → V → V → Type 0
-VisitsNextScalar visits = VisitsOperator visits scalar
+VisitsNextScalar visits = VisitsOperator visits scalar_operators
 
 abbrev pub state_of : Reader → OpenFrames → State
 state_of r s = record { reader = r; frames = s.frames; room = s.room }

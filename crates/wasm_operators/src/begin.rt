@@ -1,6 +1,6 @@
 //! What precedes the immediates of an operator.
 ghost use Rattle.std.specs.Prelude.{IfOk, IfErr};
-ghost use Rattle.wasm_operators.specs.Next.{BeginsOperator, StopsNext, state_of, simd, scalar};
+ghost use Rattle.wasm_operators.specs.Next.{BeginsOperator, StopsNext, state_of, all_operators, scalar_operators};
 
 use crate::ControlStack;
 use wasm_below::{BinaryReader, Message, Result};
@@ -28,9 +28,9 @@ pub fn begin(reader: &mut BinaryReader<'_>, control: &mut ControlStack) -> Resul
         (λ at. BeginsOperator (state_of reader.old control.old) (state_of reader.new control.new)
         at.frame at.start at.code) }
     ensures refused { IfErr result
-        (λ e. StopsNext simd e (state_of reader.old control.old) (state_of reader.new control.new)) }
+        (λ e. StopsNext all_operators e (state_of reader.old control.old) (state_of reader.new control.new)) }
     ensures scalar { IfErr result
-        (λ e. StopsNext scalar e (state_of reader.old control.old) (state_of reader.new control.new)) }
+        (λ e. StopsNext scalar_operators e (state_of reader.old control.old) (state_of reader.new control.new)) }
 {
     let Some(frame) = control.last() else {
         return Err(no_frame(reader));

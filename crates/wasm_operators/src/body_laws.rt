@@ -5,7 +5,7 @@ ghost use Rattle.wasm_below.specs.Sequence.{PrefixCode};
 ghost use Rattle.wasm_below.specs.Source.{Source, Reader, source_of};
 ghost use Rattle.wasm_operators.specs.Expression.{Placed, EncodesExpression};
 ghost use Rattle.wasm_operators.specs.MainTheorem.{ReadsTree, ReadsBeginning};
-ghost use Rattle.wasm_operators.specs.Next.{simd, adding};
+ghost use Rattle.wasm_operators.specs.Next.{all_operators, collecting};
 ghost use Rattle.wasm_operators.specs.Reading.{State};
 ghost use Rattle.wasm_operators.specs.Body.{EncodesBody, OpensBody, StopsBody};
 ghost use Rattle.wasm_operators.specs.Locals.{Declaration, EncodesDeclaration, EncodesLocals, DeclarationFault, LocalsFault, NextFault, RefusesLocals, IsPastLocals, Locals, LocalsLeft, OpensLocals, StepsLocals, HasStepped, all_left};
@@ -53,9 +53,9 @@ pub fn opened_bodies()
         → OpensBody (Ok opened) body → EncodesBody (source_of body) declarations placed
         → EncodesExpression (source_of opened.reader) placed }
     ensures stopped { (e : Error) (body : Reader) (opened new : State) (placed : Placed) → OpensBody (Ok opened) body
-        → ReadsBeginning adding [] e opened new placed → StopsBody e body placed }
+        → ReadsBeginning collecting [] e opened new placed → StopsBody e body placed }
     ensures stopped_visits { (e : Error) (body : Reader) (opened new : State) (placed : Placed) → OpensBody (Ok opened) body
-        → ReadsBeginning simd [] e opened new placed → StopsBody e body placed }
+        → ReadsBeginning all_operators [] e opened new placed → StopsBody e body placed }
 {}
 
 /// States that if the locals are in error, the bytes encode no body, and that reading locals does

@@ -8,7 +8,7 @@ ghost use Rattle.wasm_decode_opcodes.specs.declared.guard.Guard.{Guard};
 ghost use Rattle.wasm_decode_opcodes.specs.Entry.{guarded_role, guarded_instruction, needed_frame};
 ghost use Rattle.wasm_decode_opcodes.specs.OperatorFaults.{LacksFeature, OperatorFault, ScalarOperatorFault};
 ghost use Rattle.wasm_operators.specs.Guarded.{BeginsGuarded};
-ghost use Rattle.wasm_operators.specs.Next.{NextMayAllocate, simd, adding, scalar};
+ghost use Rattle.wasm_operators.specs.Next.{NextMayAllocate, all_operators, collecting, scalar_operators};
 ghost use Rattle.wasm_operators.specs.Reading.{State, StopsRead, StopsRun};
 
 use wasm_below::{FrameName, InstructionName, Message, WasmFeatures};
@@ -54,29 +54,29 @@ pub fn wrong_frames(features: WasmFeatures, frame: FrameKind)
 /// States that an error of reading to the end, except `OutOfMemory`, is `OperatorsRemaining` if no
 /// frame is open. It is `FramesRemain` if one is and all data was read, otherwise neither.
 pub fn run_messages()
-    ensures closed { (e : Error) (s : State) → StopsRun adding e s
+    ensures closed { (e : Error) (s : State) → StopsRun collecting e s
         → (e.message ≡ Message.OutOfMemory → ⊥) → (e.message ≡ Message.OperatorsRemaining) ↔ (s.frames ≡ []) }
-    ensures left { (e : Error) (s : State) → StopsRun adding e s
+    ensures left { (e : Error) (s : State) → StopsRun collecting e s
         → (e.message ≡ Message.FramesRemain) ↔ ((rest s.reader ≡ []) × (s.frames ≡ [] → ⊥)) }
-    ensures visits_closed { (e : Error) (s : State) → StopsRun simd e s
+    ensures visits_closed { (e : Error) (s : State) → StopsRun all_operators e s
         → (e.message ≡ Message.OutOfMemory → ⊥) → (e.message ≡ Message.OperatorsRemaining) ↔ (s.frames ≡ []) }
-    ensures visits_left { (e : Error) (s : State) → StopsRun simd e s
+    ensures visits_left { (e : Error) (s : State) → StopsRun all_operators e s
         → (e.message ≡ Message.FramesRemain) ↔ ((rest s.reader ≡ []) × (s.frames ≡ [] → ⊥)) }
-    ensures scalar_closed { (e : Error) (s : State) → StopsRun scalar e s
+    ensures scalar_closed { (e : Error) (s : State) → StopsRun scalar_operators e s
         → (e.message ≡ Message.OutOfMemory → ⊥) → (e.message ≡ Message.OperatorsRemaining) ↔ (s.frames ≡ []) }
-    ensures scalar_left { (e : Error) (s : State) → StopsRun scalar e s
+    ensures scalar_left { (e : Error) (s : State) → StopsRun scalar_operators e s
         → (e.message ≡ Message.FramesRemain) ↔ ((rest s.reader ≡ []) × (s.frames ≡ [] → ⊥)) }
 {}
 
 /// States that allocation fails only if the next operator may own a list, or opens a frame without
 /// capacity.
 pub fn memory_asked()
-    ensures read { (e : Error) (s : State) → StopsRead simd e s
+    ensures read { (e : Error) (s : State) → StopsRead all_operators e s
         → e.message ≡ Message.OutOfMemory → NextMayAllocate EncodesAllowed s }
-    ensures scalar_read { (e : Error) (s : State) → StopsRead scalar e s
+    ensures scalar_read { (e : Error) (s : State) → StopsRead scalar_operators e s
         → e.message ≡ Message.OutOfMemory → NextMayAllocate EncodesScalar s }
-    ensures visits { (e : Error) (s : State) → StopsRun simd e s
+    ensures visits { (e : Error) (s : State) → StopsRun all_operators e s
         → e.message ≡ Message.OutOfMemory → NextMayAllocate EncodesAllowed s }
-    ensures scalar_visits { (e : Error) (s : State) → StopsRun scalar e s
+    ensures scalar_visits { (e : Error) (s : State) → StopsRun scalar_operators e s
         → e.message ≡ Message.OutOfMemory → NextMayAllocate EncodesScalar s }
 {}

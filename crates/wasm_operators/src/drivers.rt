@@ -1,7 +1,7 @@
 //! Reading and visiting to the end of the data.
 ghost use Rattle.std.specs.Prelude.{◌≡◌, ◌+◌, ◌<◌, ◌≤◌, ◌⊎◌, IfErr, vec_capacity, vec_len};
 ghost use Rattle.wasm_decode_opcodes.specs.Allowed.{EncodesAllowed};
-ghost use Rattle.wasm_operators.specs.Next.{NextMayAllocate, simd, adding, scalar};
+ghost use Rattle.wasm_operators.specs.Next.{NextMayAllocate, all_operators, collecting, scalar_operators};
 ghost use Rattle.wasm_operators.specs.Visiting.{Visited, VisitedScalar};
 ghost use Rattle.wasm_operators.specs.Reading.{RunsToEnd, Adds};
 ghost use Rattle.wasm_operators.specs.MainTheorem.{ReadsRest, ReadsFlat, StopsAtSimd, IsWithinDepth};
@@ -18,7 +18,7 @@ impl<'a> OperatorsReader<'a> {
     fn read_to_end<T>(&mut self, out: &mut Vec<(T, u64)>) -> Result<()>
     where
         T: HoldTable<'a> + Drop,
-        ensures runs { RunsToEnd adding (Collects T.holds out.old.items out.new.items) result self.old self.new }
+        ensures runs { RunsToEnd collecting (Collects T.holds out.old.items out.new.items) result self.old self.new }
         ensures kept { vec_capacity out.old ≤ vec_capacity out.new }
         ensures memory { IfErr result
             (λ e. e.message ≡ Message.OutOfMemory
@@ -49,11 +49,11 @@ impl<'a> OperatorsReader<'a> {
     /// ```
     pub fn read_all(&mut self, out: &mut Vec<(Operator<'a>, u64)>) -> Result<()>
         // The added operators are the walk of the encoded tree, or the longest prefix of one.
-        ensures rest { ReadsRest adding (Adds out.old.items out.new.items) result self.old self.new }
+        ensures rest { ReadsRest collecting (Adds out.old.items out.new.items) result self.old self.new }
         // Where the reader is, and why reading ended.
-        ensures runs { RunsToEnd adding (Adds out.old.items out.new.items) result self.old self.new }
+        ensures runs { RunsToEnd collecting (Adds out.old.items out.new.items) result self.old self.new }
         // By the frames alone: the added operators are the longest list that they allow.
-        ensures flat { ReadsFlat adding (Adds out.old.items out.new.items) result self.old }
+        ensures flat { ReadsFlat collecting (Adds out.old.items out.new.items) result self.old }
         ensures depth { IsWithinDepth self.old self.new }
         ensures kept { vec_capacity out.old ≤ vec_capacity out.new }
         // Allocation fails only if one read may allocate, or if `out` is full.
@@ -82,9 +82,9 @@ impl<'a> OperatorsReader<'a> {
     where
         V: VisitOperator<'a>,
         V::Output: Copy,
-        ensures rest { ReadsRest simd (Visited V.visits v.old v.new) result self.old self.new }
-        ensures runs { RunsToEnd simd (Visited V.visits v.old v.new) result self.old self.new }
-        ensures flat { ReadsFlat simd (Visited V.visits v.old v.new) result self.old }
+        ensures rest { ReadsRest all_operators (Visited V.visits v.old v.new) result self.old self.new }
+        ensures runs { RunsToEnd all_operators (Visited V.visits v.old v.new) result self.old self.new }
+        ensures flat { ReadsFlat all_operators (Visited V.visits v.old v.new) result self.old }
         ensures depth { IsWithinDepth self.old self.new }
     {
         self.visit_to_end_simd(v)
@@ -97,9 +97,9 @@ impl<'a> OperatorsReader<'a> {
         V::Output: Copy,
         // The visited operators are the walk of the encoded tree, or the longest list without SIMD
         // operators that begins one.
-        ensures rest { ReadsRest scalar (VisitedScalar V.visits v.old v.new) result self.old self.new }
-        ensures runs { RunsToEnd scalar (VisitedScalar V.visits v.old v.new) result self.old self.new }
-        ensures flat { ReadsFlat scalar (VisitedScalar V.visits v.old v.new) result self.old }
+        ensures rest { ReadsRest scalar_operators (VisitedScalar V.visits v.old v.new) result self.old self.new }
+        ensures runs { RunsToEnd scalar_operators (VisitedScalar V.visits v.old v.new) result self.old self.new }
+        ensures flat { ReadsFlat scalar_operators (VisitedScalar V.visits v.old v.new) result self.old }
         ensures vector { StopsAtSimd result self.old }
         ensures depth { IsWithinDepth self.old self.new }
     {

@@ -6,7 +6,7 @@ ghost use Rattle.std.specs.Prelude.{◌≡◌, ◌+◌, ◌<◌, ◌≤◌, ◌�
 ghost use Rattle.wasm_below.specs.Source.{rest};
 ghost use Rattle.wasm_decode_opcodes.specs.Allowed.{EncodesAllowed};
 ghost use Rattle.wasm_operators.specs.Collecting.{Collects};
-ghost use Rattle.wasm_operators.specs.Next.{NextMayAllocate, simd, adding, scalar, VisitsNext, VisitsNextScalar, state_of};
+ghost use Rattle.wasm_operators.specs.Next.{NextMayAllocate, all_operators, collecting, scalar_operators, VisitsNext, VisitsNextScalar, state_of};
 ghost use Rattle.wasm_operators.specs.Expression.{Placed};
 ghost use Rattle.wasm_operators.specs.Reading.{StopsRun, TakesOperators};
 ghost use Rattle.wasm_operators.specs.Visiting.{Visited, VisitedScalar};
@@ -91,7 +91,7 @@ where
     ensures visited { (placed : Placed) × Visited V.visits v.old v.new placed
         × TakesOperators (state_of reader.old control.old) (state_of reader.new control.new) placed }
     ensures end { OnOk result (rest reader.new ≡ []) }
-    ensures stopped { IfErr result (λ e. StopsRun simd e (state_of reader.new control.new)) }
+    ensures stopped { IfErr result (λ e. StopsRun all_operators e (state_of reader.new control.new)) }
 {
     let mut more = !reader.eof();
     'visits: while more {
@@ -117,7 +117,7 @@ where
     ensures visited { (placed : Placed) × VisitedScalar V.visits v.old v.new placed
         × TakesOperators (state_of reader.old control.old) (state_of reader.new control.new) placed }
     ensures end { OnOk result (rest reader.new ≡ []) }
-    ensures stopped { IfErr result (λ e. StopsRun scalar e (state_of reader.new control.new)) }
+    ensures stopped { IfErr result (λ e. StopsRun scalar_operators e (state_of reader.new control.new)) }
 {
     let mut more = !reader.eof();
     'scalar_visits: while more {
@@ -144,7 +144,7 @@ where
     ensures collected { (placed : Placed) × Collects T.holds list.old.items.items list.new.items.items placed
         × TakesOperators (state_of reader.old control.old) (state_of reader.new control.new) placed }
     ensures end { OnOk result (rest reader.new ≡ []) }
-    ensures stopped { IfErr result (λ e. StopsRun adding e (state_of reader.new control.new)) }
+    ensures stopped { IfErr result (λ e. StopsRun collecting e (state_of reader.new control.new)) }
     ensures kept { vec_capacity list.old.items ≤ vec_capacity list.new.items }
     ensures memory { IfErr result
         (λ e. e.message ≡ Message.OutOfMemory

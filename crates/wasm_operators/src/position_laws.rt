@@ -1,7 +1,7 @@
 ghost use Rattle.std.specs.Prelude.{◌≡◌, ◌≤◌, List, ℕ, Err};
 ghost use Rattle.wasm_below.specs.declared.error.Error.{Error};
 ghost use Rattle.wasm_below.specs.Source.{Reader, offset_of, end_of, Takes, IsAhead};
-ghost use Rattle.wasm_operators.specs.Next.{simd, adding, scalar};
+ghost use Rattle.wasm_operators.specs.Next.{all_operators, collecting, scalar_operators};
 ghost use Rattle.wasm_operators.specs.Reading.{State, Finishes, StopsRead, StopsRun};
 
 use wasm_below::BinaryReader;
@@ -21,16 +21,16 @@ pub fn taken_within()
 
 /// States that an error is within the rest, or at its end.
 pub fn refusals_ahead()
-    ensures read { (e : Error) (s : State) → StopsRead simd e s
+    ensures read { (e : Error) (s : State) → StopsRead all_operators e s
         → offset_of s.reader ≤ end_of s.reader → IsAhead s.reader e.offset }
-    ensures scalar_read { (e : Error) (s : State) → StopsRead scalar e s
+    ensures scalar_read { (e : Error) (s : State) → StopsRead scalar_operators e s
         → offset_of s.reader ≤ end_of s.reader → IsAhead s.reader e.offset }
     ensures finish { (e : Error) (s : State) → Finishes {X = Unit {0}} (Err e) s
         → offset_of s.reader ≤ end_of s.reader → IsAhead s.reader e.offset }
-    ensures reads { (e : Error) (s : State) → StopsRun adding e s
+    ensures reads { (e : Error) (s : State) → StopsRun collecting e s
         → offset_of s.reader ≤ end_of s.reader → IsAhead s.reader e.offset }
-    ensures visits { (e : Error) (s : State) → StopsRun simd e s
+    ensures visits { (e : Error) (s : State) → StopsRun all_operators e s
         → offset_of s.reader ≤ end_of s.reader → IsAhead s.reader e.offset }
-    ensures scalar_visits { (e : Error) (s : State) → StopsRun scalar e s
+    ensures scalar_visits { (e : Error) (s : State) → StopsRun scalar_operators e s
         → offset_of s.reader ≤ end_of s.reader → IsAhead s.reader e.offset }
 {}

@@ -2,7 +2,7 @@ ghost use Rattle.std.specs.Prelude.{◌≡◌, ◌≢◌, List};
 ghost use Rattle.wasm_below.specs.declared.error.Error.{Error};
 ghost use Rattle.wasm_instr.specs.declared.operator.Operator.{Operator};
 ghost use Rattle.wasm_decode_opcodes.specs.Allowed.{EncodesAllowed, EncodesScalar};
-ghost use Rattle.wasm_operators.specs.Next.{StopsNext, simd, adding, scalar};
+ghost use Rattle.wasm_operators.specs.Next.{StopsNext, all_operators, collecting, scalar_operators};
 ghost use Rattle.wasm_operators.specs.Expression.{Placed};
 ghost use Rattle.wasm_operators.specs.Reading.{State, SameReaderAndFrames, TakesOperator};
 ghost use Rattle.wasm_operators.specs.MainTheorem.{ReadsBeginning};
@@ -12,22 +12,22 @@ use wasm_below::Message;
 /// States that a failed read or visit fails again with the same error, unless allocation fails.
 pub fn refused_again()
     ensures any { (d e : Error) (old mid new : State)
-        → StopsNext simd d old mid → d.message ≢ Message.OutOfMemory
-        → StopsNext simd e mid new → e.message ≢ Message.OutOfMemory
+        → StopsNext all_operators d old mid → d.message ≢ Message.OutOfMemory
+        → StopsNext all_operators e mid new → e.message ≢ Message.OutOfMemory
         → (d.message ≡ e.message) × (d.offset ≡ e.offset) }
     ensures scalar { (d e : Error) (old mid new : State)
-        → StopsNext scalar d old mid → d.message ≢ Message.OutOfMemory
-        → StopsNext scalar e mid new → e.message ≢ Message.OutOfMemory
+        → StopsNext scalar_operators d old mid → d.message ≢ Message.OutOfMemory
+        → StopsNext scalar_operators e mid new → e.message ≢ Message.OutOfMemory
         → (d.message ≡ e.message) × (d.offset ≡ e.offset) }
 {}
 
 /// States that repeating a failed read reads no operator, unless allocation had failed.
 pub fn not_taken()
     ensures any { (e : Error) (old mid new : State) (op : Operator)
-        → StopsNext simd e old mid → e.message ≢ Message.OutOfMemory
+        → StopsNext all_operators e old mid → e.message ≢ Message.OutOfMemory
         → ¬ TakesOperator EncodesAllowed op mid new }
     ensures scalar { (e : Error) (old mid new : State) (op : Operator)
-        → StopsNext scalar e old mid → e.message ≢ Message.OutOfMemory
+        → StopsNext scalar_operators e old mid → e.message ≢ Message.OutOfMemory
         → ¬ TakesOperator EncodesScalar op mid new }
 {}
 
@@ -38,21 +38,21 @@ pub fn same_result()
         → TakesOperator EncodesAllowed op old new → TakesOperator EncodesAllowed other start end
         → (op ≡ other) × SameReaderAndFrames new end }
     ensures refused { (d e : Error) (old new start end : State) → SameReaderAndFrames old start
-        → StopsNext simd d old new → d.message ≢ Message.OutOfMemory
-        → StopsNext simd e start end → e.message ≢ Message.OutOfMemory
+        → StopsNext all_operators d old new → d.message ≢ Message.OutOfMemory
+        → StopsNext all_operators e start end → e.message ≢ Message.OutOfMemory
         → (d.message ≡ e.message) × (d.offset ≡ e.offset) × SameReaderAndFrames new end }
     ensures never_both { (e : Error) (op : Operator) (old new start end : State) → SameReaderAndFrames old start
-        → TakesOperator EncodesAllowed op old new → StopsNext simd e start end
+        → TakesOperator EncodesAllowed op old new → StopsNext all_operators e start end
         → e.message ≡ Message.OutOfMemory }
     ensures scalar_taken { (op other : Operator) (old new start end : State) → SameReaderAndFrames old start
         → TakesOperator EncodesScalar op old new → TakesOperator EncodesScalar other start end
         → (op ≡ other) × SameReaderAndFrames new end }
     ensures scalar_refused { (d e : Error) (old new start end : State) → SameReaderAndFrames old start
-        → StopsNext scalar d old new → d.message ≢ Message.OutOfMemory
-        → StopsNext scalar e start end → e.message ≢ Message.OutOfMemory
+        → StopsNext scalar_operators d old new → d.message ≢ Message.OutOfMemory
+        → StopsNext scalar_operators e start end → e.message ≢ Message.OutOfMemory
         → (d.message ≡ e.message) × (d.offset ≡ e.offset) × SameReaderAndFrames new end }
     ensures scalar_never_both { (e : Error) (op : Operator) (old new start end : State) → SameReaderAndFrames old start
-        → TakesOperator EncodesScalar op old new → StopsNext scalar e start end
+        → TakesOperator EncodesScalar op old new → StopsNext scalar_operators e start end
         → e.message ≡ Message.OutOfMemory }
 {}
 
@@ -60,23 +60,23 @@ pub fn same_result()
 /// the place, the open frames and the error, unless allocation fails.
 pub fn one_result()
     ensures reads { (before : List Operator) (d e : Error) (old new end : State) (placed others : Placed)
-        → ReadsBeginning adding before d old new placed
+        → ReadsBeginning collecting before d old new placed
         → d.message ≢ Message.OutOfMemory
-        → ReadsBeginning adding before e old end others
+        → ReadsBeginning collecting before e old end others
         → e.message ≢ Message.OutOfMemory
         → (placed ≡ others) × (end.reader ≡ new.reader) × (end.frames ≡ new.frames) × (d.message ≡ e.message)
         × (d.offset ≡ e.offset) }
     ensures visits { (before : List Operator) (d e : Error) (old new end : State) (placed others : Placed)
-        → ReadsBeginning simd before d old new placed
+        → ReadsBeginning all_operators before d old new placed
         → d.message ≢ Message.OutOfMemory
-        → ReadsBeginning simd before e old end others
+        → ReadsBeginning all_operators before e old end others
         → e.message ≢ Message.OutOfMemory
         → (placed ≡ others) × (end.reader ≡ new.reader) × (end.frames ≡ new.frames) × (d.message ≡ e.message)
         × (d.offset ≡ e.offset) }
     ensures scalar { (before : List Operator) (d e : Error) (old new end : State) (placed others : Placed)
-        → ReadsBeginning scalar before d old new placed
+        → ReadsBeginning scalar_operators before d old new placed
         → d.message ≢ Message.OutOfMemory
-        → ReadsBeginning scalar before e old end others
+        → ReadsBeginning scalar_operators before e old end others
         → e.message ≢ Message.OutOfMemory
         → (placed ≡ others) × (end.reader ≡ new.reader) × (end.frames ≡ new.frames) × (d.message ≡ e.message)
         × (d.offset ≡ e.offset) }

@@ -4,7 +4,7 @@ ghost use Rattle.wasm_below.specs.Source.{rest, source_of};
 ghost use Rattle.wasm_instr.specs.declared.operator.Operator.{Operator};
 ghost use Rattle.wasm_decode_opcodes.specs.Allowed.{EncodesAllowed, EncodesScalar};
 ghost use Rattle.wasm_operators.specs.Expression.{Placed, EncodesRest};
-ghost use Rattle.wasm_operators.specs.Next.{simd, adding};
+ghost use Rattle.wasm_operators.specs.Next.{all_operators, collecting};
 ghost use Rattle.wasm_operators.specs.Reading.{State, IsFresh, IsUnchanged, TakesOperator, TakesOperators, Finishes, FramesLeft, StopsRead, StopsRun};
 ghost use Rattle.wasm_operators.specs.Laws.{TakesNone, TakesOneMore, TakesNoMore, TakesBoth, TakesBytes, AddsFewFrames, MemoryAddsUp};
 ghost use Rattle.wasm_operators.specs.MainTheorem.{ReadSoFar, ReadsTree, ReadsBeginning, IsWithinDepth};
@@ -55,11 +55,11 @@ pub fn read_to_the_end()
     ensures tree { (before : List Operator) (old new : State) (placed : Placed) → ReadSoFar before old
         → TakesOperators old new placed → new.frames ≡ [] → rest new.reader ≡ [] → ReadsTree before old new placed }
     ensures beginning { (before : List Operator) (e : Error) (old new : State) (placed : Placed) → ReadSoFar before old
-        → TakesOperators old new placed → StopsRun adding e new → ReadsBeginning adding before e old new placed }
+        → TakesOperators old new placed → StopsRun collecting e new → ReadsBeginning collecting before e old new placed }
     ensures only { (before : List Operator) (e : Error) (old new : State) (placed whole : Placed)
-        → ReadSoFar before old → TakesOperators old new placed → StopsRun adding e new
+        → ReadSoFar before old → TakesOperators old new placed → StopsRun collecting e new
         → EncodesRest before (source_of old.reader) whole → e.message ≡ Message.OutOfMemory }
     // A failed read stops as the clauses above assume.
-    ensures refused { (e : Error) (s : State) → StopsRead simd e s → StopsRead adding e s }
+    ensures refused { (e : Error) (s : State) → StopsRead all_operators e s → StopsRead collecting e s }
     ensures finished { (e : Error) (s : State) → rest s.reader ≡ [] → Finishes {X = Unit {0}} (Err e) s → FramesLeft e s }
 {}

@@ -2,7 +2,7 @@
 ghost use Rattle.std.specs.Prelude.{◌≡◌, ◌+◌, ◌<◌, ◌≤◌, ◌⊎◌, IfErr, vec_capacity, vec_len};
 ghost use Rattle.wasm_decode_opcodes.specs.Allowed.{EncodesAllowed};
 ghost use Rattle.wasm_operators.specs.Collecting.{Collects};
-ghost use Rattle.wasm_operators.specs.Next.{NextMayAllocate, simd, adding, scalar};
+ghost use Rattle.wasm_operators.specs.Next.{NextMayAllocate, all_operators, collecting, scalar_operators};
 ghost use Rattle.wasm_operators.specs.Reading.{RunsToEnd};
 ghost use Rattle.wasm_operators.specs.Visiting.{Visited, VisitedScalar};
 
@@ -18,7 +18,7 @@ impl<'a> OperatorsReader<'a> {
     pub(crate) fn collect_to_end<T>(&mut self, list: &mut Collector<T>) -> Result<()>
     where
         T: HoldTable<'a> + Drop,
-        ensures runs { RunsToEnd adding (Collects T.holds list.old.items.items list.new.items.items) result self.old self.new }
+        ensures runs { RunsToEnd collecting (Collects T.holds list.old.items.items list.new.items.items) result self.old self.new }
         ensures kept { vec_capacity list.old.items ≤ vec_capacity list.new.items }
         ensures memory { IfErr result
             (λ e. e.message ≡ Message.OutOfMemory
@@ -37,7 +37,7 @@ impl<'a> OperatorsReader<'a> {
     where
         V: VisitOperator<'a>,
         V::Output: Copy,
-        ensures { RunsToEnd simd (Visited V.visits v.old v.new) result self.old self.new }
+        ensures { RunsToEnd all_operators (Visited V.visits v.old v.new) result self.old self.new }
     {
         let mut reader = self.reader.clone();
         let mut control = replace(&mut self.control, ControlStack::new(self.alloc));
@@ -53,7 +53,7 @@ impl<'a> OperatorsReader<'a> {
     pub(crate) fn visit_to_end<V: VisitOperator<'a>>(&mut self, v: &mut V) -> Result<()>
     where
         V::Output: Copy,
-        ensures { RunsToEnd scalar (VisitedScalar V.visits v.old v.new) result self.old self.new }
+        ensures { RunsToEnd scalar_operators (VisitedScalar V.visits v.old v.new) result self.old self.new }
     {
         let mut reader = self.reader.clone();
         let mut control = replace(&mut self.control, ControlStack::new(self.alloc));

@@ -1,6 +1,6 @@
 use Rattle.std.proofs.Common.{[], refl}
 use Rattle.std.proofs.lemmas.Result.{err_from_is_err_and}
-use Rattle.wasm_operators.specs.Next.{simd}
+use Rattle.wasm_operators.specs.Next.{all_operators}
 use Rattle.wasm_listing.specs.Census.{Counted}
 use Rattle.wasm_listing.specs.Dump.{input_of}
 use Rattle.wasm_listing.proofs.BodyLemmas.{refused_body, opened_body, opened_memory}
@@ -28,7 +28,7 @@ returns-in_err-operators-clause-memory c =
 
 pub returns-clause-counts : goal.returns-clause-counts
 returns-clause-counts c =
-    opened_body simd (Counted c.args.census.now c.visit_all_simd.new.v) c.visit_all_simd.result
+    opened_body all_operators (Counted c.args.census.now c.visit_all_simd.new.v) c.visit_all_simd.result
     (input_of c.args.features c.args.bytes.now) c.in_ok-operators.operators c.visit_all_simd.new.self c.opened_bodies.ensures.whole
     c.opened_bodies.ensures.stopped_visits c.in_ok-operators.ensures.opens (c.visit_all_simd.ensures.rest [] c.in_ok-operators.ensures.read_so_far)
 

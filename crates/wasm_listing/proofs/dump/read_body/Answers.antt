@@ -1,7 +1,7 @@
 use Rattle.std.proofs.Common.{[], sym, append-nil}
 use Rattle.std.proofs.lemmas.Result.{err_from_is_err_and}
 use Rattle.wasm_operators.specs.Reading.{Adds}
-use Rattle.wasm_operators.specs.Next.{adding}
+use Rattle.wasm_operators.specs.Next.{collecting}
 use Rattle.wasm_listing.specs.Dump.{input_of}
 use Rattle.wasm_listing.proofs.BodyLemmas.{refused_body, opened_body}
 use Rattle.wasm_listing.proofs.dump.read_body.Goals as goal
@@ -21,7 +21,7 @@ returns-in_err-operators-clause-whole c = λ declarations placed encodes.
 
 pub returns-clause-reads : goal.returns-clause-reads
 returns-clause-reads c =
-    opened_body adding (Adds c.args.out.now.items c.read_all.new.out.items) c.read_all.result (input_of c.args.features c.args.bytes.now)
+    opened_body collecting (Adds c.args.out.now.items c.read_all.new.out.items) c.read_all.result (input_of c.args.features c.args.bytes.now)
     c.in_ok-operators.operators c.read_all.new.self c.opened_bodies.ensures.whole c.opened_bodies.ensures.stopped c.in_ok-operators.ensures.opens
     (c.read_all.ensures.rest [] c.in_ok-operators.ensures.read_so_far)
 

@@ -3,11 +3,11 @@ use Rattle.std.specs.Vec.{vec_len, vec_capacity}
 use Rattle.wasm_below.specs.Source.{rest, offset_of}
 use Rattle.wasm_decode_opcodes.specs.Allowed.{EncodesAllowed}
 use Rattle.wasm_operators.specs.Collecting.{CollectsOne, Collects}
-use Rattle.wasm_operators.specs.Next.{state_of, simd, adding}
+use Rattle.wasm_operators.specs.Next.{state_of, all_operators, collecting}
 use Rattle.wasm_operators.proofs.CollectedLemmas.{collected_push}
 use Rattle.wasm_operators.proofs.DecoderPremises.{sound, is_reading}
 use Rattle.wasm_operators.proofs.MemoryLemmas.{memory_needs}
-use Rattle.wasm_operators.proofs.OneRead.{stops_adding}
+use Rattle.wasm_operators.proofs.OneRead.{stops_collecting}
 use Rattle.wasm_operators.proofs.Runs.{ran_push, ran_unchanged, run_stops}
 use Rattle.wasm_operators.proofs.next.collect_rest.Goals as goal
 
@@ -44,11 +44,11 @@ pub returns-in-Err-clause-stopped : goal.returns-in-Err-clause-stopped
 returns-in-Err-clause-stopped g c =
     let h = c.in-Err.ensures in
     let left : rest c.operators.reader ≡ [] → ⊥ = search rules in
-    let stops = stops_adding c.in-Err.e (state_of c.visit_next_simd.new.reader c.visit_next_simd.new.control) h.2 in
-    run_stops adding c.in-Err.e (state_of c.operators.reader c.operators.control) (state_of c.visit_next_simd.new.reader c.visit_next_simd.new.control) left h.0 stops
+    let stops = stops_collecting c.in-Err.e (state_of c.visit_next_simd.new.reader c.visit_next_simd.new.control) h.2 in
+    run_stops collecting c.in-Err.e (state_of c.operators.reader c.operators.control) (state_of c.visit_next_simd.new.reader c.visit_next_simd.new.control) left h.0 stops
 
 pub returns-in-Err-clause-memory : goal.returns-in-Err-clause-memory
-returns-in-Err-clause-memory g c = λ is. inl (memory_needs simd is_reading c.in-Err.e
+returns-in-Err-clause-memory g c = λ is. inl (memory_needs all_operators is_reading c.in-Err.e
     (state_of c.visit_next_simd.new.reader c.visit_next_simd.new.control) c.in-Err.ensures.2 is)
 
 pub returns-in-Err-clause-kept : goal.returns-in-Err-clause-kept

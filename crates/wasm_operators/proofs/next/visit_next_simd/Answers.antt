@@ -4,7 +4,7 @@ use Rattle.wasm_decode_opcodes.specs.Allowed.{EncodesAllowed}
 use Rattle.wasm_decode_opcodes.specs.OperatorFaults.{OperatorFault}
 use Rattle.wasm_operators.specs.Next.{state_of}
 use Rattle.wasm_operators.proofs.DecoderPremises.{sound}
-use Rattle.wasm_operators.proofs.VisitSteps.{visited_changing, refused_after, visited_from_20}
+use Rattle.wasm_operators.proofs.VisitSteps.{visited_changing, refused_after, visited_keeping}
 use Rattle.wasm_operators.proofs.Taken.{begun_open}
 use Rattle.wasm_operators.proofs.next.visit_next_simd.Goals as goal
 
@@ -43,5 +43,5 @@ returns-then-at-ge-KEEPS_FRAMES_FROM g c =
     let old = state_of c.args.reader.now c.args.control.now in
     let mid = state_of c.begin.new.reader c.begin.new.control in
     let new = state_of c.visit_after_opcode_simd.new.reader c.begin.new.control in
-    visited_from_20 g.V.Visitor.visits EncodesAllowed OperatorFault sound (λ f kind text op h. h.1) old mid new at.frame at.code at.start c.visit_after_opcode_simd.result c.args.v.now c.visit_after_opcode_simd.new.v
+    visited_keeping g.V.Visitor.visits EncodesAllowed OperatorFault sound (λ f kind text op h. h.1) old mid new at.frame at.code at.start c.visit_after_opcode_simd.result c.args.v.now c.visit_after_opcode_simd.new.v
     c.if-at-ge-KEEPS_FRAMES_FROM.true c.in-Ok.ensures.begun c.visit_after_opcode_simd.ensures refl refl

@@ -4,7 +4,7 @@ use Rattle.wasm_decode_opcodes.specs.Allowed.{EncodesScalar}
 use Rattle.wasm_operators.specs.Visiting.{VisitedScalar}
 use Rattle.wasm_operators.proofs.VisitLemmas.{visited_push, scalar_push}
 use Rattle.wasm_operators.proofs.Runs.{ran_start, ran_push, ran_unchanged, run_stops}
-use Rattle.wasm_operators.specs.Next.{state_of, scalar}
+use Rattle.wasm_operators.specs.Next.{state_of, scalar_operators}
 use Rattle.wasm_operators.proofs.DecoderPremises.{scalar_sound, no_vector}
 use Rattle.wasm_operators.proofs.next.visit_rest.Goals as goal
 
@@ -42,7 +42,7 @@ pub returns-in-Err-clause-stopped : goal.returns-in-Err-clause-stopped
 returns-in-Err-clause-stopped g c =
     let h = c.in-Err.ensures in
     let left : rest c.scalar_visits.reader ≡ [] → ⊥ = c.scalar_visits.invariant.1.0 (search rules) in
-    run_stops scalar c.in-Err.e (state_of c.scalar_visits.reader c.scalar_visits.control) (state_of c.visit_next.new.reader c.visit_next.new.control) left h.0 h.2
+    run_stops scalar_operators c.in-Err.e (state_of c.scalar_visits.reader c.scalar_visits.control) (state_of c.visit_next.new.reader c.visit_next.new.control) left h.0 h.2
 
 pub returns-clause-end : goal.returns-clause-end
 returns-clause-end g c = c.scalar_visits.invariant.1.1 (search rules)

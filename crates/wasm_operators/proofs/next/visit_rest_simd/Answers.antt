@@ -4,7 +4,7 @@ use Rattle.wasm_decode_opcodes.specs.Allowed.{EncodesAllowed}
 use Rattle.wasm_operators.specs.Visiting.{Visited}
 use Rattle.wasm_operators.proofs.VisitLemmas.{visited_push}
 use Rattle.wasm_operators.proofs.Runs.{ran_start, ran_push, ran_unchanged, run_stops}
-use Rattle.wasm_operators.specs.Next.{state_of, simd}
+use Rattle.wasm_operators.specs.Next.{state_of, all_operators}
 use Rattle.wasm_operators.proofs.DecoderPremises.{sound}
 use Rattle.wasm_operators.proofs.next.visit_rest_simd.Goals as goal
 
@@ -39,7 +39,7 @@ pub returns-in-Err-clause-stopped : goal.returns-in-Err-clause-stopped
 returns-in-Err-clause-stopped g c =
     let h = c.in-Err.ensures in
     let left : rest c.visits.reader ≡ [] → ⊥ = c.visits.invariant.1.0 (search rules) in
-    run_stops simd c.in-Err.e (state_of c.visits.reader c.visits.control) (state_of c.visit_next_simd.new.reader c.visit_next_simd.new.control) left h.0 h.2
+    run_stops all_operators c.in-Err.e (state_of c.visits.reader c.visits.control) (state_of c.visit_next_simd.new.reader c.visit_next_simd.new.control) left h.0 h.2
 
 pub returns-clause-end : goal.returns-clause-end
 returns-clause-end g c = c.visits.invariant.1.1 (search rules)

@@ -8,17 +8,17 @@ use Rattle.wasm_decode_opcodes.specs.Allowed.{EncodesAllowed}
 use Rattle.wasm_decode_opcodes.specs.Decoding.{DecodesOperator}
 use Rattle.wasm_decode_opcodes.specs.OperatorFaults.{OperatorFault}
 use Rattle.wasm_operators.specs.Reading.{State, TakesOperator}
-use Rattle.wasm_operators.specs.Next.{BeginsOperator, ReadsNext, StopsNext, state_of, simd}
+use Rattle.wasm_operators.specs.Next.{BeginsOperator, ReadsNext, StopsNext, state_of, all_operators}
 use Rattle.wasm_operators.proofs.DecoderPremises.{sound}
 use Rattle.wasm_operators.proofs.Taken.{begun_open, begun_took, begun_kept, begun_stopped}
 use Rattle.wasm_operators.proofs.operators.OperatorsReader.read.Goals as goal
 
-read_from_20 : (old mid new : State) (kind : FrameKind) (code start : ℕ) (result : Result Operator Error) → 0x20 ≤ code → BeginsOperator old mid kind start code →
+read_keeping : (old mid new : State) (kind : FrameKind) (code start : ℕ) (result : Result Operator Error) → 0x20 ≤ code → BeginsOperator old mid kind start code →
     DecodesOperator (EncodesAllowed mid.reader.features kind) (OperatorFault mid.reader.features kind) result (at_position mid.reader start) new.reader →
     new.frames ≡ mid.frames → new.room ≡ mid.room → ReadsNext result old new
-read_from_20 old mid new kind code start (Ok op) high b (text, encodes, takes) frames room =
+read_keeping old mid new kind code start (Ok op) high b (text, encodes, takes) frames room =
     begun_kept EncodesAllowed sound (λ f kind text op h. h.1) old mid new kind code start op text high b encodes takes frames room
-read_from_20 old mid new kind code start (Err e) high b refused frames room =
+read_keeping old mid new kind code start (Err e) high b refused frames room =
     begun_stopped EncodesAllowed OperatorFault old mid new kind code start e b refused frames room
 
 pub apply_change-requires-clause-open : goal.apply_change-requires-clause-open
@@ -36,7 +36,7 @@ returns-then-at-ge-KEEPS_FRAMES_FROM c =
     let old = state_of c.self.inside.reader c.self.inside.control in
     let mid = state_of c.begin.new.reader c.begin.new.control in
     let new = state_of c.read_after_opcode.new.reader c.begin.new.control in
-    let read = read_from_20 old mid new at.frame at.code at.start c.read_after_opcode.result c.if-at-ge-KEEPS_FRAMES_FROM.true c.in-Ok.ensures.begun
+    let read = read_keeping old mid new at.frame at.code at.start c.read_after_opcode.result c.if-at-ge-KEEPS_FRAMES_FROM.true c.in-Ok.ensures.begun
     c.read_after_opcode.ensures refl refl in
     subst (λ (s : State). ReadsNext c.read_after_opcode.result s new) c.self.view_is read
 
@@ -63,4 +63,4 @@ returns-in-Err-read_below_0x20 c =
     let e = c.in-Err-read_below_0x20.e in
     let stopped = begun_stopped EncodesAllowed OperatorFault old mid new at.frame at.code at.start e c.in-Ok.ensures.begun c.in-Err-read_below_0x20.ensures
     refl refl in
-    subst (λ (s : State). StopsNext simd e s new) c.self.view_is stopped
+    subst (λ (s : State). StopsNext all_operators e s new) c.self.view_is stopped

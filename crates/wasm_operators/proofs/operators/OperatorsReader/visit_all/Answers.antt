@@ -1,4 +1,4 @@
-use Rattle.wasm_operators.specs.Next.{scalar}
+use Rattle.wasm_operators.specs.Next.{scalar_operators}
 use Rattle.wasm_operators.specs.Visiting.{VisitedScalar}
 use Rattle.wasm_operators.proofs.Clauses.{runs_rest, runs_flat, runs_within_depth}
 use Rattle.wasm_operators.proofs.DecoderPremises.{keeps_scalar, scalar_is_reading, refuses_vectors}
@@ -8,19 +8,19 @@ use Rattle.wasm_operators.proofs.operators.OperatorsReader.visit_all.Goals as go
 
 pub returns-clause-rest : goal.returns-clause-rest
 returns-clause-rest g c =
-    runs_rest scalar (VisitedScalar g.V.Visitor.visits c.args.v.now c.visit_to_end.new.v) IsNoVector (λ placed h. h.1) keeps_scalar
+    runs_rest scalar_operators (VisitedScalar g.V.Visitor.visits c.args.v.now c.visit_to_end.new.v) IsNoVector (λ placed h. h.1) keeps_scalar
     scalar_is_reading c.visit_to_end.result c.args.self.now c.visit_to_end.new.self c.visit_to_end.ensures
 
 pub returns-clause-flat : goal.returns-clause-flat
 returns-clause-flat g c =
-    runs_flat scalar (VisitedScalar g.V.Visitor.visits c.args.v.now c.visit_to_end.new.v) IsNoVector (λ placed h. h.1) keeps_scalar
+    runs_flat scalar_operators (VisitedScalar g.V.Visitor.visits c.args.v.now c.visit_to_end.new.v) IsNoVector (λ placed h. h.1) keeps_scalar
     c.visit_to_end.result c.args.self.now c.visit_to_end.new.self c.visit_to_end.ensures
 
 pub returns-clause-vector : goal.returns-clause-vector
 returns-clause-vector g c =
-    scalar_refused scalar (VisitedScalar g.V.Visitor.visits c.args.v.now c.visit_to_end.new.v) (λ placed h. h.1) keeps_scalar refuses_vectors
+    scalar_refused scalar_operators (VisitedScalar g.V.Visitor.visits c.args.v.now c.visit_to_end.new.v) (λ placed h. h.1) keeps_scalar refuses_vectors
     c.visit_to_end.result c.args.self.now c.visit_to_end.new.self c.visit_to_end.ensures
 
 pub returns-clause-depth : goal.returns-clause-depth
 returns-clause-depth g c =
-    runs_within_depth scalar (VisitedScalar g.V.Visitor.visits c.args.v.now c.visit_to_end.new.v) c.visit_to_end.result c.args.self.now c.visit_to_end.new.self c.visit_to_end.ensures
+    runs_within_depth scalar_operators (VisitedScalar g.V.Visitor.visits c.args.v.now c.visit_to_end.new.v) c.visit_to_end.result c.args.self.now c.visit_to_end.new.self c.visit_to_end.ensures

@@ -2,7 +2,7 @@ use Rattle.std.proofs.Common.{◌≡◌, [], sym, subst, ap, ◌∙◌, Err}
 use Rattle.std.specs.Prelude.{OnOk, IfErr}
 use Rattle.wasm_below.specs.Source.{Reader, rest}
 use Rattle.wasm_operators.specs.Visiting.{Visited}
-use Rattle.wasm_operators.specs.Next.{simd, state_of}
+use Rattle.wasm_operators.specs.Next.{all_operators, state_of}
 use Rattle.wasm_operators.specs.Reading.{StopsRun}
 use Rattle.wasm_operators.proofs.Runs.{run_ended, run_from}
 use Rattle.wasm_operators.proofs.operators.OperatorsReader.visit_to_end_simd.Goals as goal
@@ -15,8 +15,8 @@ returns-in-Ok g c =
     let same : start ≡ c.args.self.now =
     subst (λ (r : Reader). state_of r c.replace-control.result ≡ state_of c.self.inside.reader c.self.inside.control) (sym c.clone-reader.ensures)
     (ap (state_of c.self.inside.reader) c.replace-control.ensures.value) ∙ c.self.view_is in
-    run_from simd (Visited g.V.Visitor.visits c.args.v.now call.new.v) c.finish.result start c.args.self.now new same call.ensures.visited
-    (run_ended simd c.finish.result new (subst (λ r. OnOk r (rest new.reader ≡ [])) c.in-Ok.is call.ensures.end) c.finish.ensures)
+    run_from all_operators (Visited g.V.Visitor.visits c.args.v.now call.new.v) c.finish.result start c.args.self.now new same call.ensures.visited
+    (run_ended all_operators c.finish.result new (subst (λ r. OnOk r (rest new.reader ≡ [])) c.in-Ok.is call.ensures.end) c.finish.ensures)
 
 pub returns-in-Err : goal.returns-in-Err
 returns-in-Err g c =
@@ -26,5 +26,5 @@ returns-in-Err g c =
     let same : start ≡ c.args.self.now =
     subst (λ (r : Reader). state_of r c.replace-control.result ≡ state_of c.self.inside.reader c.self.inside.control) (sym c.clone-reader.ensures)
     (ap (state_of c.self.inside.reader) c.replace-control.ensures.value) ∙ c.self.view_is in
-    run_from {X = Unit {0}} simd (Visited g.V.Visitor.visits c.args.v.now call.new.v) (Err c.in-Err.e) start c.args.self.now new same call.ensures.visited
-    (subst (λ r. IfErr r (λ e. StopsRun simd e new)) c.in-Err.is call.ensures.stopped)
+    run_from {X = Unit {0}} all_operators (Visited g.V.Visitor.visits c.args.v.now call.new.v) (Err c.in-Err.e) start c.args.self.now new same call.ensures.visited
+    (subst (λ r. IfErr r (λ e. StopsRun all_operators e new)) c.in-Err.is call.ensures.stopped)
