@@ -92,6 +92,11 @@ fn write_members(alloc: Global, text: &mut String) -> Written {
     write!(text, ", items {items:?}")?;
     let none = Members::<u32>::from_vec(Vec::new(alloc));
     write!(text, "; {none:?}, is_empty {}", none.is_empty())?;
+    let members = Members::from(vec![in alloc; 3u32, 4]?);
+    write!(text, "; second {}", members[1])?;
+    for item in &members {
+        write!(text, ", item {item}")?;
+    }
     Ok(())
 }
 
