@@ -4,8 +4,10 @@ ghost use Rattle.wasm_below.specs.Features.{HasFeature, memory64};
 use crate::failure::{Failure, Written};
 use bitflags::Flags;
 use std::alloc::Global;
-use wasm_below::{BinaryReader, HeapType, RefType, TakesMemory, WasmFeatures};
-use wasm_imm::{BrTable, Cast, Ieee32, Members, ReadImmediates, V128};
+use wasm_below::{BinaryReader, HeapType, RefType, TakesMemory, ValType, WasmFeatures};
+use wasm_imm::{
+    BrTable, Cast, Catch, Handle, Ieee32, Members, ReadImmediates, ResumeTable, TryTable, V128,
+};
 
 pub fn write_scenario(alloc: Global, text: &mut String, name: &str) -> Written {
     match name {
@@ -131,6 +133,17 @@ fn write_references(text: &mut String) -> Written {
         to.is_nullable()
     )?;
     write!(text, ", from {:?}", from.heap_type())?;
-    write!(text, "; u32 takes memory {}", u32::TAKES_MEMORY)?;
+    write_memory_use(text)
+}
+
+fn write_memory_use(text: &mut String) -> Written {
+    write!(text, "; allocates: u32 {}", u32::TAKES_MEMORY)?;
+    write!(text, ", HeapType {}", HeapType::TAKES_MEMORY)?;
+    write!(text, ", RefType {}", RefType::TAKES_MEMORY)?;
+    write!(text, ", ValType {}", ValType::TAKES_MEMORY)?;
+    write!(text, ", Catch {}", Catch::TAKES_MEMORY)?;
+    write!(text, ", Handle {}", Handle::TAKES_MEMORY)?;
+    write!(text, ", TryTable {}", TryTable::TAKES_MEMORY)?;
+    write!(text, ", ResumeTable {}", ResumeTable::TAKES_MEMORY)?;
     Ok(())
 }
