@@ -6,7 +6,7 @@ use Rattle.wasm_below.specs.declared.types.HeapType.{HeapType}
 use Rattle.wasm_below.specs.declared.types.HeapType.TheVariants as heap
 use Rattle.wasm_below.specs.declared.types.ValType.{ValType}
 use Rattle.wasm_below.specs.declared.types.ValType.TheVariants as value
-use Rattle.wasm_below.specs.Reference.{IsIndexed}
+use Rattle.wasm_below.specs.Reference.{FitsRefType}
 use Rattle.wasm_below.specs.TypeEncoding.{ref_byte, EncodesHeapType, EncodesRefType, EncodesValType}
 use Rattle.wasm_imm.specs.declared.block_type.BlockType.{BlockType}
 use Rattle.wasm_imm.specs.declared.block_type.BlockType.TheVariants as block
@@ -20,7 +20,7 @@ use Rattle.wasm_encode_numbers.proofs.Signed.{signed_encodes, signed_shortest}
 use Rattle.wasm_encode_immediates.specs.declared.unwritable.Unwritable.TheVariants as why
 use Rattle.wasm_encode_immediates.specs.Reasons.{HasHeapReason}
 use Rattle.wasm_encode_immediates.specs.Written.{FailsToWrite}
-use Rattle.wasm_encode_immediates.specs.TypeBytes.{heap_type_bytes, reference_bytes, value_type_bytes, block_type_bytes, cast_bytes, IsIndexedType, IsIndexedBlock}
+use Rattle.wasm_encode_immediates.specs.TypeBytes.{heap_type_bytes, reference_bytes, value_type_bytes, block_type_bytes, cast_bytes, FitsValType, FitsBlockType}
 
 -- No encoding of the value is shorter.
 abbrev pub IsShortestOf : {X : Type 0} → (List ℕ → X → Type 0) → List ℕ → X → Type 0
@@ -29,7 +29,7 @@ IsShortestOf Encodes text x = (other : List ℕ) → Encodes other x → length 
 index_fits : (n : ℕ) → n ≤ 1048575 → FitsWidth 33 (pos n)
 index_fits n le = (omega (arith, ints), omega (arith, ints))
 
-pub heap_encodes : (t : HeapType) → IsIndexed t → EncodesHeapType (heap_type_bytes t) t
+pub heap_encodes : (t : HeapType) → FitsRefType t → EncodesHeapType (heap_type_bytes t) t
 heap_encodes (heap.Abstract false ty) i = refl
 heap_encodes (heap.Abstract true ty) i = refl
 heap_encodes (heap.Concrete index) i = (signed_encodes 33 (pos index) (omega arith) (omega arith) (index_fits index i), i)
@@ -44,10 +44,10 @@ heap_short (heap.Exact index) other (after, e, p, i) =
     let b = unsigned_shortest index 32 after p in
     omega (arith, a, b)
 
-in_full : (nullable : Bool) (t : HeapType) → IsIndexed t → EncodesRefType (ref_byte nullable ∷ heap_type_bytes t) (record { nullable = nullable; heap_type = t })
+in_full : (nullable : Bool) (t : HeapType) → FitsRefType t → EncodesRefType (ref_byte nullable ∷ heap_type_bytes t) (record { nullable = nullable; heap_type = t })
 in_full nullable t i = inr (heap_type_bytes t, refl, heap_encodes t i)
 
-pub reference_encodes : (nullable : Bool) (t : HeapType) → IsIndexed t → EncodesRefType (reference_bytes nullable t) (record { nullable = nullable; heap_type = t })
+pub reference_encodes : (nullable : Bool) (t : HeapType) → FitsRefType t → EncodesRefType (reference_bytes nullable t) (record { nullable = nullable; heap_type = t })
 reference_encodes true (heap.Abstract false ty) i = inl (refl, refl)
 reference_encodes true (heap.Abstract true ty) i = inl (refl, refl)
 reference_encodes true (heap.Concrete index) i = in_full true (heap.Concrete index) i
@@ -85,7 +85,7 @@ value_short value.F64 other p = let e = ap length p in omega (arith, e)
 value_short value.V128 other p = let e = ap length p in omega (arith, e)
 value_short (value.Ref r) other p = reference_short r.nullable r.heap_type other p
 
-pub value_encodes : (t : ValType) → IsIndexedType t → EncodesValType (value_type_bytes t) t
+pub value_encodes : (t : ValType) → FitsValType t → EncodesValType (value_type_bytes t) t
 value_encodes value.I32 i = refl
 value_encodes value.I64 i = refl
 value_encodes value.F32 i = refl
@@ -93,7 +93,7 @@ value_encodes value.F64 i = refl
 value_encodes value.V128 i = refl
 value_encodes (value.Ref r) i = reference_encodes r.nullable r.heap_type i
 
-pub block_encodes : (t : BlockType) → IsIndexedBlock t → EncodesBlockType (block_type_bytes t) t
+pub block_encodes : (t : BlockType) → FitsBlockType t → EncodesBlockType (block_type_bytes t) t
 block_encodes block.Empty h = refl
 block_encodes (block.Value ty) h = value_encodes ty h
 block_encodes (block.FuncType index) lt =
@@ -104,7 +104,7 @@ block_short block.Empty other p = let e = ap length p in omega (arith, e)
 block_short (block.Value ty) other p = value_short ty other p
 block_short (block.FuncType index) other p = signed_shortest (pos index) 33 other p
 
-pub cast_encodes : (c : Cast) → c.relative_depth < 2 ^ 32 → IsIndexed c.from.heap_type → IsIndexed c.to.heap_type → EncodesCast (cast_bytes c) c
+pub cast_encodes : (c : Cast) → c.relative_depth < 2 ^ 32 → FitsRefType c.from.heap_type → FitsRefType c.to.heap_type → EncodesCast (cast_bytes c) c
 cast_encodes c lt from to = (
   unsigned_bytes c.relative_depth,
   heap_type_bytes c.from.heap_type,
@@ -129,22 +129,22 @@ cast_short c other (label, first, second, e, l, p, q) =
 
 -- ---- what was written
 
-pub heap_written : (t : HeapType) (old new : List ℕ) → IsIndexed t → new ≡ old ++ heap_type_bytes t → Appends EncodesHeapType t old new
+pub heap_written : (t : HeapType) (old new : List ℕ) → FitsRefType t → new ≡ old ++ heap_type_bytes t → Appends EncodesHeapType t old new
 heap_written t old new i e = record { text = heap_type_bytes t; appended = e; encodes = heap_encodes t i; shortest = heap_short t }
 
-pub value_written : (t : ValType) (old new : List ℕ) → IsIndexedType t → new ≡ old ++ value_type_bytes t → Appends EncodesValType t old new
+pub value_written : (t : ValType) (old new : List ℕ) → FitsValType t → new ≡ old ++ value_type_bytes t → Appends EncodesValType t old new
 value_written t old new i e = record { text = value_type_bytes t; appended = e; encodes = value_encodes t i; shortest = value_short t }
 
-pub block_written : (t : BlockType) (old new : List ℕ) → IsIndexedBlock t → new ≡ old ++ block_type_bytes t → Appends EncodesBlockType t old new
+pub block_written : (t : BlockType) (old new : List ℕ) → FitsBlockType t → new ≡ old ++ block_type_bytes t → Appends EncodesBlockType t old new
 block_written t old new i e = record { text = block_type_bytes t; appended = e; encodes = block_encodes t i; shortest = block_short t }
 
-pub cast_written : (t : Cast) (old new : List ℕ) → t.relative_depth < 2 ^ 32 → IsIndexed t.from.heap_type → IsIndexed t.to.heap_type → new ≡ old ++ cast_bytes t → Appends EncodesCast t old new
+pub cast_written : (t : Cast) (old new : List ℕ) → t.relative_depth < 2 ^ 32 → FitsRefType t.from.heap_type → FitsRefType t.to.heap_type → new ≡ old ++ cast_bytes t → Appends EncodesCast t old new
 cast_written t old new lt i j e = record { text = cast_bytes t; appended = e; encodes = cast_encodes t lt i j; shortest = cast_short t }
 
-heap_not : (t : HeapType) → ¬ IsIndexed t → (text : List ℕ) → EncodesHeapType text t → ⊥
+heap_not : (t : HeapType) → ¬ FitsRefType t → (text : List ℕ) → EncodesHeapType text t → ⊥
 heap_not (heap.Abstract shared ty) not text p = not tt
 heap_not (heap.Concrete index) not text p = not p.1
 heap_not (heap.Exact index) not text (after, e, n, i) = not i
 
-pub heap_fails : (t : HeapType) (old : List ℕ) → ¬ IsIndexed t → FailsToWrite EncodesHeapType HasHeapReason t why.TypeIndex old old
+pub heap_fails : (t : HeapType) (old : List ℕ) → ¬ FitsRefType t → FailsToWrite EncodesHeapType HasHeapReason t why.TypeIndex old old
 heap_fails t old not = record { part = []; appended = sym (append-nil old); none = λ some. heap_not t not; reason = (refl, not) }

@@ -4,7 +4,7 @@ use Rattle.std.specs.Prelude.{◌≡◌, ◌≢◌, ℕ, ◌<◌, ◌≤◌, ◌
 use Rattle.wasm_below.specs.declared.features.WasmFeatures.{WasmFeatures}
 use Rattle.wasm_below.specs.declared.types.HeapType.{HeapType}
 use Rattle.wasm_below.specs.Features.{HasFeature, multi_memory, memory64, call_indirect_overlong, acquire_release_atomics, multibyte_array_access}
-use Rattle.wasm_below.specs.Reference.{IsIndexed}
+use Rattle.wasm_below.specs.Reference.{FitsRefType}
 use Rattle.wasm_imm.specs.declared.memory_argument.MemArg.{MemArg}
 use Rattle.wasm_imm.specs.declared.memory_argument.MemArgTarget.TheVariants as target
 use Rattle.wasm_imm.specs.declared.memory_argument.MemArgOrdering.{MemArgOrdering}
@@ -48,7 +48,7 @@ HasFenceReason f o e = (e ≡ why.NeedsFeature acquire_release_atomics) × (o �
 
 -- The type index is above the limit.
 abbrev pub HasHeapReason : HeapType → Unwritable → Type 0
-HasHeapReason t e = (e ≡ why.TypeIndex) × ¬ IsIndexed t
+HasHeapReason t e = (e ≡ why.TypeIndex) × ¬ FitsRefType t
 
 -- The list is longer than the limit.
 abbrev pub HasCountReason : ℕ → ℕ → Unwritable → Type 0

@@ -5,7 +5,7 @@ use Rattle.wasm_below.specs.declared.types.HeapType.{HeapType}
 use Rattle.wasm_below.specs.declared.types.HeapType.TheVariants as heap
 use Rattle.wasm_below.specs.declared.types.ValType.{ValType}
 use Rattle.wasm_below.specs.declared.types.ValType.TheVariants as value
-use Rattle.wasm_below.specs.Reference.{IsIndexed}
+use Rattle.wasm_below.specs.Reference.{FitsRefType}
 use Rattle.wasm_below.specs.TypeEncoding.{heap_type_byte, ref_byte}
 use Rattle.wasm_imm.specs.declared.block_type.BlockType.{BlockType}
 use Rattle.wasm_imm.specs.declared.block_type.BlockType.TheVariants as block
@@ -45,12 +45,12 @@ abbrev pub cast_bytes : Cast → List ℕ
 cast_bytes c = cast_flags c.from.nullable c.to.nullable ∷ (unsigned_bytes c.relative_depth ++ (heap_type_bytes c.from.heap_type ++ heap_type_bytes c.to.heap_type))
 
 -- A type index in the value type is within the limit.
-abbrev pub IsIndexedType : ValType → Type 0
-IsIndexedType (value.Ref r) = IsIndexed r.heap_type
-IsIndexedType _ = Unit {0}
+abbrev pub FitsValType : ValType → Type 0
+FitsValType (value.Ref r) = FitsRefType r.heap_type
+FitsValType _ = Unit {0}
 
--- As `IsIndexedType`. The type of a function has 32 bits.
-abbrev pub IsIndexedBlock : BlockType → Type 0
-IsIndexedBlock block.Empty = Unit {0}
-IsIndexedBlock (block.Value ty) = IsIndexedType ty
-IsIndexedBlock (block.FuncType index) = index < 2 ^ 32
+-- As `FitsValType`. The type of a function has 32 bits.
+abbrev pub FitsBlockType : BlockType → Type 0
+FitsBlockType block.Empty = Unit {0}
+FitsBlockType (block.Value ty) = FitsValType ty
+FitsBlockType (block.FuncType index) = index < 2 ^ 32

@@ -1,39 +1,18 @@
 //! Writes types (Binary Format, Types).
 ghost use Rattle.std.specs.Prelude.{◌≡◌, ◌+◌, ◌++◌, ◌≤◌, ◌<◌, ◌^◌, ◌↔◌, IsTrue, vec_len, vec_capacity};
-ghost use Rattle.wasm_below.specs.Reference.{IsIndexed};
-ghost use Rattle.wasm_below.specs.TypeEncoding.{heap_type_byte, EncodesHeapType};
+ghost use Rattle.wasm_below.specs.Reference.{FitsRefType};
+ghost use Rattle.wasm_below.specs.TypeEncoding.{EncodesHeapType};
 ghost use Rattle.wasm_encode_immediates.specs.Reasons.{HasHeapReason};
-ghost use Rattle.wasm_encode_immediates.specs.TypeBytes.{heap_type_bytes, reference_bytes, value_type_bytes, block_type_bytes, cast_bytes, IsIndexedType, IsIndexedBlock};
+ghost use Rattle.wasm_encode_immediates.specs.TypeBytes.{heap_type_bytes, reference_bytes, value_type_bytes, block_type_bytes, cast_bytes, FitsValType, FitsBlockType};
 ghost use Rattle.wasm_encode_immediates.specs.Written.{WritesValue};
 ghost use Rattle.wasm_imm.specs.Casts.{cast_flags};
 
 use crate::unwritable::Unwritable;
-use wasm_below::{AbstractHeapType, HeapType, RefType, ValType};
+use wasm_below::{HeapType, RefType, ValType};
 use wasm_encode_numbers::{write_s33, write_u64};
 use wasm_imm::{BlockType, Cast};
 
 const MAX_TYPE_INDEX: u32 = 1048575;
-
-fn heap_type_byte(ty: AbstractHeapType) -> u8
-    ensures { result ≡ heap_type_byte ty }
-{
-    match ty {
-        AbstractHeapType::NoCont => 0x75,
-        AbstractHeapType::NoExn => 0x74,
-        AbstractHeapType::NoFunc => 0x73,
-        AbstractHeapType::NoExtern => 0x72,
-        AbstractHeapType::None => 0x71,
-        AbstractHeapType::Func => 0x70,
-        AbstractHeapType::Extern => 0x6f,
-        AbstractHeapType::Any => 0x6e,
-        AbstractHeapType::Eq => 0x6d,
-        AbstractHeapType::I31 => 0x6c,
-        AbstractHeapType::Struct => 0x6b,
-        AbstractHeapType::Array => 0x6a,
-        AbstractHeapType::Exn => 0x69,
-        AbstractHeapType::Cont => 0x68,
-    }
-}
 
 /// Appends a heap type. The index may be above the limit.
 #[inline(never)]
@@ -47,10 +26,10 @@ fn write_any_heap_type(out: &mut Vec<u8>, value: HeapType)
         HeapType::Abstract { shared, ty } => {
             if shared {
                 out.push_reserved(0x65);
-                out.push_reserved(heap_type_byte(ty));
+                out.push_reserved(ty.byte());
                 return;
             }
-            out.push_reserved(heap_type_byte(ty))
+            out.push_reserved(ty.byte())
         }
         HeapType::Concrete(index) => write_s33(out, index),
         HeapType::Exact(index) => {
@@ -61,8 +40,8 @@ fn write_any_heap_type(out: &mut Vec<u8>, value: HeapType)
 }
 
 /// Returns whether the type index, if any, is within the limit.
-fn is_indexed(heap_type: HeapType) -> bool
-    ensures { IsTrue result ↔ IsIndexed heap_type }
+fn fits_ref_type(heap_type: HeapType) -> bool
+    ensures { IsTrue result ↔ FitsRefType heap_type }
 {
     match heap_type {
         HeapType::Abstract { .. } => true,
@@ -76,7 +55,7 @@ pub fn write_heap_type(out: &mut Vec<u8>, value: HeapType) -> Result<(), Unwrita
     ensures written { WritesValue EncodesHeapType HasHeapReason value result out.old out.new }
     ensures len { vec_len out.new ≤ vec_len out.old + 11 }
 {
-    if is_indexed(value) {
+    if fits_ref_type(value) {
         write_any_heap_type(out, value);
         return Ok(());
     }
@@ -87,7 +66,7 @@ pub fn write_heap_type(out: &mut Vec<u8>, value: HeapType) -> Result<(), Unwrita
 pub fn write_reference_type(out: &mut Vec<u8>, value: RefType)
     requires { vec_len out.old + 12 ≤ vec_capacity out.old }
     ensures bytes { out.new.items ≡ out.old.items ++ reference_bytes value.nullable value.heap_type }
-    ensures indexed { IsIndexed value.heap_type }
+    ensures fits { FitsRefType value.heap_type }
     ensures len { vec_len out.new ≤ vec_len out.old + 12 }
     ensures capacity { vec_capacity out.old ≤ vec_capacity out.new }
 {
@@ -110,7 +89,7 @@ pub fn write_reference_type(out: &mut Vec<u8>, value: RefType)
 pub fn write_value_type(out: &mut Vec<u8>, value: ValType)
     requires { vec_len out.old + 12 ≤ vec_capacity out.old }
     ensures bytes { out.new.items ≡ out.old.items ++ value_type_bytes value }
-    ensures indexed { IsIndexedType value }
+    ensures fits { FitsValType value }
     ensures len { vec_len out.new ≤ vec_len out.old + 12 }
     ensures capacity { vec_capacity out.old ≤ vec_capacity out.new }
 {
@@ -128,7 +107,7 @@ pub fn write_value_type(out: &mut Vec<u8>, value: ValType)
 pub fn write_block_type(out: &mut Vec<u8>, value: BlockType)
     requires { vec_len out.old + 12 ≤ vec_capacity out.old }
     ensures bytes { out.new.items ≡ out.old.items ++ block_type_bytes value }
-    ensures indexed { IsIndexedBlock value }
+    ensures fits { FitsBlockType value }
     ensures len { vec_len out.new ≤ vec_len out.old + 12 }
     ensures capacity { vec_capacity out.old ≤ vec_capacity out.new }
 {
@@ -156,8 +135,8 @@ pub fn write_cast(out: &mut Vec<u8>, value: Cast)
     requires { vec_len out.old + 33 ≤ vec_capacity out.old }
     ensures bytes { out.new.items ≡ out.old.items ++ cast_bytes value }
     ensures depth { value.relative_depth < 2 ^ 32 }
-    ensures from { IsIndexed value.from.heap_type }
-    ensures to { IsIndexed value.to.heap_type }
+    ensures from { FitsRefType value.from.heap_type }
+    ensures to { FitsRefType value.to.heap_type }
     ensures len { vec_len out.new ≤ vec_len out.old + 33 }
     ensures capacity { vec_capacity out.old ≤ vec_capacity out.new }
 {
