@@ -7,8 +7,12 @@ from table import ENUMS, held, imported
 from templates import filled, filled_file, with_uses
 
 CRATE = "crates/wasm_encode_operators"
-# The greatest number of bytes of the immediates of an operator, without lists, by enum.
-MOST = {"Own": 33, "Gc": 33, "Misc": 20, "Atomic": 22, "Simd": 23}
+# The capacity that the writer of each kind requires, as `most` in wasm_encode_immediates. A list reserves more itself.
+SIZES = {
+    "unsigned": 10, "signed_32": 10, "signed_64": 10, "float_32": 4, "float_64": 8, "lane_index": 1, "lane_list": 16,
+    "vector": 16, "memory": 22, "memory_index": 10, "table_index": 10, "ordered": 1, "fence": 1, "heap_type": 11,
+    "cast": 33, "block_type": 12, "branch_table": 0, "one_type": 22, "types": 0, "try_table": 12, "resume_table": 0,
+}
 # The functions that write immediates with a list, or a single type, by kinds. A field that owns or borrows is passed by
 # reference.
 WRITERS = {
@@ -24,6 +28,11 @@ WRITERS = {
 MANY = 22
 UNFOUND = {"memory", "ordered", "heap_type", "cast", "signed_32", "signed_64"}
 UNFOUND_KINDS = {("unsigned", "unsigned", "resume_table")}
+
+
+def most(ops):
+    """Returns the greatest number of bytes of the immediates of these operators, without lists."""
+    return max(sum(SIZES[kind] for kind in op.kinds) for op in ops)
 
 
 def pattern(op, ty):
@@ -91,16 +100,16 @@ def immediates_source(enum, ops):
         article="an" if enum.group == "Atomic" else "a",
         module=enum.module,
         type=enum.type,
-        most=MOST[enum.group],
+        most=most(ops),
         arms=arms(ops, enum.type, False),
     )
     return with_uses("encode/immediates_uses.rt", body, **names_of(enum), type=enum.type, module=enum.module)
 
 
-def own_source(ops):
+def own_source(ops, all_ops):
     body = filled(
         "encode/own.rt",
-        most=MOST["Own"],
+        most=most(all_ops),
         arms=arms(ops, "Operator", True),
         by_enum=[f"Operator::{enum.group}(inner) => write_{enum.module}(out, features, *inner)," for enum in enums()],
     )
@@ -225,7 +234,7 @@ def encode_files(ops):
     proofs = f"{CRATE}/proofs/immediates"
     out = {
         f"{CRATE}/src/codes.rt": codes_source(ops),
-        f"{CRATE}/src/immediates/own.rt": own_source(own),
+        f"{CRATE}/src/immediates/own.rt": own_source(own, ops),
         f"{proofs}/own/write_immediates/Answers.antt": answers(
             own, "own", "write_immediates", "wasm_instr.specs.Row.immediates_of", "c.args.op.now", True,
         ),
