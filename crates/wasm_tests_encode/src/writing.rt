@@ -1,3 +1,5 @@
+ghost use Rattle.wasm_operators.specs.Expression.{operators, AreWalk};
+
 use crate::row::{Row, joined};
 use std::alloc::Global;
 use wasm_encode::{read_back, rewrite_expression, write_body, write_operator, write_operators};
@@ -10,16 +12,21 @@ const DECLARED: [u8; 6] = [0x02, 0x01, 0x7f, 0xac, 0x02, 0x7c];
 
 /// Returns the name of a call whose bytes, or operators, are not as the row says.
 pub fn difference(alloc: Global, row: &Row) -> Option<&'static str> {
-    let features = WasmFeatures::all();
     let mut found = Vec::new(alloc);
     let mut reader = OperatorsReader::new(alloc, BinaryReader::new(row.expression.as_slice(), 0));
     match reader.read_all(&mut found) {
-        Ok(()) => {}
-        Err(_) => return Some("read_all"),
+        Ok(()) => of_operators(alloc, row, found.as_slice()),
+        Err(_) => Some("read_all"),
     }
+}
+
+/// As `difference`, for the operators of the row's expression.
+fn of_operators(alloc: Global, row: &Row, found: &[(Operator<'_>, u64)]) -> Option<&'static str>
+    requires { AreWalk (operators found.now) }
+{
     let mut back = Vec::new(alloc);
-    match read_back(alloc, features, found.as_slice(), &mut back) {
-        Ok(again) => if !are_same(found.as_slice(), again.as_slice()) {
+    match read_back(alloc, WasmFeatures::all(), found, &mut back) {
+        Ok(again) => if !are_same(found, again.as_slice()) {
             return Some("read_back");
         },
         Err(_) => return Some("read_back"),
@@ -27,7 +34,7 @@ pub fn difference(alloc: Global, row: &Row) -> Option<&'static str> {
     if back.as_slice() != row.shortest.as_slice() {
         return Some("bytes of read_back");
     }
-    written(alloc, row, found.as_slice())
+    written(alloc, row, found)
 }
 
 /// Returns the name of a call that writes other bytes than the row says.
