@@ -7,12 +7,12 @@ ghost use Rattle.wasm_disassembly.specs.Escapes.{all_escaped};
 ghost use Rattle.wasm_disassembly.specs.Listing.{is_asked, are_none, heading_at, Refusals, Reported, WhereAsked, IsWritten, IsCode, ListsCode, IsFunction, AreAsked, Succeeds, IsHalt, IsLater};
 
 use crate::complaints::Complaints;
-use crate::flushed::FlushedWrite;
 use crate::listing_fault::Fault;
 use crate::names::shown_names;
 use crate::{DisassemblyFault, code_laws, disassemble};
 use std::alloc::Global;
 use std::io::Write;
+use wasm_listing::FlushedWrite;
 use wasm_module::Functions;
 use wasm_operators::{BinaryReader, CodeSectionReader, Error, FunctionBody};
 

@@ -8,7 +8,6 @@ ghost use Rattle.wasm_disassembly.specs.ModuleCensus.{CountsModule, IsCounted, C
 use crate::complaints::Complaints;
 use crate::counts::{ModuleCounts, count_code};
 use crate::cut::{after_cut, before_cut, find_cut};
-use crate::flushed::FlushedWrite;
 use crate::headers::list_sections;
 use crate::listing::list_code;
 use crate::listing_fault::Fault;
@@ -17,6 +16,7 @@ use crate::names::write_escaped;
 use crate::opened::open_module;
 use std::alloc::{AllocError, Global};
 use std::io::Write;
+use wasm_listing::FlushedWrite;
 use wasm_module::{function_laws, module_name, open_sections};
 use wasm_operators::WasmFeatures;
 
