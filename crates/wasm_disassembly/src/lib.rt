@@ -19,7 +19,6 @@ mod function;
 mod headers;
 mod listing;
 mod listing_fault;
-mod listing_writing;
 mod module;
 pub mod name_laws;
 mod names;
