@@ -5,7 +5,7 @@ use Rattle.wasm_operators.specs.Visiting.{VisitedScalar}
 use Rattle.wasm_operators.proofs.VisitLemmas.{visited_push, scalar_push}
 use Rattle.wasm_operators.proofs.Runs.{ran_start, ran_push, ran_unchanged, run_stops}
 use Rattle.wasm_operators.specs.Next.{state_of, scalar_operators}
-use Rattle.wasm_operators.proofs.DecoderPremises.{scalar_sound, no_vector}
+use Rattle.wasm_operators.proofs.DecoderPremises.{scalar_sound, no_simd}
 use Rattle.wasm_operators.proofs.next.visit_rest.Goals as goal
 
 pub scalar_visits-init : goal.scalar_visits-init
@@ -22,7 +22,7 @@ scalar_visits-preserved g c =
         i.0 ++ (op, at) ∷ [],
         (
           visited_push g.V.Visitor.visits i.0 op at c.in-Ok.field-0 c.args.v.now c.scalar_visits.v c.visit_next.new.v i.1.0 h.2,
-          scalar_push i.0 op at i.1.1 (no_vector s.reader.features h.1.kind h.1.text op h.1.encodes),
+          scalar_push i.0 op at i.1.1 (no_simd s.reader.features h.1.kind h.1.text op h.1.encodes),
         ),
         ran_push EncodesScalar scalar_sound (state_of c.args.reader.now c.args.control.now) s (state_of c.visit_next.new.reader c.visit_next.new.control) i.0 op i.2 h.1,
       ),
