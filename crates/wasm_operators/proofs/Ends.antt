@@ -220,9 +220,9 @@ record RanOver (reader : Reader) (frames : List FrameKind) (new : State) (placed
 ran_over : (old new : State) (placed : Placed) → TakesOperators old new placed → RanOver old.reader old.frames new placed
 ran_over old new placed r = record { text = r.text; takes = r.takes; laid = r.laid; along = r.frames }
 
-not_shorter : (Kept : Operator → Type 0) (reader : Reader) (frames : List FrameKind) (new end : State) (placed others : Placed) →
+no_longer_than_stuck : (Kept : Operator → Type 0) (reader : Reader) (frames : List FrameKind) (new end : State) (placed others : Placed) →
     RanOver reader frames new placed → RanOver reader frames end others → AreEach Kept others → IsStuckFor Kept new → length others ≤ length placed
-not_shorter Kept reader frames new end placed others r q each none =
+no_longer_than_stuck Kept reader frames new end placed others r q each none =
     elim (cases_lt (length placed) (length others)) [
       | inl lt ↦ absurd (goes (laid_goes_on reader.features (offset_of reader) placed others r.text q.text (rest new.reader) (rest end.reader) r.laid q.laid
           (sym r.takes.parts ∙ q.takes.parts) lt))
@@ -244,8 +244,8 @@ run_determined decoder Kept takes determined first second old new other end plac
     other_memory =
     let r1 = ran_over old new placed r in
     let q1 = subst (λ s. RanOver s old.frames end others) reader (subst (λ fs. RanOver other.reader fs end others) frames (ran_over other end others q)) in
-    let le = not_shorter Kept old.reader old.frames new end placed others r1 q1 each_others (stuck decoder Kept takes first new a memory) in
-    let ge = not_shorter Kept old.reader old.frames end new others placed q1 r1 each_placed (stuck decoder Kept takes second end b other_memory) in
+    let le = no_longer_than_stuck Kept old.reader old.frames new end placed others r1 q1 each_others (stuck decoder Kept takes first new a memory) in
+    let ge = no_longer_than_stuck Kept old.reader old.frames end new others placed q1 r1 each_placed (stuck decoder Kept takes second end b other_memory) in
     let same = laid_same old.reader.features (offset_of old.reader) placed others r1.text q1.text (rest new.reader) (rest end.reader) r1.laid q1.laid
     (sym r1.takes.parts ∙ q1.takes.parts) (omega arith) in
     let readers : end.reader ≡ new.reader = q1.takes.moved ∙ ap (λ z. at_position old.reader (old.reader.position + length z)) (sym same.1) ∙
