@@ -11,7 +11,7 @@ use Rattle.wasm_below.specs.Refusal.{IsReadFault}
 use Rattle.wasm_below.specs.Source.{Source, Reader, rest, offset_of, source_of, at_position, MayFollow, Takes}
 use Rattle.wasm_grammar.specs.declared.frame_kind.FrameKind.{FrameKind}
 use Rattle.wasm_grammar.specs.Role.{ends}
-use Rattle.wasm_grammar.specs.Frames.{frames_after, frames_along}
+use Rattle.wasm_grammar.specs.Frames.{frames_after, frames_along, innermost}
 use Rattle.wasm_grammar.specs.Beginning.{IsWalk}
 use Rattle.wasm_grammar.specs.OpenPath.{OpenPath}
 use Rattle.wasm_grammar.proofs.Paths.{run_path, same_frames, some_is}
@@ -22,7 +22,8 @@ use Rattle.wasm_instr.specs.Encoding.{EncodesOperator}
 use Rattle.wasm_instr.specs.Roles.{role_of, roles_of}
 use Rattle.wasm_operators.specs.Expression.{Placed, OfPlaced, operators, LaidOut, Longest, IsPrefixAfter}
 use Rattle.wasm_operators.specs.Flat.{IsAllowedFrom}
-use Rattle.wasm_operators.specs.Reading.{State, TakesOperators, StopsRun, EndsRun, Decoder}
+use Rattle.wasm_operators.specs.Reading.{State, TakesOperators, StopsRun, StopsFinish, Finishes, EndsRun, Decoder}
+use Rattle.wasm_operators.specs.Single.{FinishesExpression}
 use Rattle.wasm_operators.specs.MainTheorem.{ReadSoFar, BeginningAt, ReadsBeginning, IsNotOutOfMemory, ClosesFrom, IsCut, CutFault, IsCompletedByEnds}
 use Rattle.wasm_operators.proofs.LayoutLemmas.{roles_of-append, operators-append, roles_of-ends, laid_append, laid_goes_on, laid_no_longer, laid_same, one_longest, GoesOn, next_allowed, goes_allowed}
 use Rattle.wasm_operators.proofs.OneRead.{refused_none, one_refusal, closed_read, read_closed}
@@ -296,3 +297,19 @@ beginnings_same decoder determined before d e old new end placed others a b othe
     let stacks : end.frames ≡ new.frames = same_frames end.frames new.frames (roles_of (before ++ operators placed)) path a.read_so_far.path in
     let both = same_stops decoder determined d e new end readers stacks a.stops b.stops other_d other_e in
     (same, readers, stacks, both.0, both.1)
+
+-- ---- finishing, by the innermost frame
+
+stops_as : (m : Message) (A B : Type 0) (r : Reader) → (A → B) → (B → A) → StopsFinish m A r → StopsFinish m B r
+stops_as message.FramesRemain A B r to from stops = λ closed. stops (from closed)
+stops_as message.UnexpectedData A B r to from (closed, left) = (to closed, left)
+stops_as _ A B r to from stops = stops
+
+closed_frames : (frames : List FrameKind) → innermost frames ≡ None → frames ≡ []
+closed_frames [] none = refl
+closed_frames (first ∷ inside) none = absurd (cc none)
+
+pub finishes_of : {X : Type 0} (result : Result X Error) (s : State) → FinishesExpression result (innermost s.frames) s.reader → Finishes result s
+finishes_of (Ok x) s (closed, all) = (closed_frames s.frames closed, all)
+finishes_of (Err e) s (at, stops) =
+    (at, stops_as e.message (innermost s.frames ≡ None) (s.frames ≡ []) s.reader (closed_frames s.frames) (ap innermost) stops)

@@ -10,10 +10,11 @@ mod to_end;
 
 use crate::begin::{KEEPS_FRAMES_FROM, begin};
 use crate::next::{visit_next, visit_next_simd};
+use crate::read_operators::ReadOperators;
 use crate::{ControlStack, OperatorsReaderAllocations};
 use std::alloc::Global;
 use std::marker::Model;
-use wasm_below::{BinaryReader, Error, Message, Result};
+use wasm_below::{BinaryReader, Result};
 use wasm_decode::{read_after_opcode, read_below_0x20};
 use wasm_grammar::FrameKind;
 use wasm_instr::{Operator, frame_change_at};
@@ -175,12 +176,6 @@ impl<'a> OperatorsReader<'a> {
     pub fn finish(&self) -> Result<()>
         ensures { Finishes result self.now }
     {
-        if self.control.last().is_some() {
-            return Err(Error::new(Message::FramesRemain, self.original_position()));
-        }
-        if !self.eof() {
-            return Err(Error::new(Message::UnexpectedData, self.original_position()));
-        }
-        Ok(())
+        self.reader.finish_expression(self)
     }
 }
