@@ -51,7 +51,7 @@ pub fn operator_refusal(operators: &mut OperatorsReader<'_>) -> Option<Error>
 }
 
 /// Returns the error of the next operator in an expression for visitors without SIMD operators. Only
-/// at the byte 0xfd, it differs from the error of `read` (law `vector_refusals`).
+/// at the byte 0xfd, it differs from the error of `read` (law `simd_refusals`).
 pub fn scalar_refusal(operators: &mut OperatorsReader<'_>) -> Option<Error>
     ensures there { BeginsWith 0xfd (rest operators.old.reader)
         → IfSome result (λ e. e.message ≢ Message.OutOfMemory → e.message ≡ Message.UnexpectedSimd) }
@@ -62,7 +62,7 @@ pub fn scalar_refusal(operators: &mut OperatorsReader<'_>) -> Option<Error>
     let Some(frame) = operators.current_frame() else {
         return None;
     };
-    decoding_laws::vector_refusals(operators.get_binary_reader().features(), frame);
+    decoding_laws::simd_refusals(operators.get_binary_reader().features(), frame);
     match operators.visit_operator(&mut IsEndOperatorVisitor) {
         Ok(_) => None,
         Err(error) => Some(error),

@@ -15,7 +15,7 @@ use Rattle.wasm_instr.specs.declared.operator.Operator.TheVariants as operator
 use Rattle.wasm_instr_ops.specs.declared.gc.GcOperator.{GcOperator}
 use Rattle.wasm_instr.specs.Encoding.{EncodesOpcode, EncodesOperator}
 use Rattle.wasm_imm.specs.Immediate.{Kind}
-use Rattle.wasm_instr.specs.Kinds.{IsVector}
+use Rattle.wasm_instr.specs.Kinds.{IsSimd}
 use Rattle.wasm_instr.specs.Row.{prefix_of, opcode_of}
 use Rattle.wasm_decode_opcodes.specs.Allowed.{EncodesAllowed, EncodesScalar, EncodesIn}
 use Rattle.wasm_decode_opcodes.specs.Decoding.{Decodes, DecodesAt, DecodesOperator, IsAfterCode}
@@ -117,21 +117,21 @@ refuses_subopcode k start p e mid now new small is b (same, h, fault) went = go 
           },
         )
 
-pub vector_prefix : (op : Operator) → IsVector op → prefix_of op ≡ Some 0xfd
-vector_prefix (operator.Simd op) h = refl
-vector_prefix op h = absurd h
+pub simd_prefix : (op : Operator) → IsSimd op → prefix_of op ≡ Some 0xfd
+simd_prefix (operator.Simd op) h = refl
+simd_prefix op h = absurd h
 
 -- an operator that does not start with the byte 0xfd is not a SIMD operator
-scalar_after : (f : WasmFeatures) (op : Operator) (code : ℕ) (text after left : List ℕ) → code ≢ 0xfd → EncodesOperator f text op → code ∷ after ≡ text ++ left → ¬ IsVector op
+scalar_after : (f : WasmFeatures) (op : Operator) (code : ℕ) (text after left : List ℕ) → code ≢ 0xfd → EncodesOperator f text op → code ∷ after ≡ text ++ left → ¬ IsSimd op
 scalar_after f op code text after left other s eq h = go (prefix_of op) refl s.code
   where
     go : (q : Option ℕ) → prefix_of op ≡ q → EncodesOpcode q s.head (opcode_of op) → ⊥
-    go None e code_is = cc (sym e ∙ vector_prefix op h)
+    go None e code_is = cc (sym e ∙ simd_prefix op h)
     go (Some q) e (number, head, u) =
         let first : code ∷ after ≡ q ∷ (number ++ (s.after ++ left)) = eq ∙ ap (λ z. z ++ left) s.parts ∙ append_assoc s.head s.after left ∙
         ap (λ z. z ++ (s.after ++ left)) head in
         let same : code ≡ q = cc first in
-        let is : q ≡ 0xfd = cc (sym e ∙ vector_prefix op h) in
+        let is : q ≡ 0xfd = cc (sym e ∙ simd_prefix op h) in
         other (same ∙ is)
 
 other_byte : (code : ℕ) (after bytes : List ℕ) → code ≢ 0xfd → bytes ≡ code ∷ after → BeginsWith 0xfd bytes → ⊥

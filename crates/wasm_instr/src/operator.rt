@@ -2,7 +2,7 @@
 ghost use Rattle.std.specs.Prelude.{◌≡◌, ◌↔◌, IsTrue, IfOk, IfErr};
 ghost use Rattle.wasm_imm.specs.OutOfMemory.{IsOutOfMemoryAt};
 ghost use Rattle.wasm_instr.specs.Row.{proposal_of, name_of, prefix_of, opcode_of};
-ghost use Rattle.wasm_instr.specs.Kinds.{IsSimd, IsVector, HoldsList};
+ghost use Rattle.wasm_instr.specs.Kinds.{HasSimdProposal, IsSimd, HoldsList};
 
 use std::alloc::Global;
 use std::fmt::{self, Debug, Formatter};
@@ -550,8 +550,8 @@ impl<'a> Operator<'a> {
 
     /// Returns whether the proposal is `simd` or `relaxed_simd`.
     pub fn is_simd(&self) -> bool
+        ensures proposal { IsTrue result ↔ HasSimdProposal self.now }
         ensures simd { IsTrue result ↔ IsSimd self.now }
-        ensures vector { IsTrue result ↔ IsVector self.now }
     {
         matches!(self, Operator::Simd(_))
     }

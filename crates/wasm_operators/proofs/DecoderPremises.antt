@@ -9,7 +9,7 @@ use Rattle.wasm_decode_opcodes.specs.OperatorFaults.{OperatorFault, ScalarOperat
 use Rattle.wasm_decode.specs.OperatorSets.{OperatorSet, with_simd, without_simd, EncodesOf}
 use Rattle.wasm_operators.specs.Expression.{IsAny}
 use Rattle.wasm_operators.specs.Visiting.{IsScalar}
-use Rattle.wasm_operators.proofs.Premises.{IsSound, Everything, IsNoVector, Keeps, TakesAll, TakesNoVector, IsReading, RefusesVectors}
+use Rattle.wasm_operators.proofs.Premises.{IsSound, Everything, IsNotSimd, Keeps, TakesAll, TakesNoSimd, IsReading, RefusesSimd}
 use Rattle.wasm_operators.proofs.Scalar.{each_scalar}
 use Rattle.wasm_operators.proofs.Messages.{operator_read_fault, scalar_read_fault}
 use Rattle.wasm_operators.proofs.Taken.{TakesAllowed}
@@ -26,11 +26,11 @@ takes_all f kind text op encodes allows kept = (encodes, allows)
 pub keeps_all : Keeps Everything IsAny EncodesAllowed
 keeps_all = record { takes = takes_all; each = λ placed kept before after p e. tt }
 
-pub keeps_scalar : Keeps IsNoVector IsScalar EncodesScalar
+pub keeps_scalar : Keeps IsNotSimd IsScalar EncodesScalar
 keeps_scalar = record { takes = λ f kind text op encodes allows kept. ((encodes, allows), kept); each = each_scalar }
 
-pub no_vector : TakesNoVector EncodesScalar
-no_vector f kind text op h = h.1
+pub no_simd : TakesNoSimd EncodesScalar
+no_simd f kind text op h = h.1
 
 pub is_reading : IsReading OperatorFault
 is_reading f kind m r offset h = operator_read_fault f kind m r offset h
@@ -38,9 +38,9 @@ is_reading f kind m r offset h = operator_read_fault f kind m r offset h
 pub scalar_is_reading : IsReading ScalarOperatorFault
 scalar_is_reading f kind m r offset h = scalar_read_fault f kind m r offset h
 
-pub refuses_vectors : RefusesVectors ScalarOperatorFault
-refuses_vectors f kind m r offset (inl h) begins = h.1
-refuses_vectors f kind m r offset (inr h) begins = absurd (h.0 begins)
+pub refuses_simd : RefusesSimd ScalarOperatorFault
+refuses_simd f kind m r offset (inl h) begins = h.1
+refuses_simd f kind m r offset (inr h) begins = absurd (h.0 begins)
 
 pub refused_same : (f : WasmFeatures) (kind : FrameKind) (m : Message) (r : Reader) (offset : ℕ) → ScalarOperatorFault f kind m r offset →
     (BeginsWith 0xfd (rest r) → ⊥) → OperatorFault f kind m r offset

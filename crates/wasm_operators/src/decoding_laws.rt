@@ -23,7 +23,7 @@ pub fn refusal_messages(features: WasmFeatures, frame: FrameKind)
 {}
 
 /// States that only at the byte 0xfd a visitor without SIMD operators has another error.
-pub fn vector_refusals(features: WasmFeatures, frame: FrameKind)
+pub fn simd_refusals(features: WasmFeatures, frame: FrameKind)
     ensures there { (m : Message) (r : Reader) (offset : ℕ) → ScalarOperatorFault features frame m r offset
         → BeginsWith 0xfd (rest r) → m ≡ Message.UnexpectedSimd }
     ensures elsewhere { (m : Message) (r : Reader) (offset : ℕ) → ScalarOperatorFault features frame m r offset

@@ -101,7 +101,7 @@ impl<'a> OperatorsReader<'a> {
         ensures rest { ReadsRest scalar_operators (VisitedScalar V.visits v.old v.new) result self.old self.new }
         ensures runs { RunsToEnd scalar_operators (VisitedScalar V.visits v.old v.new) result self.old self.new }
         ensures flat { ReadsFlat scalar_operators (VisitedScalar V.visits v.old v.new) result self.old }
-        ensures vector { StopsAtSimd result self.old }
+        ensures simd { StopsAtSimd result self.old }
         ensures depth { IsWithinDepth self.old self.new }
     {
         self.visit_to_end::<V, ScalarOperators>(v)

@@ -4,7 +4,7 @@ use Rattle.std.proofs.lemmas.List.{get_or-map}
 use Rattle.wasm_decode_opcodes.specs.Entry.{unknown}
 use Rattle.wasm_decode_opcodes.specs.Entries.{simd_entries}
 use Rattle.wasm_decode_groups.specs.WithoutImmediates.{is_without_immediates}
-use Rattle.wasm_decode_groups.proofs.vectors_without_immediates.is_marked.Goals as goal
+use Rattle.wasm_decode_groups.proofs.simd_without_immediates.is_marked.Goals as goal
 
 pub returns-then-place-ge276 : goal.returns-then-place-ge276
 returns-then-place-ge276 c =

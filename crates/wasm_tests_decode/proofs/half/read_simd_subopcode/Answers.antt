@@ -1,7 +1,7 @@
 use Rattle.std.proofs.Common.{Some, subst}
 use Rattle.wasm_decode_opcodes.specs.Decoding.{IsAfterCode}
 use Rattle.wasm_tests_decode.proofs.After.{after_both}
-use Rattle.wasm_tests_decode.proofs.half.read_vector_subopcode.Goals as goal
+use Rattle.wasm_tests_decode.proofs.half.read_simd_subopcode.Goals as goal
 
 pub returns-in-Ok : goal.returns-in-Ok
 returns-in-Ok c =

@@ -1,6 +1,6 @@
 ghost use Rattle.std.specs.Prelude.{◌≡◌, true, false, [], ◌++◌, ◌∷◌, ℕ, length, IfOk};
 ghost use Rattle.wasm_operators.specs.instr.declared.operator.Operator.{Operator};
-ghost use Rattle.wasm_operators.specs.instr.Kinds.{IsVector};
+ghost use Rattle.wasm_operators.specs.instr.Kinds.{IsSimd};
 ghost use Rattle.wasm_operators.specs.Expression.{Placed, IsPrefixAfter, IsLongestBeginning};
 ghost use Rattle.wasm_operators.specs.Visiting.{IsScalar, scalar_beginning};
 ghost use Rattle.uses.specs.Input.{input};
@@ -13,14 +13,14 @@ use wasm_operators::{
 
 /// Returns `true` if an expression, up to its first error, has SIMD operators.
 ///
-/// By the clause `vector` of `visit_all`, the error is `UnexpectedSimd` if the longest prefix has
+/// By the clause `simd` of `visit_all`, the error is `UnexpectedSimd` if the longest prefix has
 /// one. This prefix exists (law `longest_exists`), and starts with all others (`one_layout`).
-pub fn has_vectors(alloc: Global, features: WasmFeatures, bytes: &[u8]) -> Result<bool>
+pub fn has_simd(alloc: Global, features: WasmFeatures, bytes: &[u8]) -> Result<bool>
     ensures found { (longest : Placed) → IsLongestBeginning (input features bytes.now) longest → ¬ IsScalar longest
         → IfOk result (λ has. has ≡ true) }
     ensures none { IfOk result (λ has. has ≡ false
         → (before after : Placed) (op : Operator) (at : ℕ)
-        → IsPrefixAfter [] (input features bytes.now) (before ++ (op, at) ∷ after) → ¬ IsVector op) }
+        → IsPrefixAfter [] (input features bytes.now) (before ++ (op, at) ∷ after) → ¬ IsSimd op) }
 {
     expression_laws::longest_exists();
     expression_laws::one_layout(features);
@@ -43,7 +43,7 @@ pub fn has_vectors(alloc: Global, features: WasmFeatures, bytes: &[u8]) -> Resul
 ///
 /// The clause `beginning` of `visit_all` gives the visited list, and the law `scalar_longest`
 /// relates it to the longest prefix.
-pub fn count_before_vectors(alloc: Global, features: WasmFeatures, bytes: &[u8]) -> Result<u64>
+pub fn count_before_simd(alloc: Global, features: WasmFeatures, bytes: &[u8]) -> Result<u64>
     ensures { (longest : Placed) → IsLongestBeginning (input features bytes.now) longest
         → IfOk result (λ count. count ≡ length (scalar_beginning longest)) }
 {

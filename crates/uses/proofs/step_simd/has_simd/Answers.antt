@@ -4,7 +4,7 @@ use Rattle.wasm_operators.specs.Expression.{IsLongestAfter}
 use Rattle.wasm_operators.specs.Visiting.{IsScalar}
 use Rattle.uses.specs.Input.{input}
 use Rattle.uses.proofs.Scalars.{none_in, none_at, neither}
-use Rattle.uses.proofs.step_vectors.has_vectors.Goals as goal
+use Rattle.uses.proofs.step_simd.has_simd.Goals as goal
 
 pub returns-in-Ok-clause-found : goal.returns-in-Ok-clause-found
 returns-in-Ok-clause-found c = λ longest is vectors.
@@ -26,7 +26,7 @@ pub returns-clause-found : goal.returns-clause-found
 returns-clause-found c = λ longest is vectors.
     let same = c.new-reader.ensures.reader ∙ c.new_features.ensures in
     let there = subst (λ r. IsLongestAfter [] (source_of r) longest) (sym same) is in
-    let refused = c.in-Err.ensures.vector [] c.new-reader.ensures.read_so_far longest there vectors in
+    let refused = c.in-Err.ensures.simd [] c.new-reader.ensures.read_so_far longest there vectors in
     absurd (neither (λ m. c.in_default.not-UnexpectedSimd (c.message.ensures ∙ m)) (λ m. c.in_default.not-OutOfMemory (c.message.ensures ∙ m)) refused)
 
 pub returns-clause-none : goal.returns-clause-none
@@ -36,5 +36,5 @@ returns-clause-none c = λ no before after op at there.
     let exists = rw same at (c.longest_exists.ensures.any [] c.new-reader.result c.new-reader.ensures.read_so_far) in
     none_at s before after op at c.one_layout.ensures.beginning c.scalar_beginnings.ensures.none exists
     (λ longest is vectors.
-    let refused = c.in-Err.ensures.vector [] c.new-reader.ensures.read_so_far longest (subst (λ r. IsLongestAfter [] (source_of r) longest) (sym same) is) vectors in
+    let refused = c.in-Err.ensures.simd [] c.new-reader.ensures.read_so_far longest (subst (λ r. IsLongestAfter [] (source_of r) longest) (sym same) is) vectors in
     neither (λ m. c.in_default.not-UnexpectedSimd (c.message.ensures ∙ m)) (λ m. c.in_default.not-OutOfMemory (c.message.ensures ∙ m)) refused) there

@@ -3,7 +3,7 @@ use Rattle.wasm_operators.specs.Visiting.{IsScalar, scalar_beginning}
 use Rattle.uses.specs.Input.{input}
 use Rattle.uses.proofs.Begun.{longest_at}
 use Rattle.uses.proofs.Tallied.{tallied_along}
-use Rattle.uses.proofs.step_vectors.count_before_vectors.Goals as goal
+use Rattle.uses.proofs.step_simd.count_before_simd.Goals as goal
 
 pub returns-in-Ok : goal.returns-in-Ok
 returns-in-Ok c = λ longest is.

@@ -2,7 +2,7 @@
 ghost use Rattle.std.specs.Prelude.{◌≡◌, ◌<◌, ◌≤◌, [], true, Some, map};
 ghost use Rattle.wasm_decode_opcodes.specs.Entries.{entry_at, simd_entries};
 ghost use Rattle.wasm_decode_opcodes.specs.Entry.{free};
-ghost use Rattle.wasm_decode_groups.specs.WithoutImmediates.{IsVectorWithoutImmediates, is_without_immediates};
+ghost use Rattle.wasm_decode_groups.specs.WithoutImmediates.{IsSimdWithoutImmediates, is_without_immediates};
 
 use crate::arm::{Maker, Makes, SimdHigh, SimdLow};
 use wasm_instr_simd::SimdOperator;
@@ -57,7 +57,7 @@ pub fn has_no_immediates(code: u32) -> bool
 pub fn simd_low_without_immediates(code: u32) -> SimdOperator
     requires without { entry_at (Some 0xfd) code ≡ free [] }
     requires half { code < 0x80 }
-    ensures { IsVectorWithoutImmediates code result }
+    ensures { IsSimdWithoutImmediates code result }
 {
     <Maker as Makes<SimdLow, ()>>::make(code, ())
 }
@@ -67,7 +67,7 @@ pub fn simd_low_without_immediates(code: u32) -> SimdOperator
 pub fn simd_high_without_immediates(code: u32) -> SimdOperator
     requires without { entry_at (Some 0xfd) code ≡ free [] }
     requires half { 0x80 ≤ code }
-    ensures { IsVectorWithoutImmediates code result }
+    ensures { IsSimdWithoutImmediates code result }
 {
     <Maker as Makes<SimdHigh, ()>>::make(code, ())
 }
