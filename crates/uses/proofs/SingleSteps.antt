@@ -45,10 +45,10 @@ ends_nowhere message.FramesRemain Closed r stops (closed, all) = stops closed
 ends_nowhere message.UnexpectedData Closed r (there, left) (closed, all) = left all
 ends_nowhere _ Closed r stops both = stops
 
-abbrev pub TakenPlace : Type 0
-TakenPlace = (old new : Reader) (text : List ℕ) → Takes old new text → (offset_of new ≡ offset_of old + length text) × (new.features ≡ old.features)
+abbrev pub PlaceAfter : Type 0
+PlaceAfter = (old new : Reader) (text : List ℕ) → Takes old new text → (offset_of new ≡ offset_of old + length text) × (new.features ≡ old.features)
 
-pub first_then : TakenPlace → (features : WasmFeatures) (bytes : List ℕ) (old mid : State) (op : Operator) (placed : Placed) → old.reader ≡ reader_of features 0 bytes →
+pub first_then : PlaceAfter → (features : WasmFeatures) (bytes : List ℕ) (old mid : State) (op : Operator) (placed : Placed) → old.reader ≡ reader_of features 0 bytes →
     TakesOperator EncodesAllowed op old mid → EncodesRest (op ∷ []) (source_of mid.reader) placed →
     EncodesExpression (input features bytes) ((op, 0) ∷ placed)
 first_then place_of features bytes old mid op placed fresh taken (laid, walk) =

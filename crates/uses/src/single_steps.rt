@@ -21,7 +21,7 @@ use std::alloc::Global;
 use wasm_operators::{
     BinaryReader, Error, FrameStack, IsEndOperatorVisitor, Message, Operator, OperatorsReader,
     OperatorsReaderAllocations, Result, WasmFeatures, decoder_laws, decoding_laws, grammar_laws,
-    operator_laws, position_laws, reading_laws, run_laws,
+    immediate_laws, operator_laws, reading_laws, run_laws,
 };
 
 #[derive(Clone, Copy, Debug, PartialEq, Eq)]
@@ -206,7 +206,7 @@ pub fn is_whole(operators: &OperatorsReader<'_>) -> bool
 /// expression, only allocation can fail.
 ///
 /// By the laws `one_operator` and `single_reads`, all operators are one list, to which
-/// `read_to_the_end` applies. By `taken_place`, they follow each other, and by
+/// `read_to_the_end` applies. By `place_after`, they follow each other, and by
 /// `rules_accept_walks`, the frame of an expression allows the first.
 pub fn first_and_rest<'a>(
     alloc: Global,
@@ -218,7 +218,7 @@ pub fn first_and_rest<'a>(
         → IfErr result (λ e. e.message ≡ Message.OutOfMemory) }
 {
     grammar_laws::rules_accept_walks::<Operator<'_>>();
-    position_laws::taken_place();
+    immediate_laws::place_after();
     run_laws::one_operator();
     run_laws::single_reads();
     run_laws::read_to_the_end();

@@ -7,7 +7,7 @@ ghost use Rattle.wasm_grammar.specs.declared.frame_kind.FrameKind.{FrameKind};
 ghost use Rattle.wasm_instr.specs.declared.operator.Operator.{Operator};
 ghost use Rattle.wasm_decode_opcodes.specs.Decoding.{DecodesOperatorAt, IsAfterCode};
 
-use crate::after::{subopcode, simd_operator_without_immediates};
+use crate::after::{simd_operator_without_immediates, subopcode};
 use crate::out_of_line::read_after_prefix;
 use crate::prefixes::{FIRST_PREFIX, OtherPrefix, Simd};
 use crate::refusals::no_frame;

@@ -1,4 +1,4 @@
-ghost use Rattle.std.specs.Prelude.{◌≡◌, ◌+◌, ◌≤◌, List, length, ℕ, Err};
+ghost use Rattle.std.specs.Prelude.{◌≡◌, ◌≤◌, List, ℕ, Err};
 ghost use Rattle.wasm_below.specs.declared.error.Error.{Error};
 ghost use Rattle.wasm_below.specs.Source.{Reader, offset_of, end_of, Takes, IsAhead};
 ghost use Rattle.wasm_operators.specs.Next.{all_operators, collecting, scalar_operators};
@@ -17,12 +17,6 @@ pub fn within(reader: &BinaryReader<'_>)
 pub fn taken_within()
     ensures { (old new : Reader) (text : List ℕ) → Takes old new text → offset_of old ≤ end_of old
         → (offset_of old ≤ offset_of new) × (offset_of new ≤ end_of new) × (end_of new ≡ end_of old) }
-{}
-
-/// States that after a read the reader is after the text that was read, with the same features.
-pub fn taken_place()
-    ensures { (old new : Reader) (text : List ℕ) → Takes old new text
-        → (offset_of new ≡ offset_of old + length text) × (new.features ≡ old.features) }
 {}
 
 /// States that an error is within the rest, or at its end.
