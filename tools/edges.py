@@ -6,7 +6,7 @@
 It fails on
 
 - a crate that a crate names and does not list, or lists and does not name;
-- a re-export of another crate's name, except in the lists of `wasm_operators` and `wasm_c` for users;
+- a re-export of another crate's name, except in the lists of `wasm_operators`, `wasm_encode` and `wasm_c` for users;
 - a lemma of another crate (`Rattle.OTHER.proofs.`) in a program, a static library, a proved caller or a test. What
   callers need is a clause or a law. CITED has the exceptions. Other crates may cite lemmas of the crates that they list.
 """
@@ -22,7 +22,7 @@ from paths import TOP, crates
 # Programs, static libraries and proved callers. Tests are known by their names.
 OUTSIDE = ("wasm_objdump", "wasm_dump", "wasm_c_exports", "wasm_bench", "uses")
 # The crates that list names of others for users.
-LISTS = ("wasm_operators", "wasm_c")
+LISTS = ("wasm_operators", "wasm_encode", "wasm_c")
 # The exceptions: crate, library and file of the lemmas, their names, and why.
 CODES = "encodings are a prefix code, which is also a law, and not empty, which no law says"
 REFUSED = "what an error implies for the bytes"

@@ -67,7 +67,7 @@ pub use same::{
 pub use sections::read_indices;
 pub use single::{Inside, operator_inside};
 pub use single_steps::{
-    Complaint, asked_twice, first_and_rest, first_operator, is_whole, next_refusal,
+    Complaint, asked_twice, first_and_rest, first_operator, is_whole, next_complaint, next_refusal,
     operator_refusal, operator_size, read_in_step, scalar_refusal, why_refused,
 };
 pub use skipping::skip_operators;

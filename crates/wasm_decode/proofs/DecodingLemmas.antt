@@ -18,7 +18,7 @@ use Rattle.wasm_imm.specs.Immediate.{Kind}
 use Rattle.wasm_instr.specs.Kinds.{IsSimd}
 use Rattle.wasm_instr.specs.Row.{prefix_of, opcode_of}
 use Rattle.wasm_decode_opcodes.specs.Allowed.{EncodesAllowed, EncodesScalar, EncodesIn}
-use Rattle.wasm_decode_opcodes.specs.Decoding.{Decodes, DecodesOperator, IsAfterCode}
+use Rattle.wasm_decode_opcodes.specs.Decoding.{Decodes, DecodesAt, DecodesOperator, IsAfterCode}
 use Rattle.wasm_decode_groups.specs.Arms.{ReadsOperatorAt}
 use Rattle.wasm_decode_groups.specs.OneByte.{IsOneByteCode}
 use Rattle.wasm_decode_opcodes.specs.declared.guard.Guard.{Guard}
@@ -29,6 +29,7 @@ use Rattle.wasm_decode_opcodes.specs.OperatorFaults.{EntryFault, OperatorFault, 
 use Rattle.wasm_decode_opcodes.specs.Refused.{MayAllocate}
 use Rattle.wasm_decode_opcodes.proofs.EntriesAgree.{entry_agrees}
 use Rattle.wasm_decode_groups.proofs.Ranges.{InRanges, codes_in}
+use Rattle.wasm_decode.specs.OperatorSets.{OperatorSet, with_simd, without_simd, DecodesSetAt}
 use Rattle.wasm_decode.specs.Reading.{DecodesGcAt}
 
 -- the reader is after the byte that it read
@@ -168,6 +169,12 @@ to_scalar {V} {A} visits k start code mid new v w result other b h = go b.opcode
     go (head, opcode, t) (Err e) (same, (went, h)) =
         let parts : rest (at_position mid start) ≡ code ∷ rest mid = t.parts ∙ ap (λ z. z ++ rest mid) opcode in
         (same, (went, refused_scalar mid.features k e (at_position mid start) (other_byte code (rest mid) (rest (at_position mid start)) other parts) h))
+
+-- so it is the same for each set of operators
+pub to_set : {V A : Type 0} (visits : V → Operator → A → V → Type 0) (set : OperatorSet) (k : FrameKind) (start code : ℕ) (mid new : Reader) (v w : V) (result : Result A Error) →
+    code ≢ 0xfd → IsAfterCode start None code mid → DecodesAt visits k start result mid new v w → DecodesSetAt set visits k start result mid new v w
+to_set visits with_simd k start code mid new v w result other b h = h
+to_set visits without_simd k start code mid new v w result other b h = to_scalar visits k start code mid new v w result other b h
 
 -- from the position after the opcode to the operator's start
 pub from_start : {V A : Type 0} (visits : V → Operator → A → V → Type 0) (E : WasmFeatures → FrameKind → List ℕ → Operator → Type 0)

@@ -457,7 +457,9 @@ impl<'a> Operator<'a> {
         }
     }
 
-    fn code(&self) -> u32
+    /// Returns the opcode; after a prefix byte, the subopcode.
+    #[inline(always)]
+    pub fn code(&self) -> u32
         ensures { result ≡ opcode_of self.now }
     {
         match self {
@@ -540,11 +542,11 @@ impl<'a> Operator<'a> {
             Operator::ResumeThrow { .. } => 0xe4,
             Operator::ResumeThrowRef { .. } => 0xe5,
             Operator::Switch { .. } => 0xe6,
-            Operator::Numeric(op) => op.info().code,
-            Operator::Gc(op) => op.info().code,
-            Operator::Misc(op) => op.info().code,
-            Operator::Simd(op) => op.info().code,
-            Operator::Atomic(op) => op.info().code,
+            Operator::Numeric(op) => op.code(),
+            Operator::Gc(op) => op.code(),
+            Operator::Misc(op) => op.code(),
+            Operator::Simd(op) => op.code(),
+            Operator::Atomic(op) => op.code(),
         }
     }
 

@@ -6,11 +6,13 @@ use Rattle.wasm_below.specs.Source.{Reader, rest, BeginsWith}
 use Rattle.wasm_grammar.specs.declared.frame_kind.FrameKind.{FrameKind}
 use Rattle.wasm_decode_opcodes.specs.Allowed.{EncodesAllowed, EncodesScalar}
 use Rattle.wasm_decode_opcodes.specs.OperatorFaults.{OperatorFault, ScalarOperatorFault}
+use Rattle.wasm_decode.specs.OperatorSets.{OperatorSet, with_simd, without_simd, EncodesOf}
 use Rattle.wasm_operators.specs.Expression.{IsAny}
 use Rattle.wasm_operators.specs.Visiting.{IsScalar}
 use Rattle.wasm_operators.proofs.Premises.{IsSound, Everything, IsNotSimd, Keeps, TakesAll, TakesNoSimd, IsReading, RefusesSimd}
 use Rattle.wasm_operators.proofs.Scalar.{each_scalar}
 use Rattle.wasm_operators.proofs.Messages.{operator_read_fault, scalar_read_fault}
+use Rattle.wasm_operators.proofs.Taken.{TakesAllowed}
 
 pub sound : IsSound EncodesAllowed
 sound f kind text op h = h.0
@@ -44,3 +46,11 @@ pub refused_same : (f : WasmFeatures) (kind : FrameKind) (m : Message) (r : Read
     (BeginsWith 0xfd (rest r) → ⊥) → OperatorFault f kind m r offset
 refused_same f kind m r offset (inl h) other = absurd (other h.0)
 refused_same f kind m r offset (inr h) other = h.1
+
+pub set_sound : (set : OperatorSet) → IsSound (EncodesOf set)
+set_sound with_simd = sound
+set_sound without_simd = scalar_sound
+
+pub set_allowed : (set : OperatorSet) → TakesAllowed (EncodesOf set)
+set_allowed with_simd = λ f kind text op h. h.1
+set_allowed without_simd = λ f kind text op h. h.0.1

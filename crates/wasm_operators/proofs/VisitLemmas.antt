@@ -1,8 +1,12 @@
 use Rattle.std.proofs.Common.{◌≡◌, ℕ, Bool, true, false, cond, List, [], ◌∷◌, ◌++◌, refl, sym, subst, ap, ◌∙◌}
+use Rattle.wasm_below.specs.declared.features.WasmFeatures.{WasmFeatures}
+use Rattle.wasm_grammar.specs.declared.frame_kind.FrameKind.{FrameKind}
 use Rattle.wasm_instr.specs.declared.operator.Operator.{Operator}
 use Rattle.wasm_instr.specs.declared.operator.Operator.TheVariants as operator
 use Rattle.wasm_instr.specs.Kinds.{IsSimd}
+use Rattle.wasm_decode.specs.OperatorSets.{OperatorSet, with_simd, without_simd, EncodesOf}
 use Rattle.wasm_operators.specs.Expression.{Placed, IsBeginningOf}
+use Rattle.wasm_operators.specs.Sets.{VisitedOf}
 use Rattle.wasm_operators.specs.Visiting.{VisitRun, Visited, is_simd, scalar_beginning, IsScalar}
 
 pub visit_run_append : {V A : Type 0} (visits : V → Operator → A → V → Type 0) (ps qs : Placed) (xs ys : List A) (before between after : V) →
@@ -80,3 +84,16 @@ scalar_none (p ∷ ps) q before after e vector =
 
 pub scalar_longest : (ps others : Placed) → IsBeginningOf others ps → IsScalar others → IsBeginningOf others (scalar_beginning ps)
 scalar_longest ps others (more, e) h = (scalar_beginning more, ap scalar_beginning e ∙ scalar_append others more h)
+
+-- ---- for each set of operators
+
+pub set_visited_none : {V A : Type 0} (set : OperatorSet) (visits : V → Operator → A → V → Type 0) (v : V) → VisitedOf set visits v v []
+set_visited_none with_simd visits v = ([], (refl, refl))
+set_visited_none without_simd visits v = (([], (refl, refl)), refl)
+
+pub set_visited_push : {V A : Type 0} (set : OperatorSet) (visits : V → Operator → A → V → Type 0) (ps : Placed) (op : Operator) (at : ℕ) (outcome : A) (before between after : V)
+    (f : WasmFeatures) (kind : FrameKind) (text : List ℕ) → VisitedOf set visits before between ps → EncodesOf set f kind text op → visits between op outcome after →
+    VisitedOf set visits before after (ps ++ (op, at) ∷ [])
+set_visited_push with_simd visits ps op at outcome before between after f kind text run encodes visit = visited_push visits ps op at outcome before between after run visit
+set_visited_push without_simd visits ps op at outcome before between after f kind text (run, scalar) encodes visit =
+    (visited_push visits ps op at outcome before between after run visit, scalar_push ps op at scalar encodes.1)

@@ -11,6 +11,7 @@ use crate::collector::Collector;
 use crate::operators::OperatorsReader;
 use std::mem::replace;
 use wasm_below::{Error, Message, Result};
+use wasm_decode::{AllOperators, ScalarOperators};
 use wasm_instr::Operator;
 use wasm_visit::{HoldTable, VisitOperator};
 
@@ -87,7 +88,7 @@ impl<'a> OperatorsReader<'a> {
         ensures flat { ReadsFlat all_operators (Visited V.visits v.old v.new) result self.old }
         ensures depth { IsWithinDepth self.old self.new }
     {
-        self.visit_to_end_simd(v)
+        self.visit_to_end::<V, AllOperators>(v)
     }
 
     /// Visits operators up to the end of the data, an error or a SIMD operator, and finishes. Drops
@@ -103,6 +104,6 @@ impl<'a> OperatorsReader<'a> {
         ensures simd { StopsAtSimd result self.old }
         ensures depth { IsWithinDepth self.old self.new }
     {
-        self.visit_to_end(v)
+        self.visit_to_end::<V, ScalarOperators>(v)
     }
 }
