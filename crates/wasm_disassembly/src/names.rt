@@ -130,6 +130,13 @@ pub fn shown_names(alloc: Global, functions: &Functions<'_>) -> Result<Vec<Strin
     Ok(names)
 }
 
+/// Returns the index of the first of these names that is `name`.
+fn first_named(names: &[String], name: &str) -> Option<usize>
+    ensures { result ≡ first_named (map string_bytes names.now) name.now }
+{
+    names.iter().position(|shown| shown.as_str() == name)
+}
+
 /// Returns the index of the first function that is shown with this name, if there is one.
 pub fn function_named(
     alloc: Global,
@@ -139,5 +146,5 @@ pub fn function_named(
     ensures { IfOk result (λ found. found ≡ first_named (all_escaped functions.now.names) name.now) }
 {
     let names = shown_names(alloc, functions)?;
-    Ok(names.iter().position(|shown| shown.as_str() == name))
+    Ok(first_named(names.as_slice(), name))
 }
