@@ -6,8 +6,9 @@ use Rattle.wasm_below.specs.declared.message.Message.{Message}
 use Rattle.wasm_below.specs.FromReader.{IsRefused}
 use Rattle.wasm_below.specs.Number.{EncodesUnsigned}
 use Rattle.wasm_below.specs.Refusal.{IsReadFault}
-use Rattle.wasm_below.specs.Source.{Reader, rest, at_position, Takes, BeginsWith, HasRead, Reads, IsByte, U32Fault}
+use Rattle.wasm_below.specs.Source.{Reader, rest, at_position, Takes, BeginsWith, HasRead, IsRefusal, Reads, IsByte, EndFault, U32Fault}
 use Rattle.wasm_below.proofs.Blocks.{refused_now}
+use Rattle.wasm_below.proofs.Prefixes.{end_refused}
 use Rattle.wasm_below.proofs.TakesLemmas.{takes_then, rewound, first_byte_read}
 use Rattle.wasm_grammar.specs.declared.frame_kind.FrameKind.{FrameKind}
 use Rattle.wasm_instr.specs.declared.operator.Operator.{Operator}
@@ -29,7 +30,7 @@ use Rattle.wasm_decode_opcodes.specs.OperatorFaults.{EntryFault, OperatorFault, 
 use Rattle.wasm_decode_opcodes.specs.Refused.{MayAllocate}
 use Rattle.wasm_decode_opcodes.proofs.EntriesAgree.{entry_agrees}
 use Rattle.wasm_decode_groups.proofs.Ranges.{InRanges, codes_in}
-use Rattle.wasm_decode.specs.OperatorSets.{OperatorSet, with_simd, without_simd, DecodesSetAt}
+use Rattle.wasm_decode.specs.OperatorSets.{OperatorSet, with_simd, without_simd, EncodesOf, FaultOf, DecodesSetAt, DecodesSetIn}
 use Rattle.wasm_decode.specs.Reading.{DecodesGcAt}
 
 -- the reader is after the byte that it read
@@ -234,3 +235,43 @@ pub read_in : (E : FrameKind → List ℕ → Operator → Type 0) (F : FrameKin
     DecodesOperator (E k) (F k) result old new → DecodesOperator (EncodesIn E (Some k)) (FaultIn F (Some k)) result old new
 read_in E F k old new (Ok op) h = h
 read_in E F k old new (Err e) (went, h) = (went, opened E F k e old h)
+
+-- ---- no byte is left
+
+no_text : (f : WasmFeatures) (op : Operator) → EncodesOperator f [] op → ⊥
+no_text f op s = go (prefix_of op) s.code
+  where
+    go : (q : Option ℕ) → EncodesOpcode q s.head (opcode_of op) → ⊥
+    go None h =
+        let whole : [] ≡ opcode_of op ∷ s.after = s.parts ∙ ap (λ z. z ++ s.after) h in
+        cc whole
+    go (Some q) (number, h, u) =
+        let whole : [] ≡ q ∷ (number ++ s.after) = s.parts ∙ ap (λ z. z ++ s.after) h in
+        cc whole
+
+no_text_of : (set : OperatorSet) (f : WasmFeatures) (k : FrameKind) (op : Operator) → EncodesOf set f k [] op → ⊥
+no_text_of with_simd f k op h = no_text f op h.0
+no_text_of without_simd f k op h = no_text f op h.0.0
+
+end_fault_of : (set : OperatorSet) (f : WasmFeatures) (k : FrameKind) (e : Error) (old : Reader) → IsRefusal IsByte e old → EndFault e.message old e.offset →
+    FaultOf set f k e.message old e.offset
+end_fault_of with_simd f k e old h fault = inl (refused_now IsByte e old h, fault)
+end_fault_of without_simd f k e old h fault =
+    let none = refused_now IsByte e old h in
+    inr ((λ begins. none (0xfd ∷ []) begins.0 0xfd (refl, omega arith) begins.1), inl (none, fault))
+
+pub without_opcode : {V A : Type 0} (set : OperatorSet) (visits : V → Operator → A → V → Type 0) (k : FrameKind) (e : Error) (old new : Reader) (v : V) →
+    Reads IsByte EndFault (Err e) old new → DecodesSetIn set visits (Some k) (Err e) old new v v
+without_opcode set visits k e old new v (went, h, ends) =
+    let r = end_refused (EncodesOf set old.features k) e old (no_text_of set old.features k) ends in (
+      refl,
+      (
+        went,
+        record {
+          refuses = r.refuses;
+          ahead = r.ahead;
+          fault = λ some. end_fault_of set old.features k e old h ends;
+          memory = λ m. let end = ends.0 in absurd (cc (end, m));
+        },
+      ),
+    )

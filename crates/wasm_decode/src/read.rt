@@ -49,7 +49,7 @@ pub fn read_operator<'a>(
 /// Reads the rest of the operator with this opcode, which was read at the position `start`. For an
 /// opcode below 0x20, `read_below_0x20` is faster.
 ///
-/// Fails like `visit_after_opcode_simd`.
+/// Fails like `visit_after_opcode` of `AllOperators`.
 #[inline(always)]
 pub fn read_after_opcode<'a>(
     alloc: Global,

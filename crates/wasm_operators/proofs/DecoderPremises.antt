@@ -1,5 +1,6 @@
 -- This decoder has the properties that the theory of reads requires.
 use Rattle.std.proofs.Common.{ℕ, inl, inr}
+use Rattle.wasm_below.specs.declared.error.Error.{Error}
 use Rattle.wasm_below.specs.declared.features.WasmFeatures.{WasmFeatures}
 use Rattle.wasm_below.specs.declared.message.Message.{Message}
 use Rattle.wasm_below.specs.Source.{Reader, rest, BeginsWith}
@@ -8,6 +9,9 @@ use Rattle.wasm_decode_opcodes.specs.Allowed.{EncodesAllowed, EncodesScalar}
 use Rattle.wasm_decode_opcodes.specs.OperatorFaults.{OperatorFault, ScalarOperatorFault}
 use Rattle.wasm_decode.specs.OperatorSets.{OperatorSet, with_simd, without_simd, EncodesOf}
 use Rattle.wasm_operators.specs.Expression.{IsAny}
+use Rattle.wasm_operators.specs.Next.{StopsNext, all_operators, scalar_operators}
+use Rattle.wasm_operators.specs.Reading.{State}
+use Rattle.wasm_operators.specs.Sets.{decoder_of}
 use Rattle.wasm_operators.specs.Visiting.{IsScalar}
 use Rattle.wasm_operators.proofs.Premises.{IsSound, Everything, IsNotSimd, Keeps, TakesAll, TakesNoSimd, IsReading, RefusesSimd}
 use Rattle.wasm_operators.proofs.Scalar.{each_scalar}
@@ -54,3 +58,8 @@ set_sound without_simd = scalar_sound
 pub set_allowed : (set : OperatorSet) → TakesAllowed (EncodesOf set)
 set_allowed with_simd = λ f kind text op h. h.1
 set_allowed without_simd = λ f kind text op h. h.0.1
+
+pub set_stopped : (set : OperatorSet) (e : Error) (old new : State) → StopsNext all_operators e old new → StopsNext scalar_operators e old new →
+    StopsNext (decoder_of set) e old new
+set_stopped with_simd e old new stops scalar = stops
+set_stopped without_simd e old new stops scalar = scalar

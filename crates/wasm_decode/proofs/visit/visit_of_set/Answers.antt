@@ -1,9 +1,6 @@
-use Rattle.std.proofs.Common.{sym, subst}
-use Rattle.wasm_decode_opcodes.specs.Allowed.{EncodesIn}
-use Rattle.wasm_decode_opcodes.specs.Decoding.{Decodes}
-use Rattle.wasm_decode_opcodes.specs.OperatorFaults.{FaultIn}
+use Rattle.std.proofs.Common.{Err, sym, subst}
 use Rattle.wasm_decode.specs.OperatorSets.{EncodesOf, FaultOf, DecodesSetIn}
-use Rattle.wasm_decode.proofs.DecodingLemmas.{occurs, from_start, visited_in}
+use Rattle.wasm_decode.proofs.DecodingLemmas.{occurs, from_start, visited_in, without_opcode}
 use Rattle.wasm_decode.proofs.visit.visit_of_set.Goals as goal
 
 pub returns-then-code-lt32 : goal.returns-then-code-lt32
@@ -29,3 +26,9 @@ returns-else-code-lt32 g c =
     (visited_in g.V.Visitor.visits (EncodesOf set r.features) (FaultOf set r.features) k r call.new.reader c.args.v.now call.new.v call.result
     (from_start g.V.Visitor.visits (EncodesOf set) (FaultOf set) k c.current_position-start.result r c.read_u8.new.self call.new.reader c.args.v.now call.new.v
     call.result s.0 call.ensures))
+
+pub returns-in-Err : goal.returns-in-Err
+returns-in-Err g c =
+    let set = g.S.OperatorSet.set in
+    subst (λ z. DecodesSetIn set g.V.Visitor.visits z (Err c.in-Err.e) c.args.reader.now c.read_u8.new.self c.args.v.now c.args.v.now) (sym c.in-Some.is)
+    (without_opcode set g.V.Visitor.visits c.in-Some.frame c.in-Err.e c.args.reader.now c.read_u8.new.self c.args.v.now c.in-Err.ensures)

@@ -2,7 +2,7 @@ use Rattle.std.proofs.Common.{◌+◌, ◌≤◌, refl, subst, ap, ◌∙◌}
 use Rattle.wasm_grammar.specs.Frames.{frames_changed, opened, OpensFrame}
 use Rattle.wasm_decode.specs.OperatorSets.{EncodesOf, FaultOf}
 use Rattle.wasm_operators.specs.Next.{state_of}
-use Rattle.wasm_operators.proofs.DecoderPremises.{set_sound, set_allowed}
+use Rattle.wasm_operators.proofs.DecoderPremises.{set_sound, set_allowed, set_stopped}
 use Rattle.wasm_operators.proofs.VisitSteps.{visited_changing, refused_after, visited_keeping}
 use Rattle.wasm_operators.proofs.Taken.{begun_open}
 use Rattle.wasm_operators.proofs.next.visit_next.Goals as goal
@@ -47,3 +47,9 @@ returns-then-at-ge-KEEPS_FRAMES_FROM g c =
     let new = state_of c.visit_after_opcode.new.reader c.begin.new.control in
     visited_keeping g.V.Visitor.visits (EncodesOf set) (FaultOf set) (set_sound set) (set_allowed set) old mid new at.frame at.code at.start c.visit_after_opcode.result c.args.v.now c.visit_after_opcode.new.v
     c.if-at-ge-KEEPS_FRAMES_FROM.true c.in-Ok.ensures.begun c.visit_after_opcode.ensures refl refl
+
+pub returns-in-Err : goal.returns-in-Err
+returns-in-Err g c =
+    let stops = set_stopped g.S.OperatorSet.set c.in-Err.e (state_of c.args.reader.now c.args.control.now) (state_of c.begin.new.reader c.begin.new.control)
+    c.in-Err.ensures.refused c.in-Err.ensures.scalar in
+    (stops.0, refl, stops.1)
