@@ -31,5 +31,5 @@ returns-clause-reads c =
     let same = ap (λ (r : Reader). r.features) (c.in_ok-id.ensures.2.moved) ∙ ap (λ (r : Reader). r.features) c.clone-ahead.ensures in
     let mid = c.read_u8.new.self in
     let second = subst (λ g. HasRead (EncodesReader g) c.in_ok-contents.contents mid c.read_reader.new.self) same c.in_ok-contents.ensures.reads in
-    advances (EncodesSection f) {z = record { id = c.in_ok-id.id; contents = c.in_ok-contents.contents }} c.clone-ahead.ensures
+    advances (EncodesSection f) {x = record { id = c.in_ok-id.id; contents = c.in_ok-contents.contents }} c.clone-ahead.ensures
     (both_read IsByte (EncodesReader f) {y = c.in_ok-contents.contents} c.in_ok-id.ensures second)
