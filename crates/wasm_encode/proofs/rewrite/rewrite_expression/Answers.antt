@@ -22,7 +22,7 @@ returns-in-Ok-clause-reason c =
     only_memory c.args.features 0 along.0 c.args.bytes.now c.in-Err-write_operators.e encodes.0
     (subst (λ ps. c.in-Err-write_operators.e ≢ why.OutOfMemory → HasUnwritable c.args.features (operators ps) c.in-Err-write_operators.e) (c.as_slice.ensures.value ∙ list) c.in-Err-write_operators.ensures.written.1)
 
-pub returns-in-Err-clause-reason : goal.returns-in-Err-clause-reason
-returns-in-Err-clause-reason c = λ other placed encodes.
+pub returns-clause-reason : goal.returns-clause-reason
+returns-clause-reason c = λ other placed encodes.
     let whole = subst (λ r. EncodesExpression (source_of r) placed) (sym (c.new-reader.ensures.reader ∙ c.new_features.ensures)) encodes in
     other ((c.in-Err.ensures.rest [] c.new-reader.ensures.read_so_far).only placed whole tt)
