@@ -984,8 +984,9 @@ uint32_t wasm_finish(const uint8_t *bytes, size_t bytes_length, const uint8_t *f
 /* Writes the targets of the br_table at the offset `at`, without the default target: at most `out_length`, from the
  * index `index` on; the rest of `out` is unchanged. `*count` is the number of all targets.
  *
- * The operator is read as if inside a block; at the end of the bytes the call fails with WASM_REFUSED_END_OF_DATA.
- * Fails with WASM_REFUSED_NO_LIST if another operator begins there, or if `at` is before the first byte or past the
+ * The operator is read as if inside a block, and the errors of reading are those of wasm_next: `else`, `catch`,
+ * `catch_all` and `delegate` fail there, and at the end of the bytes the call fails with WASM_REFUSED_END_OF_DATA.
+ * Fails with WASM_REFUSED_NO_LIST if any other operator begins there, or if `at` is before the first byte or past the
  * end. */
 uint32_t wasm_br_table_targets(const uint8_t *bytes, size_t bytes_length, uint64_t offset, uint32_t features,
                                uint64_t at, size_t index, uint32_t *out, size_t out_length, size_t *count,

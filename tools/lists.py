@@ -21,6 +21,7 @@ from cargo import cargo_files
 from changes import change_files
 from counts import wrong_counts
 from decode import decode_files
+from encode import encode_files
 from entries import entry_files
 from equality import equality_files
 from header import header_files
@@ -61,6 +62,7 @@ def files(ops):
     out |= equality_files(ops, ENUMS)
     out |= proposal_files()
     out |= decode_files(ops)
+    out |= encode_files(ops)
     out |= arm_files(ops)
     out |= visit_files(ops)
     out |= route_files()

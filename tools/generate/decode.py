@@ -22,11 +22,11 @@ def marks(ops, those):
     return ["true" if code in codes else "false" for code in range(max(op.code for op in ops if op.prefix == "fd") + 1)]
 
 
-def vectors_without_immediates(ops):
+def simd_without_immediates(ops):
     """Returns the file of the SIMD operators without immediates."""
     those = [part for group in GROUPS for part in parts(ops, group) if part.has_table]
     table = marks(ops, those)
-    lines = filled("decode/vectors_without_immediates.rt", count=len(table), marks=", ".join(table))
+    lines = filled("decode/simd_without_immediates.rt", count=len(table), marks=", ".join(table))
     for part in those:
         lines += ["", *operators_without_immediates(part)]
     return "\n".join(lines) + "\n"
@@ -34,4 +34,4 @@ def vectors_without_immediates(ops):
 
 def decode_files(ops):
     """Returns the generated file of the decoder that has no arms, by path."""
-    return {"crates/wasm_decode_groups/src/vectors_without_immediates.rt": vectors_without_immediates(ops)}
+    return {"crates/wasm_decode_groups/src/simd_without_immediates.rt": simd_without_immediates(ops)}

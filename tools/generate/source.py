@@ -136,7 +136,7 @@ def info_of(enum, ops):
 
 def opcode_column(enum, ops):
     if any(op.fields for op in ops):
-        return column(enum, ops, "code", "u32", Operator.hex)
+        return filled("source/code.rt", what="subopcode", opcode=enum.opcode, arms=[f"{rust_pattern(op, enum.type)} => {op.hex()}," for op in ops])
     return filled("source/plain_opcode.rt", opcode=enum.opcode)
 
 
@@ -213,7 +213,7 @@ def column(enum, ops, name, ty, value):
 
 
 def in_parts(enum, ops, name, ty, arms_of):
-    of = {"name": name, "type": ty, "word": enum.opcode if name == "code" else f"{enum.module}_{name}", "now": ".now" if ty.startswith("&") else ""}
+    of = {"name": name, "type": ty, "word": f"{enum.module}_{name}", "now": ".now" if ty.startswith("&") else ""}
     if len(ops) <= LARGE:
         return filled("source/column.rt", **of, arms=arms_of(ops, str))
     ordered = sorted(ops, key=lambda op: op.code)
@@ -274,9 +274,17 @@ def operator_debug(ops):
 
 
 def operator_column(ops, name, word, ty, value):
-    inner_arms = [f"Operator::{enum.group}(op) => op.info().{name}," for enum in held()]
     now = ".now" if ty.startswith("&") else ""
-    return filled("source/column.rt", name=name, type=ty, word=word, now=now, arms=arms(ops, "Operator", value) + inner_arms)
+    return filled("source/column.rt", name=name, type=ty, word=word, now=now, arms=arms(ops, "Operator", value) + inner_arms(f"info().{name}"))
+
+
+def code_column(ops):
+    what = "opcode; after a prefix byte, the subopcode"
+    return filled("source/code.rt", what=what, opcode="opcode_of", arms=arms(ops, "Operator", Operator.hex) + inner_arms("code()"))
+
+
+def inner_arms(call):
+    return [f"Operator::{enum.group}(op) => op.{call}," for enum in held()]
 
 
 def operator_source(ops, owning=()):
@@ -289,10 +297,10 @@ def operator_source(ops, owning=()):
         variants=[variant(op) for op in ops],
         enum_variants=[f"{enum.group}({enum.type})," for enum in held()],
         conversions=[line for enum in held() for line in [*filled("source/conversion.rt", type=enum.type, group=enum.group), ""]],
-        enum_infos=[f"Operator::{enum.group}(op) => op.info()," for enum in held()],
-        proposals=proposal_arms(ops, "Operator", [f"Operator::{enum.group}(op) => op.info().proposal," for enum in held()]),
+        enum_infos=inner_arms("info()"),
+        proposals=proposal_arms(ops, "Operator", inner_arms("info().proposal")),
         names=operator_column(ops, "name", "name_of", "&'static str", lambda op: f'"{op.name}"'),
-        codes=operator_column(ops, "code", "opcode_of", "u32", Operator.hex),
+        codes=code_column(ops),
         clone=clone_of("Operator", "HoldsList", ops, owning),
         debug=operator_debug(ops),
     )

@@ -16,6 +16,7 @@ GROUPS = [
     ("Expressions of operators", "".join(map(READERS.format, EXPRESSIONS))),
     ("Reads and visits", "".join(map(READERS.format, READS)) + "wasm_operators/Collecting wasm_operators/Laws"),
     ("Bodies, constant expressions and sections", "wasm_operators/Locals wasm_operators"),
+    ("Writing", "wasm_encode_numbers wasm_encode_immediates wasm_encode_operators wasm_encode"),
     ("Listing and counts of a body", "wasm_listing"),
     ("The text of an operator", "wasm_text"),
     ("Lines of a disassembly", "wasm_text/Lines wasm_text/Rows"),

@@ -4,7 +4,7 @@ import re
 from pathlib import Path
 
 WORD = r"[A-Za-z_][\w'-]*"
-DEFINED = re.compile(rf"^ *(?:abbrev )?pub (?:record |data )?({WORD})")
+DEFINED = re.compile(rf"^ *(?:abbrev |unfoldable )?pub (?:record |data )?({WORD})")
 CONSTRUCTORS = re.compile(rf"^ +(?!pub )((?:{WORD} )+): ")
 # A sentence that names a section, a proposal or a page.
 REFERENCE = re.compile(

@@ -60,6 +60,8 @@ def breaks_of_checks(top):
         Break("lists", top / "crates" / "wasm_bench" / "specs" / "LeftOver.antt", more(f"-- {head_of_lists(top)}\n")),
         Break("expected", top / "crates" / "wasm_tests_lists" / "edges.txt", more("one line more\n")),
         Break("expected-reading", top / "crates" / "wasm_tests_decode" / "rows.tsv", lambda old: old + old.splitlines(True)[-1]),
+        # (the program does not read the names of its rows)
+        Break("expected-writing", top / "crates" / "wasm_tests_encode" / "stdin", replaced(r"^(\w+)", r"\1Other")),
         Break("definitions", top / "docs" / "DEFINITIONS.md", more(WRONG_ROW)),
         Break("contracts", top / "crates" / "wasm_operators" / "CALLING.md", replaced(r"^  ensures: Reads", "  ensures: Read")),
         Break("edges", top / "crates.txt", replaced(r"^(uses:.*)$", r"\1 bitflags")),

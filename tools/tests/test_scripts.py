@@ -192,7 +192,8 @@ class Edges(unittest.TestCase):
         self.assertEqual(edges.cited(several, "tests", LISTED), {"low.proofs.Words.word", "low.proofs.Words.other", "low.proofs.Sums"})
 
     def test_outside(self):
-        self.assertEqual([edges.is_outside(it) for it in ("wasm_tests_below", "uses", "wasm_operators")], [True, True, False])
+        self.assertTrue(all(edges.is_outside(it) for it in ("wasm_tests_below", "uses", "wasm_objdump", "wasm_c_exports", "wasm_bench")))
+        self.assertFalse(any(edges.is_outside(it) for it in ("wasm_operators", "wasm_module", "wasm_text", "wasm_disassembly", "wasm_c")))
 
 
 class Cases(unittest.TestCase):

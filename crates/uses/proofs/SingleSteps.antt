@@ -45,15 +45,17 @@ ends_nowhere message.FramesRemain Closed r stops (closed, all) = stops closed
 ends_nowhere message.UnexpectedData Closed r (there, left) (closed, all) = left all
 ends_nowhere _ Closed r stops both = stops
 
-pub first_then : (features : WasmFeatures) (bytes : List ℕ) (old mid : State) (op : Operator) (placed : Placed) → old.reader ≡ reader_of features 0 bytes →
+abbrev pub PlaceAfter : Type 0
+PlaceAfter = (old new : Reader) (text : List ℕ) → Takes old new text → (offset_of new ≡ offset_of old + length text) × (new.features ≡ old.features)
+
+pub first_then : PlaceAfter → (features : WasmFeatures) (bytes : List ℕ) (old mid : State) (op : Operator) (placed : Placed) → old.reader ≡ reader_of features 0 bytes →
     TakesOperator EncodesAllowed op old mid → EncodesRest (op ∷ []) (source_of mid.reader) placed →
     EncodesExpression (input features bytes) ((op, 0) ∷ placed)
-first_then features bytes old mid op placed fresh taken (laid, walk) =
+first_then place_of features bytes old mid op placed fresh taken (laid, walk) =
     let takes : Takes (reader_of features 0 bytes) mid.reader taken.text = subst (λ r. Takes r mid.reader taken.text) fresh taken.takes in
     let encodes : EncodesOperator features taken.text op = subst (λ (r : Reader). EncodesOperator r.features taken.text op) fresh taken.encodes.0 in
-    let same : mid.reader.features ≡ features = ap (λ (r : Reader). r.features) takes.moved in
-    let place : offset_of mid.reader ≡ 0 + length taken.text = ap offset_of takes.moved ∙ omega arith in
-    let there = subst (λ o. LaidOut features o (rest mid.reader) placed) place (subst (λ f. LaidOut f (offset_of mid.reader) (rest mid.reader) placed) same laid) in
+    let place = place_of (reader_of features 0 bytes) mid.reader taken.text takes in
+    let there = subst (λ o. LaidOut features o (rest mid.reader) placed) place.0 (subst (λ f. LaidOut f (offset_of mid.reader) (rest mid.reader) placed) place.1 laid) in
     ((refl, taken.text, rest mid.reader, takes.parts, encodes, there), walk)
 
 pub fault_of : (decoder : Decoder) (e : Error) (old new : State) (frame : FrameKind) → innermost old.frames ≡ Some frame → e.message ≢ message.OutOfMemory →

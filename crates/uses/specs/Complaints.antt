@@ -1,14 +1,10 @@
 -- Specification: Binary Format, Control Instructions. Proposal legacy exception handling.
-use Rattle.std.specs.Prelude.{◌≡◌, Option, Some, None}
+use Rattle.std.specs.Prelude.{Option, Some, None}
 use Rattle.wasm_operators.specs.below.declared.error.Error.{Error}
-use Rattle.wasm_operators.specs.grammar.declared.frame_kind.FrameKind.{FrameKind}
-use Rattle.wasm_operators.specs.grammar.Frames.{Allows, innermost}
 use Rattle.wasm_operators.specs.instr.declared.operator.Operator.{Operator}
 use Rattle.wasm_operators.specs.opcodes.Allowed.{EncodesAllowed}
 use Rattle.wasm_operators.specs.opcodes.declared.guard.Guard.{Guard}
-use Rattle.wasm_operators.specs.opcodes.Entry.{guarded_role}
-use Rattle.wasm_operators.specs.opcodes.OperatorFaults.{LacksFeature}
-use Rattle.wasm_operators.specs.Guarded.{BeginsGuarded}
+use Rattle.wasm_operators.specs.Guarded.{NextLacksFeature, NextIsMisplaced}
 use Rattle.wasm_operators.specs.Next.{StopsNext, all_operators}
 use Rattle.wasm_operators.specs.Reading.{State, TakesOperator}
 use Rattle.uses.specs.declared.single_steps.Complaint.{Complaint}
@@ -21,7 +17,6 @@ IsRefusal None old new = (op : Operator) × TakesOperator EncodesAllowed op old 
 
 -- `Feature`: the next operator's is disabled. `Frame`: the innermost forbids it. `Other`: no claim.
 abbrev pub IsComplaint : State → Complaint → Type 0
-IsComplaint s complaint.Feature = (g : Guard) × BeginsGuarded g s.reader × LacksFeature s.reader.features g
-IsComplaint s complaint.Frame =
-    (g : Guard) × (kind : FrameKind) × BeginsGuarded g s.reader × (innermost s.frames ≡ Some kind) × ¬ Allows kind (guarded_role g)
+IsComplaint s complaint.Feature = (g : Guard) × NextLacksFeature g s
+IsComplaint s complaint.Frame = (g : Guard) × NextIsMisplaced g s
 IsComplaint s complaint.Other = Unit {0}

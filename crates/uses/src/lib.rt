@@ -29,7 +29,7 @@ mod sections;
 mod single;
 mod single_steps;
 mod skipping;
-mod step_vectors;
+mod step_simd;
 mod tally;
 mod vectors;
 
@@ -67,10 +67,10 @@ pub use same::{
 pub use sections::read_indices;
 pub use single::{Inside, operator_inside};
 pub use single_steps::{
-    Complaint, asked_twice, first_and_rest, first_operator, is_whole, next_refusal,
+    Complaint, asked_twice, first_and_rest, first_operator, is_whole, next_complaint, next_refusal,
     operator_refusal, operator_size, read_in_step, scalar_refusal, why_refused,
 };
 pub use skipping::skip_operators;
-pub use step_vectors::{count_before_vectors, has_vectors};
+pub use step_simd::{count_before_simd, has_simd};
 pub use tally::{Tally, tally_list, tally_next, tally_next_scalar, tally_owned, tally_scalar};
 pub use vectors::{number_of, signed_number_of, vector_of, vector_of_signed};

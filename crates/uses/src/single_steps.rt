@@ -11,7 +11,7 @@ ghost use Rattle.wasm_operators.specs.opcodes.declared.guard.Guard.{Guard};
 ghost use Rattle.wasm_operators.specs.opcodes.OperatorFaults.{LacksFeature, OperatorFault};
 ghost use Rattle.wasm_operators.specs.opcodes.Refused.{LeadsList};
 ghost use Rattle.wasm_operators.specs.Expression.{Placed, EncodesExpression};
-ghost use Rattle.wasm_operators.specs.Guarded.{BeginsGuarded};
+ghost use Rattle.wasm_operators.specs.Guarded.{BeginsGuarded, NextLacksFeature, NextIsMisplaced};
 ghost use Rattle.wasm_operators.specs.Next.{ReadsNext};
 ghost use Rattle.wasm_operators.specs.Reading.{SameReaderAndFrames};
 ghost use Rattle.uses.specs.Complaints.{IsRefusal, IsComplaint};
@@ -21,7 +21,7 @@ use std::alloc::Global;
 use wasm_operators::{
     BinaryReader, Error, FrameStack, IsEndOperatorVisitor, Message, Operator, OperatorsReader,
     OperatorsReaderAllocations, Result, WasmFeatures, decoder_laws, decoding_laws, grammar_laws,
-    operator_laws, reading_laws, run_laws,
+    immediate_laws, operator_laws, reading_laws, run_laws,
 };
 
 #[derive(Clone, Copy, Debug, PartialEq, Eq)]
@@ -51,7 +51,7 @@ pub fn operator_refusal(operators: &mut OperatorsReader<'_>) -> Option<Error>
 }
 
 /// Returns the error of the next operator in an expression for visitors without SIMD operators. Only
-/// at the byte 0xfd, it differs from the error of `read` (law `vector_refusals`).
+/// at the byte 0xfd, it differs from the error of `read` (law `simd_refusals`).
 pub fn scalar_refusal(operators: &mut OperatorsReader<'_>) -> Option<Error>
     ensures there { BeginsWith 0xfd (rest operators.old.reader)
         → IfSome result (λ e. e.message ≢ Message.OutOfMemory → e.message ≡ Message.UnexpectedSimd) }
@@ -62,17 +62,41 @@ pub fn scalar_refusal(operators: &mut OperatorsReader<'_>) -> Option<Error>
     let Some(frame) = operators.current_frame() else {
         return None;
     };
-    decoding_laws::vector_refusals(operators.get_binary_reader().features(), frame);
+    decoding_laws::simd_refusals(operators.get_binary_reader().features(), frame);
     match operators.visit_operator(&mut IsEndOperatorVisitor) {
         Ok(_) => None,
         Err(error) => Some(error),
     }
 }
 
-/// Returns why reading the next operator fails; `None` if it succeeds, no frame is open, or
-/// allocation fails.
+/// Returns why reading the next operator fails; `None` if it succeeds or allocation fails.
 ///
-/// The laws `features_required`, `wrong_frames` and `operator_refusals` determine the error.
+/// The laws `reads_lacking_feature` and `reads_in_wrong_frame` say when the first two complaints
+/// are returned, and that such an operator is never read.
+pub fn next_complaint(operators: &mut OperatorsReader<'_>) -> Option<Complaint>
+    ensures why { IfSome result (λ why. IsComplaint operators.old why) }
+    ensures feature { (g : Guard) → NextLacksFeature g operators.old → IfSome result (λ why. why ≡ Complaint.Feature) }
+    ensures frame { (g : Guard) → NextIsMisplaced g operators.old → IfSome result (λ why. why ≡ Complaint.Frame) }
+    ensures none { IfNone result ((refusal : Option Error) × IsRefusal refusal operators.old operators.new
+        × IfSome refusal (λ e. e.message ≡ Message.OutOfMemory)) }
+    ensures memory { IfNone result ((g : Guard) → NextLacksFeature g operators.old ⊎ NextIsMisplaced g operators.old
+        → (e : Error) × IsRefusal (Some e) operators.old operators.new × (e.message ≡ Message.OutOfMemory)) }
+{
+    decoding_laws::reads_lacking_feature();
+    decoding_laws::reads_in_wrong_frame();
+    let Some(error) = next_refusal(operators) else {
+        return None;
+    };
+    match error.message() {
+        Message::OutOfMemory => None,
+        Message::FeatureRequired(_) => Some(Complaint::Feature),
+        Message::WrongFrame(_, _) => Some(Complaint::Frame),
+        _ => Some(Complaint::Other),
+    }
+}
+
+/// Returns like `next_complaint`, but `None` if no frame is open. The laws about one operator in a
+/// frame, `features_required`, `wrong_frames` and `operator_refusals`, determine the error.
 pub fn why_refused(operators: &mut OperatorsReader<'_>) -> Option<Complaint>
     ensures why { IfSome result (λ why. IsComplaint operators.old why) }
     ensures feature { (g : Guard) → BeginsGuarded g operators.old.reader → LacksFeature operators.old.reader.features g
@@ -182,7 +206,8 @@ pub fn is_whole(operators: &OperatorsReader<'_>) -> bool
 /// expression, only allocation can fail.
 ///
 /// By the laws `one_operator` and `single_reads`, all operators are one list, to which
-/// `read_to_the_end` applies. By `rules_accept_walks`, the frame of an expression allows the first.
+/// `read_to_the_end` applies. By `place_after`, they follow each other, and by
+/// `rules_accept_walks`, the frame of an expression allows the first.
 pub fn first_and_rest<'a>(
     alloc: Global,
     features: WasmFeatures,
@@ -193,6 +218,7 @@ pub fn first_and_rest<'a>(
         → IfErr result (λ e. e.message ≡ Message.OutOfMemory) }
 {
     grammar_laws::rules_accept_walks::<Operator<'_>>();
+    immediate_laws::place_after();
     run_laws::one_operator();
     run_laws::single_reads();
     run_laws::read_to_the_end();

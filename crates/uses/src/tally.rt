@@ -1,5 +1,5 @@
 ghost use Rattle.std.specs.Prelude.{◌≡◌, ◌+◌, ◌-◌, ◌^◌, ◌<◌, length, IfOk};
-ghost use Rattle.wasm_operators.specs.instr.Kinds.{IsVector};
+ghost use Rattle.wasm_operators.specs.instr.Kinds.{IsSimd};
 ghost use Rattle.uses.specs.Tallies.{CountsOne, TakesOne};
 
 use std::alloc::Global;
@@ -69,8 +69,8 @@ pub fn tally_owned(tally: &mut Tally, op: Operator<'_>)
 }
 
 pub fn tally_scalar(tally: &mut Tally, op: Operator<'_>)
-    ensures vector { IsVector op.entry → tally.new ≡ tally.old }
-    ensures scalar { ¬ IsVector op.entry → CountsOne tally.old.operators tally.new.operators }
+    ensures simd { IsSimd op.entry → tally.new ≡ tally.old }
+    ensures scalar { ¬ IsSimd op.entry → CountsOne tally.old.operators tally.new.operators }
 {
     if op.is_simd() {
         return;

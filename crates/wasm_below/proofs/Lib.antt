@@ -9,6 +9,7 @@ pub mod Blocks
 pub mod DeterminedRefusals
 pub mod Faults
 pub mod Groups
+pub mod MessageTexts
 pub mod Numbers
 pub mod NumbersAt
 pub mod Parts

@@ -44,6 +44,7 @@ RefusesGroups refusal.EndOfData width buffer start = AllGoOn (drop start buffer)
 RefusesGroups refusal.TooLong width buffer start = (text after : List ℕ) × (c : ℕ) × AllGoOn text × (128 ≤ c) × (length text ≡ (width - 1) / 7) × (drop start buffer ≡ text ++ c ∷ after)
 RefusesGroups refusal.TooLarge width buffer start = ⊥
 
+-- The bytes from `start` to `after` encode the number.
 abbrev pub NumberAt : {X : Type 0} → (List ℕ → X → Type 0) → List ℕ → ℕ → X → ℕ → Type 0
 NumberAt Encodes buffer start x after = (text : List ℕ) × Encodes text x × OccursAt buffer start after text
 

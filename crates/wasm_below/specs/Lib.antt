@@ -8,6 +8,7 @@ pub mod Features
 pub mod FromReader
 pub mod Items
 pub mod Leb128
+pub mod MessageText
 pub mod Number
 pub mod PartFaults
 pub mod Refusal

@@ -10,8 +10,8 @@ pub record Reference : Type 0 where
 abbrev pub max_type_index : ℕ
 max_type_index = 1048575
 
--- A type index in this heap type is at most 1048575.
-abbrev pub IsIndexed : HeapType → Type 0
-IsIndexed (heap.Abstract shared ty) = Unit {0}
-IsIndexed (heap.Concrete index) = index ≤ max_type_index
-IsIndexed (heap.Exact index) = index ≤ max_type_index
+-- A reference type can have this heap type: a type index is at most 1048575.
+abbrev pub FitsRefType : HeapType → Type 0
+FitsRefType (heap.Abstract shared ty) = Unit {0}
+FitsRefType (heap.Concrete index) = index ≤ max_type_index
+FitsRefType (heap.Exact index) = index ≤ max_type_index

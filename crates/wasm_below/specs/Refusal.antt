@@ -1,15 +1,7 @@
 -- docs/ERRORS-AND-FEATURES.md has the table of refusals.
-use Rattle.std.specs.Prelude.{ℕ, List, codes, ◌≡◌}
+use Rattle.std.specs.Prelude.{ℕ, ◌≡◌}
 use Rattle.wasm_below.specs.declared.message.NumberName.{NumberName}
-use Rattle.wasm_below.specs.declared.message.NumberName.TheVariants as number_name
 use Rattle.wasm_below.specs.declared.message.SizeName.{SizeName}
-use Rattle.wasm_below.specs.declared.message.SizeName.TheVariants as size_name
-use Rattle.wasm_below.specs.declared.message.InstructionName.{InstructionName}
-use Rattle.wasm_below.specs.declared.message.InstructionName.TheVariants as instruction_name
-use Rattle.wasm_below.specs.declared.message.LeadingByteName.{LeadingByteName}
-use Rattle.wasm_below.specs.declared.message.LeadingByteName.TheVariants as leading_name
-use Rattle.wasm_below.specs.declared.message.TypeName.{TypeName}
-use Rattle.wasm_below.specs.declared.message.TypeName.TheVariants as type_name
 use Rattle.wasm_below.specs.declared.message.Message.{Message}
 use Rattle.wasm_below.specs.declared.message.Message.TheVariants as message
 use Rattle.wasm_below.specs.declared.error.ErrorKind.{ErrorKind}
@@ -59,36 +51,6 @@ IsReadFault message.UnexpectedData = ⊥
 IsReadFault message.TooManyLocals = ⊥
 IsReadFault message.DataAfterSection = ⊥
 IsReadFault _ = Unit {0}
-
--- The text of a name in messages.
-abbrev pub number_name_text : NumberName → List ℕ
-number_name_text number_name.VarU32 = codes "var_u32"
-number_name_text number_name.VarU64 = codes "var_u64"
-number_name_text number_name.VarI32 = codes "var_i32"
-number_name_text number_name.VarS33 = codes "var_s33"
-number_name_text number_name.VarI64 = codes "var_i64"
-
-abbrev pub size_name_text : SizeName → List ℕ
-size_name_text size_name.BrTable = codes "br_table"
-size_name_text size_name.SelectTypes = codes "select types"
-size_name_text size_name.Catches = codes "catches"
-size_name_text size_name.ResumeTable = codes "resume table"
-
-abbrev pub instruction_name_text : InstructionName → List ℕ
-instruction_name_text instruction_name.Else = codes "else"
-instruction_name_text instruction_name.Try = codes "try"
-instruction_name_text instruction_name.Catch = codes "catch"
-instruction_name_text instruction_name.CatchAll = codes "catch_all"
-instruction_name_text instruction_name.Delegate = codes "delegate"
-
-abbrev pub leading_byte_name_text : LeadingByteName → List ℕ
-leading_byte_name_text leading_name.Catch = codes "catch"
-leading_byte_name_text leading_name.OnClause = codes "on clause"
-
-abbrev pub type_name_text : TypeName → List ℕ
-type_name_text type_name.ValueType = codes "value type"
-type_name_text type_name.ReferenceType = codes "reference type"
-type_name_text type_name.HeapType = codes "heap type"
 
 -- If the message is about an invalid number, it names this kind.
 abbrev pub NamesNumber : NumberName → Message → Type 0

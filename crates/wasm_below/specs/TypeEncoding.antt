@@ -16,6 +16,7 @@ use Rattle.wasm_below.specs.Number.{EncodesUnsigned, EncodesSigned}
 use Rattle.wasm_below.specs.Source.{Reader, rest, offset_of, end_of, at_position, BeginsWith, U32Fault, S33Fault}
 use Rattle.wasm_below.specs.Fault.{ThenFault}
 
+-- The byte that encodes the type if it is not shared.
 abbrev pub heap_type_byte : AbstractHeapType → ℕ
 heap_type_byte ty.NoCont = 0x75
 heap_type_byte ty.NoExn = 0x74

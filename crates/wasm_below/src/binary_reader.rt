@@ -106,6 +106,13 @@ impl<'a> BinaryReader<'a> {
         self.position
     }
 
+    /// Law: the next byte's offset is at most that of the end of the data.
+    pub fn is_within(&self)
+        ensures { offset_of self.now ≤ end_of self.now }
+    {
+        let _ = &self.buffer;
+    }
+
     #[inline(always)]
     pub fn eof(&self) -> bool
         ensures { IsTrue result ↔ (rest self.now ≡ []) }

@@ -1,4 +1,5 @@
-ghost use Rattle.std.specs.Prelude.{◌≡◌};
+ghost use Rattle.std.specs.Prelude.{◌≡◌, Some};
+ghost use Rattle.wasm_below.specs.MessageText.{error_text};
 ghost use Rattle.wasm_below.specs.Refusal.{kind_of};
 
 use crate::message::Message;
@@ -59,6 +60,8 @@ impl Error {
 }
 
 impl fmt::Display for Error {
+    ghost output = { λ e. Some (error_text e) };
+
     fn fmt<W: fmt::Write>(&self, f: &mut fmt::Formatter<W>) -> fmt::Result {
         let Error { message, offset } = *self;
         write!(f, "{message} (at offset 0x{offset:x})")

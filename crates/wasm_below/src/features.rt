@@ -53,7 +53,7 @@ impl WasmFeatures {
         WasmFeatures(63)
     }
 
-    pub fn none() -> WasmFeatures
+    pub fn empty() -> WasmFeatures
         ensures { result ≡ features_of 0 }
     {
         WasmFeatures(0)

@@ -15,7 +15,6 @@ mod from_reader;
 mod long_numbers;
 mod memory_use;
 mod message;
-mod number_calls;
 mod packed_reads;
 pub mod type_laws;
 mod type_readers;

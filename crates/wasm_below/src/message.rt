@@ -1,5 +1,6 @@
-ghost use Rattle.std.specs.Prelude.{◌≡◌};
-ghost use Rattle.wasm_below.specs.Refusal.{number_of, number_name_text, size_name_text, instruction_name_text, leading_byte_name_text, type_name_text};
+ghost use Rattle.std.specs.Prelude.{◌≡◌, Some};
+ghost use Rattle.wasm_below.specs.MessageText.{frame_name_text, number_name_text, size_name_text, instruction_name_text, leading_byte_name_text, type_name_text, message_text};
+ghost use Rattle.wasm_below.specs.Refusal.{number_of};
 
 use std::fmt;
 
@@ -10,6 +11,8 @@ pub enum FrameName {
 }
 
 impl fmt::Display for FrameName {
+    ghost output = { λ name. Some (frame_name_text name) };
+
     fn fmt<W: fmt::Write>(&self, f: &mut fmt::Formatter<W>) -> fmt::Result {
         match self {
             FrameName::If => f.write_str("If"),
@@ -42,6 +45,8 @@ impl NumberName {
 }
 
 impl fmt::Display for NumberName {
+    ghost output = { λ name. Some (number_name_text name) };
+
     fn fmt<W: fmt::Write>(&self, f: &mut fmt::Formatter<W>) -> fmt::Result {
         f.write_str(self.text())
     }
@@ -70,6 +75,8 @@ impl SizeName {
 }
 
 impl fmt::Display for SizeName {
+    ghost output = { λ name. Some (size_name_text name) };
+
     fn fmt<W: fmt::Write>(&self, f: &mut fmt::Formatter<W>) -> fmt::Result {
         f.write_str(self.text())
     }
@@ -100,6 +107,8 @@ impl InstructionName {
 }
 
 impl fmt::Display for InstructionName {
+    ghost output = { λ name. Some (instruction_name_text name) };
+
     fn fmt<W: fmt::Write>(&self, f: &mut fmt::Formatter<W>) -> fmt::Result {
         f.write_str(self.text())
     }
@@ -124,6 +133,8 @@ impl LeadingByteName {
 }
 
 impl fmt::Display for LeadingByteName {
+    ghost output = { λ name. Some (leading_byte_name_text name) };
+
     fn fmt<W: fmt::Write>(&self, f: &mut fmt::Formatter<W>) -> fmt::Result {
         f.write_str(self.text())
     }
@@ -149,6 +160,8 @@ impl TypeName {
 }
 
 impl fmt::Display for TypeName {
+    ghost output = { λ name. Some (type_name_text name) };
+
     fn fmt<W: fmt::Write>(&self, f: &mut fmt::Formatter<W>) -> fmt::Result {
         f.write_str(self.text())
     }
@@ -236,6 +249,8 @@ impl Message {
 }
 
 impl fmt::Display for Message {
+    ghost output = { λ message. Some (message_text message) };
+
     fn fmt<W: fmt::Write>(&self, f: &mut fmt::Formatter<W>) -> fmt::Result {
         match *self {
             Message::EndOfData => f.write_str("unexpected end-of-file"),

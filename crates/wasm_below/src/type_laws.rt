@@ -1,10 +1,12 @@
-//! Laws of types: encodings are prefix codes, faults determine errors, and `==` is exact. For
-//! heap types, `FromReader::is_prefix_code` states the first.
+//! Laws of types: encodings are prefix codes, faults determine errors, `==` is exact, and reading
+//! does not allocate. For heap types, `FromReader::is_prefix_code` states the first.
+ghost use Rattle.std.specs.Prelude.{◌≡◌, false};
 ghost use Rattle.wasm_below.specs.Sequence.{PrefixCode};
 ghost use Rattle.wasm_below.specs.Equality.{IsExact};
 ghost use Rattle.wasm_below.specs.TypeEncoding.{EncodesRefType, EncodesValType, HeapTypeFault, RefTypeFault, ValTypeFault};
 ghost use Rattle.wasm_below.specs.Fault.{DeterminesRefusal};
 
+use crate::memory_use::TakesMemory;
 use crate::types::{HeapType, RefType, ValType};
 
 pub fn reference_types()
@@ -25,4 +27,12 @@ pub fn equality()
     ensures heap { IsExact ⟦<HeapType as PartialEq>⟧.eq }
     ensures reference { IsExact ⟦<RefType as PartialEq>⟧.eq }
     ensures value { IsExact ⟦<ValType as PartialEq>⟧.eq }
+{}
+
+/// `TAKES_MEMORY` of each type that this crate reads.
+pub fn memory_use()
+    ensures number { ⟦<u32 as TakesMemory>⟧.TAKES_MEMORY ≡ false }
+    ensures heap { ⟦<HeapType as TakesMemory>⟧.TAKES_MEMORY ≡ false }
+    ensures reference { ⟦<RefType as TakesMemory>⟧.TAKES_MEMORY ≡ false }
+    ensures value { ⟦<ValType as TakesMemory>⟧.TAKES_MEMORY ≡ false }
 {}

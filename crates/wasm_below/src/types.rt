@@ -1,5 +1,5 @@
 ghost use Rattle.std.specs.Prelude.{◌≡◌, IsTrue, ◌↔◌, IsSome, IfSome};
-ghost use Rattle.wasm_below.specs.Reference.{IsIndexed};
+ghost use Rattle.wasm_below.specs.Reference.{FitsRefType};
 
 use std::fmt::{self, Debug, Formatter};
 use std::marker::Model;
@@ -61,14 +61,14 @@ pub struct RefType {
 }
 
 impl Model for RefType {
-    ghost use Rattle.wasm_below.specs.Reference.{Reference, IsIndexed};
+    ghost use Rattle.wasm_below.specs.Reference.{Reference, FitsRefType};
     ghost use Rattle.wasm_below.specs.ShortTypes.{heap_type_of, short_of, held_again};
 
     ghost Value = { Reference };
 
     ghost view = { λ r. record { nullable = r.nullable; heap_type = heap_type_of r.heap_type } };
 
-    ghost invariant = { λ r. IsIndexed (heap_type_of r.heap_type) };
+    ghost invariant = { λ r. FitsRefType (heap_type_of r.heap_type) };
 
     ghost inverse = { λ r. record { nullable = r.nullable; heap_type = short_of r.heap_type } };
 
@@ -87,10 +87,10 @@ impl Debug for RefType {
 impl RefType {
     /// Returns `None` if a type index is above 1048575.
     pub fn new(nullable: bool, heap_type: HeapType) -> Option<RefType>
-        ensures some { IsSome result ↔ IsIndexed heap_type }
+        ensures some { IsSome result ↔ FitsRefType heap_type }
         ensures value { IfSome result (λ r. (r.nullable ≡ nullable) × (r.heap_type ≡ heap_type)) }
     {
-        if is_indexed(heap_type) {
+        if fits_ref_type(heap_type) {
             Some(RefType::of(nullable, heap_type))
         } else {
             None
@@ -99,7 +99,7 @@ impl RefType {
 
     #[inline(always)]
     fn of(nullable: bool, heap_type: HeapType) -> RefType
-        requires { IsIndexed heap_type }
+        requires { FitsRefType heap_type }
         ensures nullable { result.nullable ≡ nullable }
         ensures referred { result.heap_type ≡ heap_type }
     {
@@ -117,14 +117,14 @@ impl RefType {
 
     pub fn heap_type(&self) -> HeapType
         ensures value { result ≡ self.now.heap_type }
-        ensures indexed { IsIndexed result }
+        ensures fits { FitsRefType result }
     {
         self.heap_type.heap_type()
     }
 }
 
-fn is_indexed(heap_type: HeapType) -> bool
-    ensures { IsTrue result ↔ IsIndexed heap_type }
+fn fits_ref_type(heap_type: HeapType) -> bool
+    ensures { IsTrue result ↔ FitsRefType heap_type }
 {
     match heap_type {
         HeapType::Abstract { .. } => true,

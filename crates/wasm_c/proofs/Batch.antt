@@ -9,7 +9,9 @@ use Rattle.wasm_view.specs.View.{views}
 use Rattle.wasm_view.specs.declared.view.WasmOperator.{WasmOperator}
 use Rattle.wasm_c.specs.declared.reader.WasmReader.{WasmReader}
 use Rattle.wasm_c.specs.declared.refusal.WasmRefusal.{WasmRefusal}
-use Rattle.wasm_c.specs.Steps.{IsReader, reader_at, reader_moved, state_at, TakesPlain, ReadsPlain, ReadsEach, EndsBatch, ReadsBatch}
+use Rattle.wasm_c.specs.Steps.{IsReader, reader_at, reader_moved, state_at, TakesPlain, ReadsPlain, ReadsEach, EndsBatch, MostOpenPast, ReadsBatch}
+use Rattle.wasm_c.proofs.Past.{past_on}
+use Rattle.wasm_c.proofs.Steps.{kinds_length}
 use Rattle.wasm_c.proofs.Written.{one_more}
 
 -- One more operator.
@@ -24,25 +26,30 @@ reads_one old now next (p ∷ ps) op offset (between, first, place, others) take
 abbrev pub Batch : List ℕ → WasmReader → WasmReader → List ℕ → List ℕ → ℕ → List WasmOperator → List WasmOperator → Type 0
 Batch bytes old now frames_old frames_now count out_old out = (placed : Placed) × ReadsEach (state_at bytes old frames_old) placed (state_at bytes now frames_now) ×
     (count ≡ length placed) × (length placed ≤ length out_old) × (out ≡ views placed ++ drop (length placed) out_old) ×
-    (length frames_now ≡ length frames_old) × (placed ≡ [] → (now ≡ old) × (frames_now ≡ frames_old)) × (now ≡ reader_moved old now.position now.depth)
+    (length frames_now ≡ length frames_old) × MostOpenPast (state_at bytes old frames_old) placed frames_old frames_now × (placed ≡ [] → (now ≡ old) × (frames_now ≡ frames_old)) × (now ≡ reader_moved old now.position now.depth)
 
 pub batch_first : (bytes : List ℕ) (old : WasmReader) (frames : List ℕ) (out : List WasmOperator) → Batch bytes old old frames frames 0 out out
-batch_first bytes old frames out = ([], refl, refl, omega arith, refl, refl, λ none. (refl, refl), refl)
+batch_first bytes old frames out = ([], refl, refl, omega arith, refl, refl, refl, λ none. (refl, refl), refl)
 
 pub batch_on : (bytes : List ℕ) (old now next : WasmReader) (frames_old frames_now frames_next : List ℕ) (count : ℕ) (out_old out : List WasmOperator)
     (view : WasmOperator) → Batch bytes old now frames_old frames_now count out_old out → TakesPlain bytes now next frames_now frames_next view →
     count < length out → length out ≡ length out_old → Batch bytes old next frames_old frames_next (count + 1) out_old (set out count view)
-batch_on bytes old now next frames_old frames_now frames_next count out_old out view (placed, reads, counted, fits, is, room, unchanged, moved) taken within same =
+batch_on bytes old now next frames_old frames_now frames_next count out_old out view (placed, reads, counted, fits, is, room, past, unchanged, moved) taken within same =
     let p : Operator × ℕ = (taken.op, offset_of (reader_at bytes now)) in
+    let first = state_at bytes old frames_old in
+    let new = state_at bytes next frames_next in
+    let all = reads_one first (state_at bytes now frames_now) new placed taken.op (offset_of (reader_at bytes now)) reads taken.takes refl in
+    let open_frames : length new.frames ≡ next.depth = kinds_length frames_next next.depth taken.still.depth in
     let few : length placed < length out_old = omega (arith, within, same, counted) in
     let n = length-append placed (p ∷ []) in (
       placed ++ p ∷ [],
-      reads_one (state_at bytes old frames_old) (state_at bytes now frames_now) (state_at bytes next frames_next) placed taken.op
-          (offset_of (reader_at bytes now)) reads taken.takes refl,
+      all,
       omega (arith, counted, n),
       omega (arith, few, n),
       one_more placed p out_old out count view is counted few taken.view_is,
       taken.same_room ∙ room,
+      past_on first new placed p frames_old frames_now frames_next all past
+          (subst (λ n. drop n frames_next ≡ drop n frames_now) (sym open_frames) taken.past),
       λ none. absurd (omega (arith, n, ap length none)),
       taken.moved ∙ ap (λ (r : WasmReader). reader_moved r next.position next.depth) moved,
     )
@@ -58,10 +65,11 @@ batch_ends r bytes old now frames_old frames_now count out_old out b was still e
   fits = b.3;
   in_array = b.4;
   same_room = b.5;
+  past = b.6;
   misused = λ none. absurd (none was);
-  unchanged = b.6;
+  unchanged = b.7;
   still = λ first. still;
-  moved = b.7;
+  moved = b.8;
   ends = ends;
 }
 

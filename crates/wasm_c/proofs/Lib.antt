@@ -8,6 +8,7 @@ pub mod Digits
 pub mod Reported
 pub mod Stepped
 pub mod Steps
+pub mod Past
 pub mod Batch
 pub mod Named
 pub mod Members

@@ -14,7 +14,7 @@ use Rattle.wasm_operators.specs.opcodes.Allowed.{EncodesAllowed}
 use Rattle.wasm_operators.specs.opcodes.Decoding.{DecodesOperator}
 use Rattle.wasm_operators.specs.opcodes.OperatorFaults.{OperatorFault}
 use Rattle.wasm_c.specs.OperatorTexts.{frame_for, PlacesText, RefusesTextName, FindsText, ReturnsTextAt}
-use Rattle.wasm_c.specs.Members.{bytes_at, OccursThere, RefusesThere, ReturnsThere, Unchanged, AtOffset, ReadsAt, ReportsMembers, FindsMembers, ReturnsList}
+use Rattle.wasm_c.specs.Members.{reader_from, OccursThere, RefusesThere, ReturnsThere, Unchanged, AtOffset, ReadsAt, ReportsMembers, FindsMembers, ReturnsList}
 
 abbrev refusal_in : {X : Type 0} → WasmRefusal → Result X WasmRefusal → WasmRefusal
 refusal_in other (Ok x) = other
@@ -60,7 +60,7 @@ at_offset Misuse Refuses There Occurs bytes offset features at refused occurs h 
   past = λ known long. refused 101 offset (h.past known long);
   before = λ known within low. refused 104 at (h.before known within low);
   after = λ known within high. refused 104 at (h.after known within high);
-  there = λ known within low high. occurs (bytes_at bytes offset features at) (h.there known within low high);
+  there = λ known within low high. occurs (reader_from bytes offset features at) (h.there known within low high);
 }
 
 -- The operator that was read from the bytes at the offset.

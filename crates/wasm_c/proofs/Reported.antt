@@ -19,7 +19,8 @@ use Rattle.wasm_operators.specs.below.declared.message.TypeName.TheVariants as t
 use Rattle.wasm_operators.specs.below.Refusal.{number_of}
 use Rattle.wasm_c.specs.declared.refusal.WasmRefusal.{WasmRefusal}
 use Rattle.wasm_c.specs.Refused.{refusal_of, reported_name, reported_value, instruction_number, frame_number, number_name_number, size_number, leading_number, type_number}
-use Rattle.wasm_c.specs.Texts.{instruction_numbered, frames_numbered, integer_numbered, size_numbered, leading_numbered, type_numbered, message_numbered, message_text, text_of_refusal}
+use Rattle.wasm_operators.specs.below.MessageText.{message_text}
+use Rattle.wasm_c.specs.Texts.{instruction_numbered, frames_numbered, integer_numbered, size_numbered, leading_numbered, type_numbered, message_numbered, text_of_refusal}
 
 instruction_again : (name : InstructionName) → instruction_numbered (instruction_number name) ≡ Some name
 instruction_again instruction_name.Else = refl

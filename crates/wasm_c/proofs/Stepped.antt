@@ -1,29 +1,15 @@
 -- Open frames in an array, the innermost last.
 use Rattle.std.proofs.Common.{◌≡◌, ℕ, ◌≤◌, ◌<◌, ◌+◌, ◌-◌, List, [], ◌∷◌, ◌++◌, length, set, get_or, take, zero, suc, Some, refl, sym, ap, ◌∙◌, arith}
 use Rattle.wasm_operators.specs.grammar.declared.frame_kind.FrameKind.{FrameKind}
-use Rattle.wasm_operators.specs.grammar.Frames.{innermost, innermost_in, without_innermost, without_innermost_in}
+use Rattle.wasm_operators.specs.grammar.Frames.{innermost, without_innermost, without_innermost_in}
+use Rattle.wasm_grammar.proofs.Innermost.{innermost-push, without_innermost-push, whole_again}
 use Rattle.wasm_c.specs.Frames.{kind_of, kinds}
-
-innermost_after : (first : FrameKind) (frames : List FrameKind) (kind : FrameKind) → innermost_in first (frames ++ kind ∷ []) ≡ kind
-innermost_after first [] kind = refl
-innermost_after first (f ∷ frames) kind = innermost_after f frames kind
-
--- The innermost frame is the last.
-pub innermost_last : (outer : List FrameKind) (kind : FrameKind) → innermost (outer ++ kind ∷ []) ≡ Some kind
-innermost_last [] kind = refl
-innermost_last (o ∷ outer) kind = ap Some (innermost_after o outer kind)
-
-outer_of : (first : FrameKind) (frames : List FrameKind) → (outer : List FrameKind) × (first ∷ frames ≡ outer ++ innermost_in first frames ∷ [])
-outer_of first [] = ([], refl)
-outer_of first (f ∷ frames) =
-    let rest = outer_of f frames in
-    (first ∷ rest.0, ap (λ list. first ∷ list) rest.1)
 
 last_innermost : (frames : List FrameKind) (kind : FrameKind) → innermost frames ≡ Some kind → (outer : List FrameKind) × (frames ≡ outer ++ kind ∷ [])
 last_innermost [] kind is = absurd (cc is)
 last_innermost (f ∷ frames) kind is =
-    let rest = outer_of f frames in
-    (rest.0, rest.1 ∙ ap (λ k. rest.0 ++ k ∷ []) (cc is))
+    let outer = without_innermost_in f frames in
+    (outer, sym (whole_again f frames) ∙ ap (λ k. outer ++ k ∷ []) (cc is))
 
 pub take_one : (list : List ℕ) (n : ℕ) → n < length list → (x : ℕ) × (take (suc n) list ≡ take n list ++ x ∷ [])
 take_one [] n within = absurd (omega (arith, within))
@@ -91,15 +77,7 @@ innermost_taken list (suc n) some within =
     let less : suc n - 1 ≡ n = omega arith in
     ap (λ m. Some (kind_of (get_or list m 0))) less ∙
     sym (ap (λ items. innermost (kinds items)) (next_taken list n (omega (arith, within))) ∙
-    ap innermost (kinds_join (take n list) (get_or list n 0 ∷ [])) ∙ innermost_last (kinds (take n list)) (kind_of (get_or list n 0)))
-
-without_after : (first : FrameKind) (frames : List FrameKind) (kind : FrameKind) → without_innermost_in first (frames ++ kind ∷ []) ≡ first ∷ frames
-without_after first [] kind = refl
-without_after first (f ∷ frames) kind = ap (λ list. first ∷ list) (without_after f frames kind)
-
-without_last : (outer : List FrameKind) (kind : FrameKind) → without_innermost (outer ++ kind ∷ []) ≡ outer
-without_last [] kind = refl
-without_last (o ∷ outer) kind = without_after o outer kind
+    ap innermost (kinds_join (take n list) (get_or list n 0 ∷ [])) ∙ innermost-push (kinds (take n list)) (kind_of (get_or list n 0)))
 
 -- The array after a change of its frames.
 pub opened_in : (list : List ℕ) (kind : FrameKind) (depth byte : ℕ) → depth < length list → kind_of byte ≡ kind →
@@ -113,7 +91,7 @@ pub closed_in : (list : List ℕ) (depth : ℕ) → 0 < depth → depth ≤ leng
 closed_in list depth some within =
     let kind : FrameKind = kind_of (get_or list (depth - 1) 0) in
     let last = last_innermost (kinds (take depth list)) kind (sym (innermost_taken list depth some within)) in
-    outer_kinds list last.0 kind depth some within last.1 ∙ sym (ap without_innermost last.1 ∙ without_last last.0 kind)
+    outer_kinds list last.0 kind depth some within last.1 ∙ sym (ap without_innermost last.1 ∙ without_innermost-push last.0 kind)
 
 pub turned_in : (list : List ℕ) (kind : FrameKind) (depth byte : ℕ) → 0 < depth → depth ≤ length list → kind_of byte ≡ kind →
     kinds (take depth (set list (depth - 1) byte)) ≡ without_innermost (kinds (take depth list)) ++ kind ∷ []
@@ -121,4 +99,4 @@ turned_in list kind depth byte some within same =
     let was : FrameKind = kind_of (get_or list (depth - 1) 0) in
     let last = last_innermost (kinds (take depth list)) was (sym (innermost_taken list depth some within)) in
     turned list last.0 was kind depth byte some within last.1 same ∙
-    ap (λ outer. outer ++ kind ∷ []) (sym (ap without_innermost last.1 ∙ without_last last.0 was))
+    ap (λ outer. outer ++ kind ∷ []) (sym (ap without_innermost last.1 ∙ without_innermost-push last.0 was))

@@ -1,7 +1,6 @@
 -- One operator that is read with the frames in an array, as by an `OperatorsReader`.
-use Rattle.std.proofs.Common.{◌≡◌, ℕ, ◌+◌, ◌<◌, ◌≤◌, List, [], ◌∷◌, ◌++◌, length, length-append, length-drop, take, zero, suc, Some, Ok, Err, refl, sym, ap, subst, ◌∙◌, arith, inl, inr, ◌⊎◌}
+use Rattle.std.proofs.Common.{◌≡◌, ℕ, ◌+◌, ◌<◌, ◌≤◌, List, [], ◌∷◌, length, length-append, length-drop, drop, take, zero, suc, Some, Ok, Err, refl, sym, ap, subst, ◌∙◌, arith, inl, inr}
 use Rattle.wasm_operators.specs.below.declared.error.Error.{Error}
-use Rattle.wasm_operators.specs.below.declared.message.Message.{Message}
 use Rattle.wasm_operators.specs.below.declared.message.Message.TheVariants as message
 use Rattle.wasm_operators.specs.below.Source.{Reader, rest, offset_of, at_position, Takes}
 use Rattle.wasm_operators.specs.grammar.declared.frame_kind.FrameKind.{FrameKind}
@@ -16,6 +15,7 @@ use Rattle.wasm_operators.specs.opcodes.OperatorFaults.{OperatorFault}
 use Rattle.wasm_operators.specs.Openings.{opened_by}
 use Rattle.wasm_operators.specs.Next.{ListMayAllocate, all_operators_if}
 use Rattle.wasm_operators.specs.Reading.{State, TakesOperator, StopsRead, StopsFinish}
+use Rattle.wasm_operators.proofs.OneRead.{is_memory}
 use Rattle.wasm_c.specs.declared.reader.WasmReader.{WasmReader}
 use Rattle.wasm_c.specs.Frames.{kinds}
 use Rattle.wasm_view.specs.View.{view_of}
@@ -23,10 +23,6 @@ use Rattle.wasm_view.specs.declared.view.WasmOperator.{WasmOperator}
 use Rattle.wasm_c.specs.declared.refusal.WasmRefusal.{WasmRefusal}
 use Rattle.wasm_c.specs.Refused.{refusal_of, refusal_at, misuse}
 use Rattle.wasm_c.specs.Steps.{IsReader, reader_at, reader_moved, state_at, FindsNoRoom, TakesPlain, StopsPlain, FinishesPlain}
-
-is_memory : (m : Message) → (m ≡ message.OutOfMemory) ⊎ (m ≡ message.OutOfMemory → ⊥)
-is_memory message.OutOfMemory = inl refl
-is_memory _ = inr (λ e. cc e)
 
 -- An error inside the innermost frame stops a read.
 pub stops_inside : (e : Error) (s : State) (new : Reader) (kind : FrameKind) → innermost s.frames ≡ Some kind →
@@ -139,9 +135,9 @@ pub takes_plain : FramesFollow → (bytes : List ℕ) (old new : WasmReader) (fr
     innermost (kinds (take old.depth frames_old)) ≡ Some kind →
     kinds (take new.depth frames_new) ≡ frames_changed (kinds (take old.depth frames_old)) change →
     new.depth ≤ length frames_old → new.depth ≤ old.depth + opened change →
-    length frames_new ≡ length frames_old → new.position ≡ ahead.position → new.offset ≡ old.offset → new.features ≡ old.features →
-    new ≡ reader_moved old new.position new.depth → TakesPlain bytes old new frames_old frames_new view
-takes_plain follow bytes old new frames_old frames_new start ahead kind view change was same viewed some inside changed fits most room moved offset features
+    length frames_new ≡ length frames_old → drop new.depth frames_new ≡ drop new.depth frames_old → new.position ≡ ahead.position →
+    new.offset ≡ old.offset → new.features ≡ old.features → new ≡ reader_moved old new.position new.depth → TakesPlain bytes old new frames_old frames_new view
+takes_plain follow bytes old new frames_old frames_new start ahead kind view change was same viewed some inside changed fits most room past moved offset features
     pinned =
     let v = subst (λ r. Viewed r kind ahead view change) same viewed in
     let r = reader_at bytes old in
@@ -161,6 +157,7 @@ takes_plain follow bytes old new frames_old frames_new start ahead kind view cha
       };
       moved = pinned;
       same_room = room;
+      past = past;
     }
 
 -- If no frame is open, none is read.

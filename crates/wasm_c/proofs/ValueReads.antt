@@ -1,5 +1,5 @@
 -- Reads of values, and the results of the call that reads one.
-use Rattle.std.proofs.Common.{◌≡◌, ℕ, ◌+◌, ◌<◌, ◌≤◌, List, [], ◌∷◌, ◌++◌, length, length-append, length-drop, drop, true, Some, None, Ok, Err, refl, sym, ap, subst, ◌∙◌, arith}
+use Rattle.std.proofs.Common.{◌≡◌, ℕ, ◌+◌, ◌<◌, ◌≤◌, List, ◌++◌, length, length-append, length-drop, drop, Some, None, Ok, Err, refl, sym, ap, subst, ◌∙◌, arith}
 use Rattle.std.specs.Prelude.{slice_get}
 use Rattle.std.specs.Int.{w32, w64}
 use Rattle.std.proofs.lemmas.Option.{slice_get_past, slice_get-get_or}
@@ -8,7 +8,7 @@ use Rattle.wasm_operators.specs.below.declared.message.Message.{Message}
 use Rattle.wasm_operators.specs.below.declared.message.SizeName.TheVariants as size_name
 use Rattle.wasm_operators.specs.below.FromReader.{EncodesReader, ReaderFault}
 use Rattle.wasm_operators.specs.below.Number.{EncodesUnsigned, EncodesSigned, EncodesFixed, EncodesSize}
-use Rattle.wasm_operators.specs.below.Source.{Reader, HasRead, Reads, Takes, rest, offset_of, at_position, IsByte, IsBlock, EndFault, EndsWithin, CountFault, U32Fault, U64Fault, I32Fault, S33Fault, I64Fault}
+use Rattle.wasm_operators.specs.below.Source.{Reader, HasRead, Takes, rest, offset_of, at_position, IsByte, IsBlock, EndFault, EndsWithin, CountFault, U32Fault, U64Fault, I32Fault, S33Fault, I64Fault}
 use Rattle.wasm_operators.specs.below.TypeEncoding.{EncodesHeapType, EncodesRefType, EncodesValType, HeapTypeFault, RefTypeFault, ValTypeFault}
 use Rattle.wasm_operators.specs.imm.BlockTypeFaults.{BlockTypeFault}
 use Rattle.wasm_operators.specs.imm.BlockTypes.{EncodesBlockType}
@@ -25,13 +25,10 @@ use Rattle.wasm_c.specs.declared.value_kind.ValueKind.TheVariants as kind
 use Rattle.wasm_c.specs.Refused.{no_refusal, refusal_of, misuse}
 use Rattle.wasm_c.specs.Steps.{IsReader, reader_at, reader_moved}
 use Rattle.wasm_c.specs.Values.{ReadsAs, ReadsKind, ReturnsValue, number_value, signed_value, of_value_type, of_reference_type, of_heap_type, of_block_type, of_handler, value_kinds}
+use Rattle.wasm_below.proofs.Steps.{unsigned_some}
 use Rattle.wasm_c.proofs.Steps.{moved_to}
 
 -- ---- locals, and parts of known length
-
-some_bytes : (width : ℕ) (text : List ℕ) (n : ℕ) → EncodesUnsigned width text n → 0 < length text
-some_bytes width [] n none = absurd none
-some_bytes width (c ∷ text) n is = omega arith
 
 within_buffer : (old after : Reader) (text first more : List ℕ) → Takes old after text → text ≡ first ++ more → 0 < length first →
     after.position ≤ length old.buffer
@@ -44,7 +41,7 @@ within_buffer old after text first more takes split some =
 -- The reader after the locals of a body.
 pub past_locals : (old after : Reader) → ReadsPastLocals (Ok after) old → (after.position ≤ length old.buffer) × (at_position old after.position ≡ after)
 past_locals old after (declarations, (text, (first, more, count, split, number, many), takes)) =
-    (within_buffer old after text first more takes split (some_bytes 32 first count number), moved_to old after text takes)
+    (within_buffer old after text first more takes split (unsigned_some 32 first count number), moved_to old after text takes)
 
 -- A part with its length is a new reader.
 pub part_at_start : (old new part : Reader) → HasRead (EncodesReader old.features) part old new → part.position ≡ 0

@@ -119,7 +119,7 @@ whole_read laws opening end bytes offset features before opened last frames_befo
 after_locals : (r : WasmRefusal) (bytes : List ℕ) (offset features : ℕ) (old new : WasmReader) (frames_old frames_new : List ℕ) →
     OpensAfterLocals r bytes offset features old new frames_old frames_new → r.number ≡ 0 →
     OpensBody (Ok (state_at bytes new frames_new)) (reader_of (features_of features) offset bytes)
-after_locals r bytes offset features old new frames_old frames_new (inl (none, opens, was, room, fresh)) zero = opens
+after_locals r bytes offset features old new frames_old frames_new (inl (none, opens, was, room, past, fresh)) zero = opens
 after_locals r bytes offset features old new frames_old frames_new (inr (same, frames, e, reported, refused)) zero =
     absurd (numbered e.message (number_at r (refusal_of e) reported zero))
 

@@ -14,9 +14,9 @@ use Rattle.wasm_c.specs.declared.refusal.WasmRefusal.{WasmRefusal}
 use Rattle.wasm_c.specs.Reads.{IsWithin}
 use Rattle.wasm_c.specs.Refused.{no_refusal, refusal_of, misuse}
 
--- The bytes from the offset `at` on, if the first has the offset `offset`.
-abbrev pub bytes_at : List ℕ → ℕ → ℕ → ℕ → Reader
-bytes_at bytes offset features at = at_position (reader_of (features_of features) offset bytes) (at - offset)
+-- A reader of the bytes from the offset `at` on, if the first has the offset `offset`.
+abbrev pub reader_from : List ℕ → ℕ → ℕ → ℕ → Reader
+reader_from bytes offset features at = at_position (reader_of (features_of features) offset bytes) (at - offset)
 
 -- The operator is encoded here.
 abbrev pub OccursThere : Reader → Operator → Type 0
@@ -41,7 +41,7 @@ pub record AtOffset (IsMisuse : ℕ → ℕ → Type 0) (There : Reader → Type
   pub past : features < 64 → 2 ^ 64 ≤ offset + length bytes → IsMisuse 101 offset
   pub before : features < 64 → IsWithin offset bytes → at < offset → IsMisuse 104 at
   pub after : features < 64 → IsWithin offset bytes → offset + length bytes < at → IsMisuse 104 at
-  pub there : features < 64 → IsWithin offset bytes → offset ≤ at → at ≤ offset + length bytes → There (bytes_at bytes offset features at)
+  pub there : features < 64 → IsWithin offset bytes → offset ≤ at → at ≤ offset + length bytes → There (reader_from bytes offset features at)
 
 -- The operator at the offset, or why there is none.
 abbrev pub ReadsAt : Result Operator WasmRefusal → List ℕ → ℕ → ℕ → ℕ → Type 0

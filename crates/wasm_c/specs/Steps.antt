@@ -7,7 +7,7 @@ use Rattle.wasm_operators.specs.grammar.declared.frame_kind.FrameKind.{FrameKind
 use Rattle.wasm_operators.specs.grammar.Frames.{innermost}
 use Rattle.wasm_operators.specs.instr.declared.operator.Operator.{Operator}
 use Rattle.wasm_operators.specs.opcodes.Allowed.{EncodesAllowed}
-use Rattle.wasm_operators.specs.Openings.{opened_by}
+use Rattle.wasm_operators.specs.Openings.{opened_by, most_open}
 use Rattle.wasm_operators.specs.Next.{ListMayAllocate, all_operators_if}
 use Rattle.wasm_operators.specs.Reading.{State, IsFresh, TakesOperator, StopsRead, Finishes}
 use Rattle.wasm_operators.specs.Body.{OpensBody}
@@ -42,7 +42,8 @@ state_at bytes r frames = record {
 abbrev pub reader_moved : WasmReader → ℕ → ℕ → WasmReader
 reader_moved r position depth = record { offset = r.offset; position = position; depth = depth; features = r.features; reserved = r.reserved }
 
--- An operator is read, with the C struct `view`. Only the reader's position and number of open frames change.
+-- An operator is read, with the C struct `view`. Only the reader's position and number of open frames change, and in the array no byte after
+-- the open frames.
 pub record TakesPlain (bytes : List ℕ) (old new : WasmReader) (frames_old frames_new : List ℕ) (view : WasmOperator) : Type 0 where
   pub op : Operator
   pub was : IsReader bytes (length frames_old) old
@@ -51,6 +52,7 @@ pub record TakesPlain (bytes : List ℕ) (old new : WasmReader) (frames_old fram
   pub still : IsReader bytes (length frames_new) new
   pub moved : new ≡ reader_moved old new.position new.depth
   pub same_room : length frames_new ≡ length frames_old
+  pub past : drop new.depth frames_new ≡ drop new.depth frames_old
 
 -- The next operator opens a frame, and there is no space for it.
 pub record FindsNoRoom (s : State) : Type 0 where
@@ -126,18 +128,19 @@ pub record RefusesOpening (r : WasmRefusal) (bytes : List ℕ) (offset features 
   pub past : features < 64 → 2 ^ 64 ≤ offset + length bytes → (r ≡ misuse 101 offset) × (new ≡ old) × (frames_new ≡ frames_old)
   pub room : features < 64 → IsWithin offset bytes → frames_old ≡ [] → (r ≡ misuse 102 offset) × (new ≡ old) × (frames_new ≡ frames_old)
 
--- An expression is opened with its frame, without reading, or nothing changes.
+-- An expression is opened with its frame, without reading, or nothing changes. The array's other bytes are unchanged.
 pub record OpensExpression (r : WasmRefusal) (bytes : List ℕ) (offset features : ℕ) (old new : WasmReader) (frames_old frames_new : List ℕ) : Type 0 where
   pub opens : features < 64 → IsWithin offset bytes → (frames_old ≡ [] → ⊥) →
       (r ≡ no_refusal offset) × (new ≡ fresh_reader offset features 0) × IsReader bytes (length frames_new) new × IsFresh (state_at bytes new frames_new) ×
-      (length frames_new ≡ length frames_old)
+      (length frames_new ≡ length frames_old) × (drop 1 frames_new ≡ drop 1 frames_old)
   pub refuses : RefusesOpening r bytes offset features old new frames_old frames_new
 
--- The expression of a body is opened, after the locals; or reading these fails.
+-- The expression of a body is opened, after the locals; or reading these fails. The array's other bytes are unchanged.
 abbrev pub OpensAfterLocals : WasmRefusal → List ℕ → ℕ → ℕ → WasmReader → WasmReader → List ℕ → List ℕ → Type 0
 OpensAfterLocals r bytes offset features old new frames_old frames_new =
     ((r ≡ no_refusal (offset_of (reader_at bytes new))) × OpensBody (Ok (state_at bytes new frames_new)) (reader_of (features_of features) offset bytes) ×
-    IsReader bytes (length frames_new) new × (length frames_new ≡ length frames_old) × (new ≡ fresh_reader offset features new.position))
+    IsReader bytes (length frames_new) new × (length frames_new ≡ length frames_old) × (drop 1 frames_new ≡ drop 1 frames_old) ×
+    (new ≡ fresh_reader offset features new.position))
     ⊎ ((new ≡ old) × (frames_new ≡ frames_old) × (e : Error) × (r ≡ refusal_of e) × RefusesLocals e (reader_of (features_of features) offset bytes))
 
 pub record OpensPlain (r : WasmRefusal) (bytes : List ℕ) (offset features : ℕ) (old new : WasmReader) (frames_old frames_new : List ℕ) : Type 0 where
@@ -156,7 +159,12 @@ EndsBatch r bytes reader frames Full =
     ((r ≡ no_refusal (offset_of (reader_at bytes reader))) × IsReader bytes (length frames) reader × (Full ⊎ (rest (reader_at bytes reader) ≡ [])))
     ⊎ StopsPlain r bytes reader frames
 
--- A batch of reads: the C structs of these operators are at the start of the array, and its other elements are unchanged.
+-- The bytes after the most frames that are open at once along these operators are unchanged.
+abbrev pub MostOpenPast : State → Placed → List ℕ → List ℕ → Type 0
+MostOpenPast s placed old new = drop (most_open (Some s.frames) placed) new ≡ drop (most_open (Some s.frames) placed) old
+
+-- A batch of reads: the C structs of these operators are at the start of the array, and its other elements are unchanged. Of the array of frames, the
+-- bytes after the most frames that were open at once are unchanged.
 pub record ReadsBatch (r : WasmRefusal) (count : ℕ) (bytes : List ℕ) (old new : WasmReader) (frames_old frames_new : List ℕ) (out_old out_new : List WasmOperator) : Type 0 where
   pub placed : Placed
   pub reads : ReadsEach (state_at bytes old frames_old) placed (state_at bytes new frames_new)
@@ -164,6 +172,7 @@ pub record ReadsBatch (r : WasmRefusal) (count : ℕ) (bytes : List ℕ) (old ne
   pub fits : length placed ≤ length out_old
   pub in_array : out_new ≡ views placed ++ drop (length placed) out_old
   pub same_room : length frames_new ≡ length frames_old
+  pub past : MostOpenPast (state_at bytes old frames_old) placed frames_old frames_new
   pub misused : (IsReader bytes (length frames_old) old → ⊥) → (r ≡ misuse 103 old.offset) × (placed ≡ [])
   pub unchanged : placed ≡ [] → (new ≡ old) × (frames_new ≡ frames_old)
   pub still : IsReader bytes (length frames_old) old → IsReader bytes (length frames_new) new

@@ -1,7 +1,6 @@
 -- docs/ERRORS-AND-FEATURES.md has the table.
-use Rattle.std.specs.Prelude.{◌≡◌, ◌==◌, ℕ, ◌+◌, ◌-◌, ◌/◌, ◌%◌, List, [], ◌∷◌, ◌++◌, length, map, true, false, if◌then◌else◌, nat_lt, Option, Some, None, codes}
+use Rattle.std.specs.Prelude.{◌≡◌, ◌==◌, ℕ, ◌+◌, ◌-◌, ◌/◌, ◌%◌, List, ◌++◌, length, true, false, if◌then◌else◌, nat_lt, Option, Some, None}
 use Rattle.std.specs.Option.{option_map, option_and_then}
-use Rattle.std.specs.Fmt.{digits, decimal}
 use Rattle.wasm_operators.specs.below.declared.message.Message.{Message}
 use Rattle.wasm_operators.specs.below.declared.message.Message.TheVariants as message
 use Rattle.wasm_operators.specs.below.declared.message.FrameName.{FrameName}
@@ -16,53 +15,9 @@ use Rattle.wasm_operators.specs.below.declared.message.SizeName.{SizeName}
 use Rattle.wasm_operators.specs.below.declared.message.SizeName.TheVariants as size_name
 use Rattle.wasm_operators.specs.below.declared.message.TypeName.{TypeName}
 use Rattle.wasm_operators.specs.below.declared.message.TypeName.TheVariants as type_name
-use Rattle.wasm_operators.specs.below.Refusal.{number_name_text, size_name_text, instruction_name_text, leading_byte_name_text, type_name_text}
+use Rattle.wasm_operators.specs.below.MessageText.{message_text}
 use Rattle.wasm_view.specs.Lists.{written}
 use Rattle.wasm_c.specs.declared.refusal.WasmRefusal.{WasmRefusal}
-
-abbrev pub frame_name_text : FrameName → List ℕ
-frame_name_text frame_name.If = codes "If"
-frame_name_text frame_name.LegacyTry = codes "LegacyTry"
-
--- The lowest eight binary digits of a number, the highest first.
-abbrev pub eight_digits : ℕ → List ℕ
-eight_digits n = map (λ place. 48 + (n / place) % 2) (128 ∷ 64 ∷ 32 ∷ 16 ∷ 8 ∷ 4 ∷ 2 ∷ []) ++ (48 + n % 2) ∷ []
-
--- A number in lower-case hexadecimal.
-abbrev pub hexadecimal : ℕ → List ℕ
-hexadecimal n = digits 16 false n
-
--- The text of a message.
-abbrev pub message_text : Message → List ℕ
-message_text message.EndOfData = codes "unexpected end-of-file"
-message_text (message.FeatureRequired name) = codes "legacy_exceptions feature required for " ++ (instruction_name_text name ++ codes " instruction")
-message_text message.OutOfMemory = codes "out of memory"
-message_text (message.IntegerTooLong name) = codes "invalid " ++ (number_name_text name ++ codes ": integer representation too long")
-message_text (message.IntegerTooLarge name) = codes "invalid " ++ (number_name_text name ++ codes ": integer too large")
-message_text (message.SizeOutOfBounds name) = size_name_text name ++ codes " size is out of bounds"
-message_text message.InvalidFunctionType = codes "invalid function type"
-message_text (message.WrongFrame name frame) =
-    codes "`" ++ (instruction_name_text name ++ (codes "` found outside `" ++ (frame_name_text frame ++ codes "` block")))
-message_text message.OperatorsRemaining = codes "operators remaining after end of function body or expression"
-message_text message.FramesRemain = codes "control frames remain at end of function body or expression"
-message_text message.FramesRemainConst = codes "control frames remain at end of expression"
-message_text message.UnexpectedData = codes "unexpected data at the end of operators"
-message_text (message.IllegalOpcode code) = codes "illegal opcode: 0x" ++ hexadecimal code
-message_text (message.UnknownSubopcode prefix code) = codes "unknown 0x" ++ (hexadecimal prefix ++ (codes " subopcode: 0x" ++ hexadecimal code))
-message_text message.UnexpectedSimd = codes "unexpected SIMD opcode: 0xfd"
-message_text message.ZeroByteExpected = codes "zero byte expected"
-message_text message.NonzeroAfterFence = codes "nonzero byte after `atomic.fence`"
-message_text message.MemoryAndArray = codes "cannot specify both memory and array index"
-message_text message.OrderingOnPlain = codes "cannot specify atomic ordering on non-atomic instruction"
-message_text (message.InvalidOrdering byte true) = codes "invalid atomic consistency ordering 0x" ++ hexadecimal byte
-message_text (message.InvalidOrdering byte false) = codes "invalid atomic consistency ordering " ++ decimal byte
-message_text message.ReservedFlags = codes "malformed memop: reserved flags bits set"
-message_text (message.InvalidCastFlags flags) = codes "invalid cast flags: " ++ eight_digits flags
-message_text (message.InvalidLeadingByte byte name) =
-    codes "invalid leading byte (0x" ++ (hexadecimal byte ++ (codes ") for " ++ leading_byte_name_text name))
-message_text message.TooManyLocals = codes "too many locals"
-message_text (message.InvalidType name) = codes "invalid " ++ type_name_text name
-message_text message.DataAfterSection = codes "unexpected data at the end of the section"
 
 -- The names in messages, by number.
 abbrev pub instruction_numbered : ℕ → Option InstructionName

@@ -1,5 +1,5 @@
 //! Open frames as bytes in an array of the caller.
-ghost use Rattle.std.specs.Prelude.{◌≡◌, ◌+◌, ◌≤◌, ◌<◌, length, take, Some};
+ghost use Rattle.std.specs.Prelude.{◌≡◌, ◌+◌, ◌≤◌, ◌<◌, drop, length, take, Some};
 ghost use Rattle.wasm_operators.specs.grammar.Frames.{frames_changed, innermost, opened, OpensFrame};
 ghost use Rattle.wasm_c.specs.Frames.{kind_of, kinds};
 
@@ -48,12 +48,14 @@ pub fn innermost(depth: usize, frames: &[u8]) -> FrameKind
     kind_of(frames[depth - 1])
 }
 
-/// Applies `change` to `depth` open frames. Returns how many are then open.
+/// Applies `change` to `depth` open frames. Returns how many are then open. The bytes after these are
+/// unchanged.
 pub fn change_frames(change: FrameChange, depth: usize, frames: &mut [u8]) -> usize
     requires some { 0 < depth }
     requires within { depth ≤ length frames.old }
     requires room { OpensFrame change → depth < length frames.old }
     ensures frames { kinds (take result frames.new) ≡ frames_changed (kinds (take depth frames.old)) change }
+    ensures past { drop result frames.new ≡ drop result frames.old }
     ensures within { result ≤ length frames.old }
     ensures most { result ≤ depth + opened change }
     ensures least { depth ≤ result + 1 }

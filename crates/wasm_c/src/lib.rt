@@ -25,7 +25,8 @@ ghost use Rattle.wasm_c.specs.OperatorTexts.{RefusesText, RefusesTextName, Retur
 ghost use Rattle.wasm_c.specs.Reads.{IsWithin, FindsPlain};
 ghost use Rattle.wasm_c.specs.Refused.{misuse, refusal_of};
 ghost use Rattle.wasm_c.specs.Steps.{ReturnsNext, ReturnsNextPlain, ReadsBatch, FinishesPlain, OpensExpression, OpensPlain};
-ghost use Rattle.wasm_c.specs.Texts.{message_text, text_of_refusal, ReturnsText};
+ghost use Rattle.wasm_operators.specs.below.MessageText.{message_text};
+ghost use Rattle.wasm_c.specs.Texts.{text_of_refusal, ReturnsText};
 ghost use Rattle.wasm_c.specs.Values.{ReturnsValue};
 
 mod body;

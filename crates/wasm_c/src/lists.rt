@@ -1,7 +1,7 @@
 //! The list of the operator at an offset.
 ghost use Rattle.std.specs.Prelude.{◌≡◌, ◌<◌, ◌≤◌, ◌+◌, ◌^◌, length, IfSome, IfNone, Ok, Err};
 ghost use Rattle.wasm_view.specs.Lists.{targets_of, types_of, catches_of, handles_of};
-ghost use Rattle.wasm_c.specs.Members.{bytes_at, ReadsAt, ReturnsList};
+ghost use Rattle.wasm_c.specs.Members.{reader_from, ReadsAt, ReturnsList};
 ghost use Rattle.wasm_c.specs.Reads.{IsWithin};
 ghost use Rattle.wasm_c.specs.Refused.{no_refusal, misuse};
 
@@ -13,7 +13,7 @@ use wasm_operators::{BinaryReader, FrameKind, Operator, ReadOperators};
 use wasm_view::{WasmHandler, WasmType, catches_of, handles_of, targets_of, types_of};
 
 /// Returns a reader of the bytes from the offset `at` on.
-pub fn bytes_from<'a>(
+pub fn reader_from<'a>(
     bytes: &'a [u8],
     offset: u64,
     features: u32,
@@ -24,7 +24,7 @@ pub fn bytes_from<'a>(
     ensures before { features < 64 → IsWithin offset bytes.now → at < offset → result ≡ Err (misuse 104 at) }
     ensures after { features < 64 → IsWithin offset bytes.now → offset + length bytes.now < at → result ≡ Err (misuse 104 at) }
     ensures there { features < 64 → IsWithin offset bytes.now → offset ≤ at → at ≤ offset + length bytes.now
-        → result ≡ Ok (bytes_at bytes.now offset features at) }
+        → result ≡ Ok (reader_from bytes.now offset features at) }
 {
     match known_features(bytes, offset, features) {
         Ok(known) => {
@@ -50,7 +50,7 @@ fn operator_at<'a>(
 ) -> std::result::Result<Operator<'a>, WasmRefusal>
     ensures { ReadsAt result bytes.now offset features at }
 {
-    match bytes_from(bytes, offset, features, at) {
+    match reader_from(bytes, offset, features, at) {
         Ok(ahead) => {
             let stack = InFrame {
                 kind: FrameKind::Block,

@@ -6,7 +6,7 @@ ghost use Rattle.wasm_text.specs.Operands.{text_of};
 ghost use Rattle.wasm_c.specs.OperatorTexts.{frame_for, out_of_memory, PlacesText, RefusesText, RefusesTextName, FindsText, ReturnsTextAt};
 
 use crate::in_frame::InFrame;
-use crate::lists::bytes_from;
+use crate::lists::reader_from;
 use crate::refusal::{NO_ROOM, WasmRefusal};
 use crate::text::write_one;
 use std::alloc::Global;
@@ -96,7 +96,7 @@ pub fn write_text_at(
 ) -> WasmRefusal
     ensures { ReturnsTextAt text_of (RefusesText at) result bytes.now offset features at length.old length.new out.old out.new }
 {
-    match bytes_from(bytes, offset, features, at) {
+    match reader_from(bytes, offset, features, at) {
         Ok(ahead) => write_text_ahead(alloc, &ahead, at, out, length),
         Err(refused) => refused,
     }
@@ -113,7 +113,7 @@ pub fn write_name_at(
 ) -> WasmRefusal
     ensures { ReturnsTextAt text_name RefusesTextName result bytes.now offset features at length.old length.new out.old out.new }
 {
-    match bytes_from(bytes, offset, features, at) {
+    match reader_from(bytes, offset, features, at) {
         Ok(ahead) => write_name_ahead(alloc, &ahead, at, out, length),
         Err(refused) => refused,
     }

@@ -3,7 +3,8 @@ ghost use Rattle.std.specs.Prelude.{◌≡◌, ◌+◌, ◌*◌, ◌^◌, ◌<�
 ghost use Rattle.std.specs.Option.{option_map};
 ghost use Rattle.wasm_operators.specs.below.declared.message.Message.TheVariants as message;
 ghost use Rattle.std.specs.Fmt.{decimal, digit_glyph};
-ghost use Rattle.wasm_c.specs.Texts.{hexadecimal, eight_digits, message_text, frame_name_text, instruction_numbered, integer_numbered, size_numbered, frames_numbered, ordering_numbered, leading_numbered, type_numbered, bare_numbered, message_numbered, ReturnsText, PutsPiece};
+ghost use Rattle.wasm_operators.specs.below.MessageText.{hexadecimal, eight_digits, message_text, frame_name_text};
+ghost use Rattle.wasm_c.specs.Texts.{instruction_numbered, integer_numbered, size_numbered, frames_numbered, ordering_numbered, leading_numbered, type_numbered, bare_numbered, message_numbered, ReturnsText, PutsPiece};
 
 use crate::refusal::{
     frame_name, instruction_name, leading_name, number_name, size_name, type_name,

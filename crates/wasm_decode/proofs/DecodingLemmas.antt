@@ -15,10 +15,10 @@ use Rattle.wasm_instr.specs.declared.operator.Operator.TheVariants as operator
 use Rattle.wasm_instr_ops.specs.declared.gc.GcOperator.{GcOperator}
 use Rattle.wasm_instr.specs.Encoding.{EncodesOpcode, EncodesOperator}
 use Rattle.wasm_imm.specs.Immediate.{Kind}
-use Rattle.wasm_instr.specs.Kinds.{IsVector}
+use Rattle.wasm_instr.specs.Kinds.{IsSimd}
 use Rattle.wasm_instr.specs.Row.{prefix_of, opcode_of}
 use Rattle.wasm_decode_opcodes.specs.Allowed.{EncodesAllowed, EncodesScalar, EncodesIn}
-use Rattle.wasm_decode_opcodes.specs.Decoding.{Decodes, DecodesOperator, IsAfterCode}
+use Rattle.wasm_decode_opcodes.specs.Decoding.{Decodes, DecodesAt, DecodesOperator, IsAfterCode}
 use Rattle.wasm_decode_groups.specs.Arms.{ReadsOperatorAt}
 use Rattle.wasm_decode_groups.specs.OneByte.{IsOneByteCode}
 use Rattle.wasm_decode_opcodes.specs.declared.guard.Guard.{Guard}
@@ -29,6 +29,7 @@ use Rattle.wasm_decode_opcodes.specs.OperatorFaults.{EntryFault, OperatorFault, 
 use Rattle.wasm_decode_opcodes.specs.Refused.{MayAllocate}
 use Rattle.wasm_decode_opcodes.proofs.EntriesAgree.{entry_agrees}
 use Rattle.wasm_decode_groups.proofs.Ranges.{InRanges, codes_in}
+use Rattle.wasm_decode.specs.OperatorSets.{OperatorSet, with_simd, without_simd, DecodesSetAt}
 use Rattle.wasm_decode.specs.Reading.{DecodesGcAt}
 
 -- the reader is after the byte that it read
@@ -116,21 +117,21 @@ refuses_subopcode k start p e mid now new small is b (same, h, fault) went = go 
           },
         )
 
-pub vector_prefix : (op : Operator) → IsVector op → prefix_of op ≡ Some 0xfd
-vector_prefix (operator.Simd op) h = refl
-vector_prefix op h = absurd h
+pub simd_prefix : (op : Operator) → IsSimd op → prefix_of op ≡ Some 0xfd
+simd_prefix (operator.Simd op) h = refl
+simd_prefix op h = absurd h
 
 -- an operator that does not start with the byte 0xfd is not a SIMD operator
-scalar_after : (f : WasmFeatures) (op : Operator) (code : ℕ) (text after left : List ℕ) → code ≢ 0xfd → EncodesOperator f text op → code ∷ after ≡ text ++ left → ¬ IsVector op
+scalar_after : (f : WasmFeatures) (op : Operator) (code : ℕ) (text after left : List ℕ) → code ≢ 0xfd → EncodesOperator f text op → code ∷ after ≡ text ++ left → ¬ IsSimd op
 scalar_after f op code text after left other s eq h = go (prefix_of op) refl s.code
   where
     go : (q : Option ℕ) → prefix_of op ≡ q → EncodesOpcode q s.head (opcode_of op) → ⊥
-    go None e code_is = cc (sym e ∙ vector_prefix op h)
+    go None e code_is = cc (sym e ∙ simd_prefix op h)
     go (Some q) e (number, head, u) =
         let first : code ∷ after ≡ q ∷ (number ++ (s.after ++ left)) = eq ∙ ap (λ z. z ++ left) s.parts ∙ append_assoc s.head s.after left ∙
         ap (λ z. z ++ (s.after ++ left)) head in
         let same : code ≡ q = cc first in
-        let is : q ≡ 0xfd = cc (sym e ∙ vector_prefix op h) in
+        let is : q ≡ 0xfd = cc (sym e ∙ simd_prefix op h) in
         other (same ∙ is)
 
 other_byte : (code : ℕ) (after bytes : List ℕ) → code ≢ 0xfd → bytes ≡ code ∷ after → BeginsWith 0xfd bytes → ⊥
@@ -168,6 +169,12 @@ to_scalar {V} {A} visits k start code mid new v w result other b h = go b.opcode
     go (head, opcode, t) (Err e) (same, (went, h)) =
         let parts : rest (at_position mid start) ≡ code ∷ rest mid = t.parts ∙ ap (λ z. z ++ rest mid) opcode in
         (same, (went, refused_scalar mid.features k e (at_position mid start) (other_byte code (rest mid) (rest (at_position mid start)) other parts) h))
+
+-- so it is the same for each set of operators
+pub to_set : {V A : Type 0} (visits : V → Operator → A → V → Type 0) (set : OperatorSet) (k : FrameKind) (start code : ℕ) (mid new : Reader) (v w : V) (result : Result A Error) →
+    code ≢ 0xfd → IsAfterCode start None code mid → DecodesAt visits k start result mid new v w → DecodesSetAt set visits k start result mid new v w
+to_set visits with_simd k start code mid new v w result other b h = h
+to_set visits without_simd k start code mid new v w result other b h = to_scalar visits k start code mid new v w result other b h
 
 -- from the position after the opcode to the operator's start
 pub from_start : {V A : Type 0} (visits : V → Operator → A → V → Type 0) (E : WasmFeatures → FrameKind → List ℕ → Operator → Type 0)

@@ -5,7 +5,7 @@ ghost use Rattle.wasm_grammar.specs.declared.frame_kind.FrameKind.{FrameKind};
 ghost use Rattle.wasm_decode_opcodes.specs.Decoding.{IsAfterCode, DecodesAt, DecodesOperatorAt, VisitsRow};
 ghost use Rattle.wasm_decode_opcodes.specs.Entries.{entry_at};
 ghost use Rattle.wasm_decode_opcodes.specs.Entry.{free, prefixes};
-ghost use Rattle.wasm_decode_groups.specs.WithoutImmediates.{IsVectorWithoutImmediates};
+ghost use Rattle.wasm_decode_groups.specs.WithoutImmediates.{IsSimdWithoutImmediates};
 
 use crate::out_of_line::visit_after_prefix;
 use crate::prefixes::Simd;
@@ -64,9 +64,9 @@ fn simd_of<V: GroupSimdLow + GroupSimdHigh>(
 }
 
 #[inline(always)]
-pub fn vector_without_immediates(code: u32) -> SimdOperator
+pub fn simd_operator_without_immediates(code: u32) -> SimdOperator
     requires { entry_at (Some 0xfd) code ≡ free [] }
-    ensures { IsVectorWithoutImmediates code result }
+    ensures { IsSimdWithoutImmediates code result }
 {
     match code {
         0x00..=0x7f => wasm_decode_groups::simd_low_without_immediates(code),

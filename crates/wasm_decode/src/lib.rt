@@ -7,15 +7,14 @@
 
 mod after;
 pub mod laws;
+mod operator_sets;
 mod out_of_line;
 mod prefixes;
 mod read;
 mod refusals;
 mod visit;
 
+pub use operator_sets::{AllOperators, OperatorSet, ScalarOperators};
 pub use read::{read_after_opcode, read_below_0x20, read_operator};
 pub use refusals::no_frame;
-pub use visit::{
-    visit_after_opcode, visit_after_opcode_simd, visit_below_0x20, visit_operator,
-    visit_operator_simd,
-};
+pub use visit::{visit_after_opcode, visit_below_0x20, visit_operator, visit_operator_simd};

@@ -7,7 +7,7 @@ ghost use Rattle.wasm_grammar.specs.declared.frame_kind.FrameKind.{FrameKind};
 ghost use Rattle.wasm_instr.specs.declared.operator.Operator.{Operator};
 ghost use Rattle.wasm_decode_opcodes.specs.Decoding.{DecodesOperatorAt, IsAfterCode};
 
-use crate::after::{subopcode, vector_without_immediates};
+use crate::after::{simd_operator_without_immediates, subopcode};
 use crate::out_of_line::read_after_prefix;
 use crate::prefixes::{FIRST_PREFIX, OtherPrefix, Simd};
 use crate::refusals::no_frame;
@@ -197,7 +197,7 @@ fn read_simd_of(reader: &mut BinaryReader<'_>, start: usize, code: u32) -> Resul
     ensures { (frame : FrameKind) → DecodesOperatorAt frame start result reader.old reader.new }
 {
     if wasm_decode_groups::has_no_immediates(code) {
-        return Ok(Operator::Simd(vector_without_immediates(code)));
+        return Ok(Operator::Simd(simd_operator_without_immediates(code)));
     }
     read_after_prefix(reader, start, Simd { code })
 }

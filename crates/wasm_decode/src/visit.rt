@@ -1,12 +1,13 @@
 ghost use Rattle.std.specs.Prelude.{◌<◌, ◌≤◌, [], ◌∷◌, None};
 ghost use Rattle.wasm_grammar.specs.declared.frame_kind.FrameKind.{FrameKind};
 ghost use Rattle.wasm_imm.specs.Immediate.{branch_table, is_branch_table};
-ghost use Rattle.wasm_decode_opcodes.specs.Decoding.{DecodesIn, DecodesScalarIn, IsAfterCode, DecodesAt, DecodesScalarAt, ReadsKinds, GoesBack};
+ghost use Rattle.wasm_decode_opcodes.specs.Decoding.{DecodesIn, DecodesScalarIn, IsAfterCode, DecodesAt, ReadsKinds, GoesBack};
+ghost use Rattle.wasm_decode.specs.OperatorSets.{OperatorSet, DecodesSetAt, DecodesSetIn};
 
-use crate::after::simd_after_prefix;
+use crate::operator_sets::{AllOperators, OperatorSet, ScalarOperators};
 use crate::out_of_line::visit_after_prefix;
 use crate::prefixes::{FIRST_PREFIX, Gc, OtherPrefix};
-use crate::refusals::{no_frame, unexpected_simd};
+use crate::refusals::no_frame;
 use std::alloc::Global;
 use wasm_below::{BinaryReader, Result};
 use wasm_decode_opcodes::immediates;
@@ -29,51 +30,7 @@ pub fn visit_operator_simd<'a, V: VisitOperator<'a>>(
 ) -> Result<V::Output>
     ensures { DecodesIn V.visits frame result reader.old reader.new v.old v.new }
 {
-    let Some(frame) = frame else {
-        return Err(no_frame(reader));
-    };
-    let start = reader.current_position();
-    match reader.read_u8() {
-        Ok(code) => {
-            if code < 0x20 {
-                return visit_below_0x20(alloc, v, reader, start, frame, code);
-            }
-            visit_after_opcode_simd(alloc, v, reader, start, frame, code)
-        }
-        Err(e) => Err(e),
-    }
-}
-
-/// Reads the rest of the operator with this opcode, which was read at the position `start`, and
-/// visits it. On an error, goes back to `start`. For an opcode below 0x20, `visit_below_0x20` is
-/// faster.
-///
-/// Fails like `visit_operator_simd`, but never for a missing frame or opcode.
-#[inline(always)]
-pub fn visit_after_opcode_simd<'a, V: VisitOperator<'a>>(
-    alloc: Global,
-    v: &mut V,
-    reader: &mut BinaryReader<'a>,
-    start: usize,
-    frame: FrameKind,
-    code: u8,
-) -> Result<V::Output>
-    requires { IsAfterCode start None code reader.old }
-    ensures { DecodesAt V.visits frame start result reader.old reader.new v.old v.new }
-{
-    if code >= FIRST_PREFIX {
-        match code {
-            0xfb => visit_after_prefix(v, reader, start, Gc),
-            0xfd => simd_after_prefix(v, reader, start),
-            byte => visit_after_prefix(v, reader, start, OtherPrefix { byte }),
-        }
-    } else {
-        match code {
-            0x0e => table_after_opcode(v, reader, start),
-            0x45..=0xc4 => Ok(v.decode_numeric(code)),
-            _ => v.decode_one_byte(alloc, reader, start, frame, code),
-        }
-    }
+    visit_of_set::<V, AllOperators>(alloc, v, reader, frame)
 }
 
 /// Reads and visits like `visit_operator_simd`, for a visitor without SIMD operators. Fails with
@@ -87,6 +44,18 @@ pub fn visit_operator<'a, V: VisitOperator<'a>>(
 ) -> Result<V::Output>
     ensures { DecodesScalarIn V.visits frame result reader.old reader.new v.old v.new }
 {
+    visit_of_set::<V, ScalarOperators>(alloc, v, reader, frame)
+}
+
+#[inline(always)]
+fn visit_of_set<'a, V: VisitOperator<'a>, S: OperatorSet<V>>(
+    alloc: Global,
+    v: &mut V,
+    reader: &mut BinaryReader<'a>,
+    frame: Option<FrameKind>,
+) -> Result<V::Output>
+    ensures { DecodesSetIn S.set V.visits frame result reader.old reader.new v.old v.new }
+{
     let Some(frame) = frame else {
         return Err(no_frame(reader));
     };
@@ -96,16 +65,20 @@ pub fn visit_operator<'a, V: VisitOperator<'a>>(
             if code < 0x20 {
                 return visit_below_0x20(alloc, v, reader, start, frame, code);
             }
-            visit_after_opcode(alloc, v, reader, start, frame, code)
+            visit_after_opcode::<V, S>(alloc, v, reader, start, frame, code)
         }
         Err(e) => Err(e),
     }
 }
 
-/// Reads and visits like `visit_after_opcode_simd`, for a visitor without SIMD operators. Fails
-/// with `UnexpectedSimd` at `start` if the opcode is 0xfd.
+/// Reads the rest of the operator with this opcode, which was read at the position `start`, and
+/// visits it if it is in the set `S`. On an error, goes back to `start`. For an opcode below 0x20,
+/// `visit_below_0x20` is faster.
+///
+/// Fails like `visit_operator_simd`, but never for a missing frame or opcode, or like
+/// `visit_operator` if the set is `ScalarOperators`.
 #[inline(always)]
-pub fn visit_after_opcode<'a, V: VisitOperator<'a>>(
+pub fn visit_after_opcode<'a, V: VisitOperator<'a>, S: OperatorSet<V>>(
     alloc: Global,
     v: &mut V,
     reader: &mut BinaryReader<'a>,
@@ -114,12 +87,12 @@ pub fn visit_after_opcode<'a, V: VisitOperator<'a>>(
     code: u8,
 ) -> Result<V::Output>
     requires { IsAfterCode start None code reader.old }
-    ensures { DecodesScalarAt V.visits frame start result reader.old reader.new v.old v.new }
+    ensures { DecodesSetAt S.set V.visits frame start result reader.old reader.new v.old v.new }
 {
     if code >= FIRST_PREFIX {
         match code {
             0xfb => visit_after_prefix(v, reader, start, Gc),
-            0xfd => Err(unexpected_simd(reader, start)),
+            0xfd => S::visit_after_0xfd(v, reader, start),
             byte => visit_after_prefix(v, reader, start, OtherPrefix { byte }),
         }
     } else {
@@ -131,8 +104,8 @@ pub fn visit_after_opcode<'a, V: VisitOperator<'a>>(
     }
 }
 
-/// Reads and visits like `visit_after_opcode_simd`, for an opcode below 0x20: a control or
-/// parametric instruction.
+/// Reads and visits like `visit_after_opcode`, for an opcode below 0x20: a control or parametric
+/// instruction, which each set contains.
 #[inline(always)]
 pub fn visit_below_0x20<'a, V: VisitOperator<'a>>(
     alloc: Global,
@@ -144,8 +117,7 @@ pub fn visit_below_0x20<'a, V: VisitOperator<'a>>(
 ) -> Result<V::Output>
     requires after { IsAfterCode start None code reader.old }
     requires low { code < 0x20 }
-    ensures allowed { DecodesAt V.visits frame start result reader.old reader.new v.old v.new }
-    ensures scalar { DecodesScalarAt V.visits frame start result reader.old reader.new v.old v.new }
+    ensures { (set : OperatorSet) → DecodesSetAt set V.visits frame start result reader.old reader.new v.old v.new }
 {
     match code {
         0x0e => table_after_opcode(v, reader, start),

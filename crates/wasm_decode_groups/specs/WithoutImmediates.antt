@@ -10,5 +10,5 @@ is_without_immediates (free []) = true
 is_without_immediates _ = false
 
 -- The SIMD operator has this subopcode and no immediates.
-abbrev pub IsVectorWithoutImmediates : ℕ → SimdOperator → Type 0
-IsVectorWithoutImmediates code op = (simd_subopcode op ≡ code) × (simd_immediates op ≡ [])
+abbrev pub IsSimdWithoutImmediates : ℕ → SimdOperator → Type 0
+IsSimdWithoutImmediates code op = (simd_subopcode op ≡ code) × (simd_immediates op ≡ [])

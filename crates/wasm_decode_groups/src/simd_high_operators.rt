@@ -4,7 +4,7 @@ ghost use Rattle.wasm_grammar.specs.declared.frame_kind.FrameKind.{FrameKind};
 ghost use Rattle.wasm_decode_opcodes.specs.Decoding.{DecodesAt, IsAfterCode};
 
 use crate::arm::{At, Maker, Makes, SimdHigh, arm};
-use crate::vectors_without_immediates::has_no_immediates;
+use crate::simd_without_immediates::has_no_immediates;
 use wasm_below::{BinaryReader, Result};
 use wasm_decode_opcodes::unknown_subopcode;
 use wasm_instr_simd::SimdOperator;

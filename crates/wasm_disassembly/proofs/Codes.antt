@@ -1,42 +1,24 @@
 -- A code section has at most one list of bodies.
-use Rattle.std.proofs.Common.{◌≡◌, ℕ, ◌+◌, ◌<◌, List, [], ◌∷◌, ◌++◌, length, get_or, drop, refl, sym, subst, ap, ◌∙◌, append_assoc, append-nil, arith, inl, inr}
+use Rattle.std.proofs.Common.{◌≡◌, ℕ, ◌+◌, ◌<◌, List, [], ◌∷◌, ◌++◌, length, refl, sym, subst, ap, ◌∙◌, append_assoc, append-nil, arith, inl, inr}
 use Rattle.wasm_operators.specs.below.declared.error.Error.{Error}
 use Rattle.wasm_operators.specs.below.declared.features.WasmFeatures.{WasmFeatures}
 use Rattle.wasm_operators.specs.below.declared.message.Message.{Message}
 use Rattle.wasm_operators.specs.below.declared.message.Message.TheVariants as message
 use Rattle.wasm_operators.specs.below.FromReader.{EncodesReader, ReaderFault, IsRefused}
 use Rattle.wasm_operators.specs.below.Number.{EncodesUnsigned}
-use Rattle.wasm_operators.specs.below.Refusal.{IsReadFault}
 use Rattle.wasm_operators.specs.below.Sequence.{PrefixCode}
-use Rattle.wasm_operators.specs.below.Source.{Reader, rest, offset_of, end_of, at_position, MayFollow, IsRefusal, HasRead}
+use Rattle.wasm_operators.specs.below.Source.{Reader, rest, offset_of, end_of, at_position, HasRead}
 use Rattle.wasm_disassembly.specs.Listing.{BodiesOccur, IsCode, StopsCode, RefusesCode}
-
-may_end : (m : Message) → (m ≡ message.OutOfMemory → ⊥) → MayFollow m []
-may_end message.EndOfData h = refl
-may_end message.OutOfMemory h = absurd (h refl)
-may_end _ h = tt
+use Rattle.wasm_module.proofs.NamedFunctions.{not_both}
+use Rattle.wasm_module.proofs.NextItems.{one_read}
+use Rattle.wasm_module.proofs.Unique.{same_texts}
+use Rattle.wasm_operators.proofs.OneRead.{may_end}
 
 pub not_refused : {X : Type 0} (P : List ℕ → X → Type 0) (F : Message → Reader → ℕ → Type 0) (e : Error) (r b : Reader) (x : X) → IsRefused P F (λ s. ⊥) e r →
     HasRead P x r b → ⊥
 not_refused P F e r b x refused (text, is, takes) =
     let memory : e.message ≡ message.OutOfMemory → ⊥ = λ m. (refused.memory m).0 in
     refused.refuses [] (may_end e.message memory) text (rest b) x is (append-nil (rest r) ∙ takes.parts)
-
-no_memory : (m : Message) → IsReadFault m → m ≡ message.OutOfMemory → ⊥
-no_memory m h is = subst IsReadFault is h
-
-number_not_refused : (e : Error) (r b : Reader) (n : ℕ) → IsRefusal (EncodesUnsigned 32) e r → HasRead (EncodesUnsigned 32) n r b → ⊥
-number_not_refused e r b n refused (text, is, takes) =
-    refused.refuses [] (may_end e.message (no_memory e.message refused.fault)) text (rest b) n is (append-nil (rest r) ∙ takes.parts)
-
-same_texts : (a b x y : List ℕ) → length a ≡ length b → a ++ x ≡ b ++ y → (a ≡ b) × (x ≡ y)
-same_texts [] [] x y l e = (refl, e)
-same_texts [] (c ∷ b) x y l e = absurd (omega (arith, l))
-same_texts (c ∷ a) [] x y l e = absurd (omega (arith, l))
-same_texts (c ∷ a) (d ∷ b) x y l e =
-    let first : c ≡ d = ap (λ z. get_or z 0 0) e in
-    let others = same_texts a b x y (omega (arith, l)) (ap (drop 1) e) in
-    (ap (λ z. z ∷ a) first ∙ ap (λ z. d ∷ z) others.0, others.1)
 
 abbrev reader_by : WasmFeatures → ℕ → List ℕ → ℕ → Reader
 reader_by features start buffer position = record { features = features; start = start; buffer = buffer; position = position }
@@ -49,11 +31,6 @@ same_reader b c features start buffer position =
     ap (λ z. reader_by c.features c.start c.buffer z) position
 
 module _ (numbers : PrefixCode (EncodesUnsigned 32)) where
-  one_number : (r a b : Reader) (n m : ℕ) → HasRead (EncodesUnsigned 32) n r a → HasRead (EncodesUnsigned 32) m r b → (n ≡ m) × (a ≡ b)
-  one_number r a b n m (text, is, takes) (other, is_other, takes_other) =
-      let same = numbers text other (rest a) (rest b) n m is is_other (sym takes.parts ∙ takes_other.parts) in
-      (same.1, takes.moved ∙ ap (λ (z : List ℕ). at_position r (r.position + length z)) same.0 ∙ sym takes_other.moved)
-
   one_body : (r mid next b c : Reader) → HasRead (EncodesReader r.features) b r mid → HasRead (EncodesReader r.features) c r next →
       end_of b ≡ offset_of mid → end_of c ≡ offset_of next → (b ≡ c) × (mid ≡ next)
   one_body r mid next b c (text, (n, body, size, q, number, (f, buffer, start, long)), takes)
@@ -93,12 +70,12 @@ module _ (numbers : PrefixCode (EncodesUnsigned 32)) where
 
   pub one_code : (contents : Reader) (first second : List Reader) → IsCode contents first → IsCode contents second → first ≡ second
   one_code contents bs cs a b =
-      let same = one_number contents a.first b.first (length bs) (length cs) a.count b.count in
+      let same = one_read (EncodesUnsigned 32) numbers contents a.first b.first (length bs) (length cs) a.count b.count in
       (same_bodies a.first bs cs a.end b.end a.occur (subst (λ z. BodiesOccur z cs b.end) (sym same.1) b.occur) same.0).0
 
   stops_not : (contents : Reader) (all before : List Reader) (e : Error) → IsCode contents all → StopsCode e contents before → ⊥
   stops_not contents all before e h s =
-      let same = one_number contents s.first h.first (length before + s.remaining) (length all) s.count h.count in
+      let same = one_read (EncodesUnsigned 32) numbers contents s.first h.first (length before + s.remaining) (length all) s.count h.count in
       let occur = subst (λ z. BodiesOccur z all h.end) (sym same.1) h.occur in
       elim s.stops [
         | inl (more, refused) ↦
@@ -112,5 +89,5 @@ module _ (numbers : PrefixCode (EncodesUnsigned 32)) where
       ]
 
   pub code_not_refused : (contents : Reader) (all before : List Reader) (e : Error) → IsCode contents all → RefusesCode e contents before → ⊥
-  code_not_refused contents all before e h (inl (none, refused)) = number_not_refused e contents h.first (length all) refused h.count
+  code_not_refused contents all before e h (inl (none, refused)) = not_both (EncodesUnsigned 32) e contents h.first (length all) refused.0 h.count
   code_not_refused contents all before e h (inr stops) = stops_not contents all before e h stops

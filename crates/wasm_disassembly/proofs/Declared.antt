@@ -2,31 +2,18 @@ use Rattle.std.proofs.Common.{◌≡◌, ◌≢◌, ℕ, ◌+◌, ◌<◌, ◌�
 use Rattle.std.proofs.lemmas.List.{append_cancel_left}
 use Rattle.std.specs.Io.KnownBytes.{Appends}
 use Rattle.wasm_operators.specs.below.declared.error.Error.{Error}
-use Rattle.wasm_operators.specs.below.declared.message.Message.{Message}
 use Rattle.wasm_operators.specs.below.declared.message.Message.TheVariants as message
 use Rattle.wasm_operators.specs.below.Sequence.{PrefixCode}
-use Rattle.wasm_operators.specs.below.Source.{Reader, rest, offset_of, at_position, Takes, MayFollow}
+use Rattle.wasm_operators.specs.below.Source.{rest, offset_of}
 use Rattle.wasm_operators.specs.imm.Lists.{EncodesEach, EncodesMany}
 use Rattle.wasm_operators.specs.Locals.{Declaration, EncodesDeclaration, max_locals, Locals, ReadsDeclaration}
 use Rattle.wasm_text.specs.Rows.{line_of}
 use Rattle.wasm_text.specs.Lines.{between, next_offset}
 use Rattle.wasm_disassembly.specs.declared.fault.DisassemblyFault.TheVariants as fault
 use Rattle.wasm_disassembly.specs.LocalLines.{PlacedLocals, declarations_of, locals_in, LaidOutLocals, declaration_text, declaration_lines, WritesDeclarations, ListsDeclarations}
+use Rattle.wasm_below.proofs.TakesLemmas.{takes_then, takes_none}
+use Rattle.wasm_operators.proofs.OneRead.{may_end}
 use Rattle.wasm_disassembly.proofs.Written.{appends_none, appends_both}
-
-pub takes_both : (a b c : Reader) (x y : List ℕ) → Takes a b x → Takes b c y → Takes a c (x ++ y)
-takes_both a b c x y p q =
-    let sum = length-append x y in
-    let place : b.position + length y ≡ a.position + length (x ++ y) = ap (λ (r : Reader). r.position + length y) p.moved ∙ omega (arith, sum) in
-    record {
-      moved = q.moved ∙ ap (λ (r : Reader). at_position r (b.position + length y)) p.moved ∙ ap (at_position a) place;
-      parts = p.parts ∙ ap (λ z. x ++ z) q.parts ∙ sym (append_assoc x y (rest c));
-    }
-
-takes_none : (r : Reader) → Takes r r []
-takes_none r =
-    let place : r.position ≡ r.position + 0 = omega arith in
-    record { moved = ap (at_position r) place; parts = refl }
 
 -- ---- one more declaration
 
@@ -118,7 +105,7 @@ way_goes_on start bytes shown parameters many first old mid new before between_l
       writes = record {
         takes = record {
           text = h.text ++ text;
-          takes = takes_both old.reader mid.reader new.reader h.text text h.takes takes;
+          takes = takes_then old.reader mid.reader new.reader h.text text h.takes takes;
           laid = laid_more (offset_of old.reader) way.placed h.text d text at begins h.laid encodes.0;
           count = count ∙ h.count;
           total = sum;
@@ -143,11 +130,6 @@ way_stops start bytes parameters many first old mid new before after e more way 
 )
 
 -- ---- if the declarations are encoded, reading none of them fails
-
-pub ends_here : (m : Message) → m ≢ message.OutOfMemory → MayFollow m []
-ends_here message.EndOfData other = refl
-ends_here message.OutOfMemory other = absurd (other refl)
-ends_here _ other = tt
 
 -- The next declaration is encoded at the start of what is left.
 record NextOccurs (many total : ℕ) (left : List ℕ) : Type 0 where
@@ -187,4 +169,4 @@ none_refused P start bytes parameters many first old mid new before after e ds t
     let next = next_occurs (offset_of old.reader) way.placed ds h.text text (rest mid.reader) more code h.laid each left short in
     let fits : mid.total + next.declaration.0 ≤ 4294967295 = let t = h.total in let f = next.few in let g : old.total + locals_in ds ≤ 4294967295 = few in omega (arith, t, f, g) in
     let other : e.message ≢ message.OutOfMemory = λ is. absurd (refused.memory is).0 in
-    absurd (refused.refuses [] (ends_here e.message other) next.text next.more next.declaration (next.encodes, fits) (append-nil (rest mid.reader) ∙ next.occurs))
+    absurd (refused.refuses [] (may_end e.message other) next.text next.more next.declaration (next.encodes, fits) (append-nil (rest mid.reader) ∙ next.occurs))

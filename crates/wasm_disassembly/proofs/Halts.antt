@@ -1,4 +1,4 @@
-use Rattle.std.proofs.Common.{◌≡◌, ◌≢◌, sym, subst}
+use Rattle.std.proofs.Common.{◌≡◌, ◌≢◌, Result, Ok, Err, IfErr, sym, subst}
 use Rattle.wasm_operators.specs.below.declared.error.Error.{Error}
 use Rattle.wasm_operators.specs.below.declared.message.Message.{Message}
 use Rattle.wasm_operators.specs.below.declared.message.Message.TheVariants as message
@@ -11,6 +11,10 @@ pub at_halt : (P : DisassemblyFault → Type 0) (f : DisassemblyFault) → IsOut
 at_halt P (fault.Refused e) halts memory writing = absurd halts
 at_halt P fault.Memory halts memory writing = memory
 at_halt P fault.Writing halts memory writing = writing
+
+pub writing_halts : {X : Type 0} (r : Result X DisassemblyFault) → IfErr r (λ f. f ≡ fault.Writing) → IfErr r (λ f. IsOutputFailure f)
+writing_halts (Ok x) is = tt
+writing_halts (Err f) is = subst IsOutputFailure (sym is) tt
 
 abbrev IsOther : Message → Type 0
 IsOther message.OutOfMemory = ⊥

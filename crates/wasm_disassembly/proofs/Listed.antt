@@ -15,7 +15,8 @@ use Rattle.wasm_disassembly.specs.declared.fault.DisassemblyFault.{DisassemblyFa
 use Rattle.wasm_disassembly.specs.declared.fault.DisassemblyFault.TheVariants as fault
 use Rattle.wasm_disassembly.specs.LocalLines.{PlacedLocals, declarations_of, LaidOutLocals, ListsDeclarations}
 use Rattle.wasm_disassembly.specs.Disassembly.{Heading, header, local_lines, operator_lines, ReadsLocals, Disassembles, ListsOperators}
-use Rattle.wasm_disassembly.proofs.Declared.{takes_both, ends_here}
+use Rattle.wasm_below.proofs.TakesLemmas.{takes_then}
+use Rattle.wasm_operators.proofs.OneRead.{may_end}
 use Rattle.wasm_disassembly.proofs.Written.{appends_both, appends_three}
 
 laid_each : (offset : ℕ) (placed : PlacedLocals) (text : List ℕ) → LaidOutLocals offset text placed →
@@ -37,7 +38,7 @@ locals_past body unread read locals h all =
         o.1,
         (length-map locals (λ p. p.0) ∙ all, laid_each (offset_of unread.reader) locals t.text t.laid),
       ),
-      takes_both body unread.reader read.reader o.0 t.text o.2 t.takes,
+      takes_then body unread.reader read.reader o.0 t.text o.2 t.takes,
     )
 
 -- The header and the lines of the locals are written.
@@ -170,7 +171,7 @@ count_occurs P e body declarations placed (refused, fault) h =
     let l = h.encodes_locals in
     let other : e.message ≢ message.OutOfMemory = λ is. absurd (subst IsReadFault is refused.fault) in
     let there : rest body ≡ l.0 ++ (l.1 ++ h.expression) = h.parts ∙ ap (λ z. z ++ h.expression) l.3 ∙ append_assoc l.0 l.1 h.expression in
-    absurd (refused.refuses [] (ends_here e.message other) l.0 (l.1 ++ h.expression) l.2 l.4 (append-nil (rest body) ∙ there))
+    absurd (refused.refuses [] (may_end e.message other) l.0 (l.1 ++ h.expression) l.2 l.4 (append-nil (rest body) ∙ there))
 
 pub record AreAnnounced (unread : Locals) (declarations : List Declaration) : Type 0 where
   pub text : List ℕ

@@ -1,4 +1,4 @@
-use Rattle.std.proofs.Common.{◌≡◌, ℕ, List, [], ◌∷◌, ◌++◌, Option, Result, Ok, Err, IfErr, refl, sym, ap, ◌∙◌, append_assoc, append-nil}
+use Rattle.std.proofs.Common.{◌≡◌, ℕ, List, [], ◌∷◌, ◌++◌, Option, Result, Ok, Err, IfErr, refl, sym, subst, ap, ◌∙◌, append_assoc, append-nil}
 use Rattle.std.specs.Io.KnownBytes.{Appends}
 use Rattle.wasm_operators.specs.below.declared.features.WasmFeatures.{WasmFeatures}
 use Rattle.wasm_operators.specs.below.Source.{Reader, offset_of, end_of, reader_of, HasRead}
@@ -49,6 +49,10 @@ at_halt P (fault.Section e) halts memory writing = absurd halts
 at_halt P (fault.Code e) halts memory writing = absurd halts
 at_halt P fault.Writing halts memory writing = writing
 at_halt P fault.Memory halts memory writing = memory
+
+pub writing_stops : {X : Type 0} (r : Result X Fault) → IfErr r (λ f. f ≡ fault.Writing) → IfErr r (λ f. IsHalt f)
+writing_stops (Ok x) is = tt
+writing_stops (Err f) is = subst IsHalt (sym is) tt
 
 pub headers_listed : {X : Type 0} (features : WasmFeatures) (file : Option (List ℕ)) (bytes : List ℕ) (r : Result X Fault) (after : Reader) (name : List ℕ)
     (old titled new : Option (List ℕ)) → BeginsModule (reader_of features 0 bytes) after → IsNameOf (reader_of features 0 bytes) name →

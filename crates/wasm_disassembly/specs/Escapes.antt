@@ -1,5 +1,6 @@
-use Rattle.std.specs.Prelude.{◌≢◌, ◌==◌, ◌<◌, ◌≤◌, ℕ, List, [], ◌∷◌, nat_lt, flat_map, map, if◌then◌else◌}
-use Rattle.std.specs.List.{All}
+use Rattle.std.specs.Prelude.{◌≢◌, ◌==◌, ◌<◌, ◌≤◌, ℕ, List, [], ◌∷◌, nat_eq, nat_lt, Option, flat_map, map, if◌then◌else◌}
+use Rattle.std.specs.Cmp.Lexicographic.{pointwise}
+use Rattle.std.specs.List.{All, position_from}
 use Rattle.std.specs.Str.{is_utf8}
 use Rattle.wasm_text.specs.Values.{byte_text}
 
@@ -26,6 +27,10 @@ escaped name = if is_utf8 (utf8_name name) then utf8_name name else flat_map asc
 -- Each name as shown.
 abbrev pub all_escaped : List (List ℕ) → List (List ℕ)
 all_escaped names = map escaped names
+
+-- The index of the first of these names that is `name`.
+abbrev pub first_named : List (List ℕ) → List ℕ → Option ℕ
+first_named names name = position_from (λ n. pointwise nat_eq n name) 0 names
 
 -- A byte that is no control character.
 abbrev pub IsShown : ℕ → Type 0

@@ -5,11 +5,11 @@ use Rattle.std.specs.Io.KnownBytes.{Appends}
 use Rattle.wasm_operators.specs.below.declared.error.Error.{Error}
 use Rattle.wasm_operators.specs.below.declared.features.WasmFeatures.{WasmFeatures}
 use Rattle.wasm_operators.specs.below.Number.{EncodesUnsigned}
-use Rattle.wasm_operators.specs.below.Source.{Reader, rest, offset_of, end_of, reader_of, IsRefusal, HasRead}
+use Rattle.wasm_operators.specs.below.Source.{Reader, rest, offset_of, end_of, reader_of, HasRead, U32Fault}
 use Rattle.wasm_text.specs.Values.{byte_text}
-use Rattle.wasm_module.specs.Module.{SectionParts, EncodesSection}
-use Rattle.wasm_module.specs.Names.{EncodesName}
-use Rattle.wasm_module.specs.Refusals.{SectionsFault}
+use Rattle.wasm_module.specs.Module.{SectionParts, EncodesSection, SectionFault}
+use Rattle.wasm_module.specs.Names.{EncodesName, NameFault}
+use Rattle.wasm_module.specs.Refusals.{SectionsFault, IsRefusedAs}
 use Rattle.wasm_module.specs.Sections.{BeginsModule, SectionsOccur, IsModule}
 use Rattle.wasm_module.specs.ModuleFunctions.{NamesModule}
 use Rattle.wasm_disassembly.specs.declared.listing_fault.Fault.{Fault}
@@ -58,7 +58,9 @@ HasDetail s (Ok (detail.Custom name)) = (s.id ≡ 0) × (after : Reader) × HasR
 HasDetail s (Ok (detail.Start index)) = (s.id ≡ 8) × (after : Reader) × HasRead (EncodesUnsigned 32) index s.contents after
 HasDetail s (Ok (detail.Count number)) = (s.id ≡ 8 → ⊥) × (is_numbered s.id ≡ 1) × (after : Reader) × HasRead (EncodesUnsigned 32) number s.contents after
 HasDetail s (Ok (detail.Unknown id)) = (s.id ≡ id) × (is_numbered id ≡ 2)
-HasDetail s (Err e) = ((s.id ≡ 0) × IsRefusal EncodesName e s.contents) ⊎ ((is_numbered s.id ≡ 1) × IsRefusal (EncodesUnsigned 32) e s.contents)
+HasDetail s (Err e) =
+    ((s.id ≡ 0) × IsRefusedAs EncodesName NameFault e s.contents) ⊎
+    ((is_numbered s.id ≡ 1) × IsRefusedAs (EncodesUnsigned 32) U32Fault e s.contents)
 
 -- The line of a section.
 abbrev pub section_line : SectionParts → Detail → List ℕ
@@ -80,7 +82,7 @@ pub record ShowsSections (first next : Reader) (old new : Option (List ℕ)) : T
 -- The next section, its name or first number is in error.
 abbrev pub StopsSections : Error → Reader → Type 0
 StopsSections e next =
-    IsRefusal (EncodesSection next.features) e next ⊎
+    IsRefusedAs (EncodesSection next.features) SectionFault e next ⊎
     ((s : SectionParts) × (later : Reader) × HasRead (EncodesSection next.features) s next later × HasDetail s (Err e))
 
 -- The lines of all sections are appended, or of those before an error, unless writing or allocation

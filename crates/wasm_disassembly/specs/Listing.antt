@@ -6,18 +6,20 @@ use Rattle.wasm_operators.specs.below.declared.error.Error.{Error}
 use Rattle.wasm_operators.specs.below.declared.features.WasmFeatures.{WasmFeatures}
 use Rattle.wasm_operators.specs.below.FromReader.{EncodesReader, ReaderFault}
 use Rattle.wasm_operators.specs.below.Number.{EncodesUnsigned}
-use Rattle.wasm_operators.specs.below.Source.{Reader, rest, offset_of, end_of, reader_of, source_of, HasRead, IsRefusal}
+use Rattle.wasm_operators.specs.below.Source.{Reader, rest, offset_of, end_of, reader_of, source_of, HasRead, U32Fault}
 use Rattle.wasm_operators.specs.Body.{EncodesBody}
 use Rattle.wasm_operators.specs.Expression.{Placed}
 use Rattle.wasm_operators.specs.Locals.{Declaration, max_locals}
 use Rattle.wasm_operators.specs.Section.{StopsSection}
 use Rattle.wasm_disassembly.specs.Disassembly.{Heading, IsText}
 use Rattle.wasm_disassembly.specs.LocalLines.{locals_in}
-use Rattle.wasm_module.specs.Refusals.{ModuleFunctionsFault}
+use Rattle.wasm_module.specs.Refusals.{ModuleFunctionsFault, IsRefusedAs}
 use Rattle.wasm_module.specs.Sections.{IsSection}
 use Rattle.wasm_module.specs.ModuleFunctions.{ModuleFunctions, DescribesFunctions, IsOwn, index_of, parameters_at, NamesModule}
 use Rattle.wasm_module.specs.declared.fault.ModuleFault.TheVariants as whole_fault
 use Rattle.wasm_disassembly.specs.Escapes.{escaped, all_escaped}
+use Rattle.wasm_disassembly.specs.declared.fault.DisassemblyFault.{DisassemblyFault}
+use Rattle.wasm_disassembly.specs.declared.fault.DisassemblyFault.TheVariants as disassembly_fault
 use Rattle.wasm_disassembly.specs.declared.listing_fault.Fault.{Fault}
 use Rattle.wasm_disassembly.specs.declared.listing_fault.Fault.TheVariants as fault
 use Rattle.wasm_disassembly.specs.declared.listing_fault.MissingFunction.{MissingFunction}
@@ -47,7 +49,7 @@ pub record StopsCode (e : Error) (contents : Reader) (bodies : List Reader) : Ty
 
 -- The number of bodies is in error, or what follows these bodies is.
 abbrev pub RefusesCode : Error → Reader → List Reader → Type 0
-RefusesCode e contents bodies = ((bodies ≡ []) × IsRefusal (EncodesUnsigned 32) e contents) ⊎ StopsCode e contents bodies
+RefusesCode e contents bodies = ((bodies ≡ []) × IsRefusedAs (EncodesUnsigned 32) U32Fault e contents) ⊎ StopsCode e contents bodies
 
 -- Whether the function with this index is requested. `None` requests all functions.
 abbrev pub is_asked : Option ℕ → ℕ → Bool
@@ -75,6 +77,13 @@ Reported {S} reports (r ∷ rs) old new = (mid : S) × reports old r.0 r.1 mid �
 -- The heading of the defined function with the ordinal `place`. Names are escaped.
 abbrev pub heading_at : ModuleFunctions → ℕ → Heading
 heading_at t place = record { index = index_of t place; names = all_escaped t.names; parameters = parameters_at t place }
+
+-- The result of reading a function whose text ends with this fault, or the failure of allocation or
+-- of the writer.
+abbrev pub outcome_of : DisassemblyFault → Result (Result (Unit {0}) Error) Fault
+outcome_of (disassembly_fault.Refused e) = Ok (Err e)
+outcome_of disassembly_fault.Memory = Err fault.Memory
+outcome_of disassembly_fault.Writing = Err fault.Writing
 
 -- The report about the function with this index: its error, or none.
 abbrev pub refusals_of : {X : Type 0} → ℕ → Result X Error → Refusals

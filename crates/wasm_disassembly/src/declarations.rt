@@ -66,7 +66,7 @@ fn write_declaration<W: Write>(
     if push_declaration(alloc, line, offset, bytes, first, declaration).is_err() {
         return Err(DisassemblyFault::Memory);
     }
-    write_text(writer, line.as_str())
+    write_text(writer, line.as_str(), DisassemblyFault::Writing)
 }
 
 /// Writes the lines of each declaration before it reads the next. `bytes` is the body, which starts

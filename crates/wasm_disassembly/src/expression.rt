@@ -55,7 +55,7 @@ fn write_operator<W: Write>(
     let Ok(after) = write_line(line, depth, offset, bytes, &op, callee_of(names, &op)) else {
         return Err(DisassemblyFault::Memory);
     };
-    write_text(writer, line.as_str())?;
+    write_text(writer, line.as_str(), DisassemblyFault::Writing)?;
     Ok(after)
 }
 

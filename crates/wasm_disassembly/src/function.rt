@@ -33,7 +33,7 @@ fn write_heading<W: Write>(
     if write_header(line, offset, index, name).is_err() {
         return Err(DisassemblyFault::Memory);
     }
-    write_text(writer, line.as_str())
+    write_text(writer, line.as_str(), DisassemblyFault::Writing)
 }
 
 /// Writes the text of a function: its header, locals and operators. Each line is written before the

@@ -4,8 +4,8 @@ ghost use Rattle.wasm_disassembly.specs.Headers.{section_name, hex_text, range_t
 ghost use Rattle.wasm_disassembly.specs.Listing.{IsHalt};
 
 use crate::listing_fault::Fault;
-use crate::listing_writing::write_text;
 use crate::names::write_escaped;
+use crate::writing::write_text;
 use std::alloc::Global;
 use std::io::Write;
 use wasm_module::{CustomSection, Section, function_laws, read_section};
@@ -148,7 +148,7 @@ fn write_section<W: Write>(
     if push_section(alloc, line, section, detail).is_err() {
         return Err(Fault::Memory);
     }
-    write_text(writer, line.as_str())
+    write_text(writer, line.as_str(), Fault::Writing)
 }
 
 /// Writes a line for each section.

@@ -4,17 +4,28 @@ ghost use Rattle.wasm_disassembly.specs.Disassembly.{IsText};
 ghost use Rattle.wasm_operators.specs.below.Source.{Reader};
 ghost use Rattle.wasm_module.specs.ModuleFunctions.{index_of};
 ghost use Rattle.wasm_disassembly.specs.Escapes.{all_escaped};
-ghost use Rattle.wasm_disassembly.specs.Listing.{is_asked, are_none, heading_at, Refusals, Reported, WhereAsked, IsWritten, IsCode, ListsCode, IsFunction, AreAsked, Succeeds, IsHalt, IsLater};
+ghost use Rattle.wasm_disassembly.specs.Listing.{is_asked, are_none, heading_at, outcome_of, Refusals, Reported, WhereAsked, IsWritten, IsCode, ListsCode, IsFunction, AreAsked, Succeeds, IsHalt, IsLater};
 
 use crate::complaints::Complaints;
-use crate::flushed::FlushedWrite;
 use crate::listing_fault::Fault;
 use crate::names::shown_names;
 use crate::{DisassemblyFault, code_laws, disassemble};
 use std::alloc::Global;
 use std::io::Write;
+use wasm_listing::FlushedWrite;
 use wasm_module::Functions;
 use wasm_operators::{BinaryReader, CodeSectionReader, Error, FunctionBody};
+
+/// Returns the error of a function's body, or the failure of allocation or of the writer.
+fn outcome_of(fault: DisassemblyFault) -> Result<Result<(), Error>, Fault>
+    ensures { result ≡ outcome_of fault }
+{
+    match fault {
+        DisassemblyFault::Refused(e) => Ok(Err(e)),
+        DisassemblyFault::Memory => Err(Fault::Memory),
+        DisassemblyFault::Writing => Err(Fault::Writing),
+    }
+}
 
 /// Writes the text of a function and returns the result of reading it. `names` are escaped.
 fn list_function<W: Write>(
@@ -35,13 +46,11 @@ fn list_function<W: Write>(
     let parameters = functions.parameters(place);
     match disassemble(alloc, writer, index, names, parameters, body) {
         Ok(()) => Ok(Ok(())),
-        Err(DisassemblyFault::Refused(e)) => Ok(Err(e)),
-        Err(DisassemblyFault::Memory) => Err(Fault::Memory),
-        Err(DisassemblyFault::Writing) => Err(Fault::Writing),
+        Err(fault) => outcome_of(fault),
     }
 }
 
-/// Flushes the lines before the error of a function, then reports the error.
+/// Flushes the lines before the error of a function, then reports the error. Fails with `Writing`.
 fn complain<W: FlushedWrite, C: Complaints>(
     writer: &mut W,
     complaints: &mut C,
@@ -51,7 +60,7 @@ fn complain<W: FlushedWrite, C: Complaints>(
     ensures keeps { IfOk result (λ done. Keeps (W.contents writer.old) (W.contents writer.new)) }
     ensures flushed { IfOk result (λ done. W.is_flushed writer.new) }
     ensures reports { IfOk result (λ done. C.reports complaints.old index error complaints.new) }
-    ensures halts { IfErr result (λ fault. IsHalt fault) }
+    ensures err { IfErr result (λ fault. fault ≡ Fault.Writing) }
 {
     if writer.flush_all().is_err() {
         return Err(Fault::Writing);

@@ -8,15 +8,15 @@ ghost use Rattle.wasm_disassembly.specs.ModuleCensus.{CountsModule, IsCounted, C
 use crate::complaints::Complaints;
 use crate::counts::{ModuleCounts, count_code};
 use crate::cut::{after_cut, before_cut, find_cut};
-use crate::flushed::FlushedWrite;
 use crate::headers::list_sections;
 use crate::listing::list_code;
 use crate::listing_fault::Fault;
-use crate::listing_writing::write_text;
 use crate::names::write_escaped;
 use crate::opened::open_module;
+use crate::writing::write_text;
 use std::alloc::{AllocError, Global};
 use std::io::Write;
+use wasm_listing::FlushedWrite;
 use wasm_module::{function_laws, module_name, open_sections};
 use wasm_operators::WasmFeatures;
 
@@ -78,7 +78,7 @@ fn write_heading<W: Write>(
     if push_heading(alloc, &mut heading, file, name, listed).is_err() {
         return Err(Fault::Memory);
     }
-    write_text(writer, heading.as_str())
+    write_text(writer, heading.as_str(), Fault::Writing)
 }
 
 /// Writes the disassembly of a module without a section in error.

@@ -1,7 +1,7 @@
 ghost use Rattle.std.specs.Prelude.{◌≡◌, ◌++◌, ◌<◌, false, IfOk, OnOk, flat_map, map, string_bytes};
 ghost use Rattle.std.specs.Fmt.{digit_glyph};
 ghost use Rattle.wasm_module.specs.FunctionNames.{name_bytes};
-ghost use Rattle.wasm_disassembly.specs.Escapes.{escape, utf8_byte, ascii_byte, utf8_name, escaped, all_escaped};
+ghost use Rattle.wasm_disassembly.specs.Escapes.{escape, utf8_byte, ascii_byte, utf8_name, escaped, all_escaped, first_named};
 
 use std::alloc::{AllocError, Global};
 use std::str::from_utf8;
@@ -135,12 +135,9 @@ pub fn function_named(
     alloc: Global,
     functions: &Functions<'_>,
     name: &str,
-) -> Result<Option<usize>, AllocError> {
+) -> Result<Option<usize>, AllocError>
+    ensures { IfOk result (λ found. found ≡ first_named (all_escaped functions.now.names) name.now) }
+{
     let names = shown_names(alloc, functions)?;
-    for (index, shown) in names.iter().enumerate() {
-        if shown.as_str() == name {
-            return Ok(Some(index));
-        }
-    }
-    Ok(None)
+    Ok(names.iter().position(|shown| shown.as_str() == name))
 }

@@ -5,11 +5,11 @@ ghost use Rattle.wasm_disassembly.specs.Listing.{IsFunction, IsModuleOf, Succeed
 ghost use Rattle.wasm_disassembly.specs.ModuleCensus.{IsCounted, TabulatesModule};
 
 use crate::complaints::Complaints;
-use crate::flushed::FlushedWrite;
 use crate::listing_fault::Fault;
 use crate::module::{count_module, list_module};
 use crate::table::write_table;
 use std::alloc::Global;
+use wasm_listing::FlushedWrite;
 use wasm_operators::WasmFeatures;
 
 /// What is requested of a module.

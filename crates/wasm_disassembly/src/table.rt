@@ -4,7 +4,7 @@ ghost use Rattle.wasm_disassembly.specs.CountTable.{Row, IsTable, row_text, tabl
 ghost use Rattle.wasm_disassembly.specs.Listing.{IsHalt};
 
 use crate::listing_fault::Fault;
-use crate::listing_writing::write_text;
+use crate::writing::write_text;
 use std::alloc::{AllocError, Global};
 use std::cmp::Reverse;
 use std::io::Write;
@@ -57,5 +57,5 @@ pub fn write_table<W: Write>(alloc: Global, counts: &[u64; 19], writer: &mut W) 
     if push_rows(&mut text, rows.as_slice()).is_err() {
         return Err(Fault::Memory);
     }
-    write_text(writer, text.as_str())
+    write_text(writer, text.as_str(), Fault::Writing)
 }

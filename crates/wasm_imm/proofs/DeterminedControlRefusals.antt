@@ -1,4 +1,4 @@
-use Rattle.std.proofs.Common.{ℕ, zero, suc, inl, inr, List, sym, ap, ◌∙◌, ℤ, arith}
+use Rattle.std.proofs.Common.{◌≡◌, ℕ, zero, suc, ◌+◌, inl, inr, List, length, sym, subst, ap, ◌∙◌, ℤ, arith}
 use Rattle.wasm_below.specs.declared.message.Message.{Message}
 use Rattle.wasm_below.specs.declared.message.Message.TheVariants as message
 use Rattle.wasm_below.specs.declared.message.LeadingByteName.{LeadingByteName}
@@ -8,7 +8,7 @@ use Rattle.wasm_below.specs.declared.message.SizeName.TheVariants as size_name
 use Rattle.wasm_below.specs.Fault.{ThenFault, ManyFault, DeterminesRefusal}
 use Rattle.wasm_below.specs.Number.{EncodesUnsigned, EncodesSigned, EncodesSize}
 use Rattle.wasm_below.specs.Sequence.{PrefixCode}
-use Rattle.wasm_below.specs.Source.{Reader, rest, offset_of, IsByte, U32Fault, S33Fault, CountFault, EndFault}
+use Rattle.wasm_below.specs.Source.{Reader, rest, at_position, offset_of, HasRead, IsByte, U32Fault, S33Fault, CountFault, EndFault}
 use Rattle.wasm_below.specs.TypeEncoding.{EncodesHeapType, EncodesValType, HeapTypeFault, ValTypeFault}
 use Rattle.wasm_below.proofs.PrefixCode.{signed_prefix_code, size_prefix_code, byte_prefix_code}
 use Rattle.wasm_below.proofs.DeterminedRefusals.{u32_determines, s33_determines, then_determines, same_first_byte, end_determines, count_determines}
@@ -24,22 +24,43 @@ use Rattle.wasm_imm.specs.Handlers.{EncodesCatch, EncodesHandle}
 use Rattle.wasm_imm.specs.HandlerTables.{max_catches, max_handlers, max_select_types}
 use Rattle.wasm_imm.specs.ListFaults.{ListFault, TryTableFault, ResumeTableFault, SelectFault}
 use Rattle.wasm_imm.proofs.BlockTypes.{block_prefix_code}
+use Rattle.wasm_imm.proofs.ListLemmas.{PrefixAlone}
 use Rattle.wasm_imm.proofs.HandlerLemmas.{catch_prefix_code, handle_prefix_code}
 use Rattle.wasm_below.proofs.Faults.{no_byte}
 use Rattle.wasm_below.proofs.Steps.{number_prefix_code}
 
+-- Members need not be equal if their encodings are: what follows does not depend on them.
+same_end : {X : Type 0} (Encodes : List ℕ → X → Type 0) → PrefixAlone Encodes → (r s t : Reader) (x y : X) → HasRead Encodes x r s → HasRead Encodes y r t →
+    s ≡ t
+same_end Encodes prefix_alone r s t x y (text, p, h) (other, q, k) =
+    let same = prefix_alone text other (rest s) (rest t) x y p q (sym h.parts ∙ k.parts) in
+    h.moved ∙ ap (λ (z : List ℕ). at_position r (r.position + length z)) same ∙ sym k.moved
+
+many_determines_alone : {X : Type 0} (Encodes : List ℕ → X → Type 0) (Fault : Message → Reader → ℕ → Type 0) → PrefixAlone Encodes →
+    DeterminesRefusal Fault → (count : ℕ) → DeterminesRefusal (ManyFault Encodes Fault count)
+many_determines_alone Encodes Fault prefix_alone determines zero m k r a b h q = absurd h
+many_determines_alone Encodes Fault prefix_alone determines (suc n) m k r a b (inl h) (inl q) = determines m k r a b h.1 q.1
+many_determines_alone Encodes Fault prefix_alone determines (suc n) m k r a b (inl h) (inr (x, new, (text, p, t), _)) =
+    absurd (h.0 text (rest new) x p t.parts)
+many_determines_alone Encodes Fault prefix_alone determines (suc n) m k r a b (inr (x, new, (text, p, t), _)) (inl q) =
+    absurd (q.0 text (rest new) x p t.parts)
+many_determines_alone Encodes Fault prefix_alone determines (suc n) m k r a b (inr (x, s, h, u)) (inr (y, t, q, v)) =
+    many_determines_alone Encodes Fault prefix_alone determines n m k s a b u
+    (subst (λ z. ManyFault Encodes Fault n k z b) (sym (same_end Encodes prefix_alone r s t x y h q)) v)
+
 pub many_determines : {X : Type 0} (Encodes : List ℕ → X → Type 0) (Fault : Message → Reader → ℕ → Type 0) → PrefixCode Encodes → DeterminesRefusal Fault →
     (count : ℕ) → DeterminesRefusal (ManyFault Encodes Fault count)
-many_determines Encodes Fault prefix_code determines zero m k r a b h q = absurd h
-many_determines Encodes Fault prefix_code determines (suc n) m k r a b h q =
-    then_determines Encodes Fault (λ x. ManyFault Encodes Fault n) prefix_code determines (λ x. many_determines Encodes Fault prefix_code determines n) m k r
-    a b h q
+many_determines Encodes Fault prefix_code = many_determines_alone Encodes Fault (λ a b x y m n p q e. (prefix_code a b x y m n p q e).0)
+
+pub list_determines_alone : {X : Type 0} (name : SizeName) (limit : ℕ) (Encodes : List ℕ → X → Type 0) (Fault : Message → Reader → ℕ → Type 0) →
+    PrefixAlone Encodes → DeterminesRefusal Fault → DeterminesRefusal (ListFault name limit Encodes Fault)
+list_determines_alone name limit Encodes Fault prefix_alone determines =
+    then_determines (EncodesSize limit) (CountFault name limit) (ManyFault Encodes Fault) (size_prefix_code limit) (count_determines name limit)
+    (many_determines_alone Encodes Fault prefix_alone determines)
 
 pub list_determines : {X : Type 0} (name : SizeName) (limit : ℕ) (Encodes : List ℕ → X → Type 0) (Fault : Message → Reader → ℕ → Type 0) →
     PrefixCode Encodes → DeterminesRefusal Fault → DeterminesRefusal (ListFault name limit Encodes Fault)
-list_determines name limit Encodes Fault prefix_code determines =
-    then_determines (EncodesSize limit) (CountFault name limit) (ManyFault Encodes Fault) (size_prefix_code limit) (count_determines name limit)
-    (many_determines Encodes Fault prefix_code determines)
+list_determines name limit Encodes Fault prefix_code = list_determines_alone name limit Encodes Fault (λ a b x y m n p q e. (prefix_code a b x y m n p q e).0)
 
 pub branch_determines : DeterminesRefusal BranchTableFault
 branch_determines = then_determines (EncodesSize max_targets) (CountFault size_name.BrTable max_targets)

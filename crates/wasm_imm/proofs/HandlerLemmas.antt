@@ -32,17 +32,17 @@ pair_prefix_code a b x y m n (a1, a2, ea, pa, qa) (b1, b2, eb, pb, qb) e =
 abbrev second_of : ℕ → List ℕ → ℕ × ℕ → Type 0
 second_of first text p = EncodesUnsigned 32 text p.1
 
-pair_as : {e : Error} {old : Reader} → Fails (Then (EncodesUnsigned 32) second_of) PairFault e old → Fails EncodesPair PairFault e old
-pair_as =
+pair_fails : {e : Error} {old : Reader} → Fails (Then (EncodesUnsigned 32) second_of) PairFault e old → Fails EncodesPair PairFault e old
+pair_fails =
     fails_as (Then (EncodesUnsigned 32) second_of) EncodesPair PairFault PairFault (λ text p (a, b, ab, pa, pb). (p, (a, b, p.0, ab, pa, pb))) (λ f. f)
 
 pub pair_first : {e : Error} {old : Reader} → Fails (EncodesUnsigned 32) U32Fault e old → Fails EncodesPair PairFault e old
-pair_first h = pair_as (first_fails (EncodesUnsigned 32) second_of U32Fault (λ tag. U32Fault) h)
+pair_first h = pair_fails (first_fails (EncodesUnsigned 32) second_of U32Fault (λ tag. U32Fault) h)
 
 pub pair_second : (old mid : Reader) (first : ℕ) → HasRead (EncodesUnsigned 32) first old mid → {e : Error} → Fails (EncodesUnsigned 32) U32Fault e mid →
     Fails EncodesPair PairFault e old
 pair_second old mid first r h =
-    pair_as (second_fails (EncodesUnsigned 32) second_of U32Fault (λ tag. U32Fault) (number_prefix_code 32) r
+    pair_fails (second_fails (EncodesUnsigned 32) second_of U32Fault (λ tag. U32Fault) (number_prefix_code 32) r
     (fails_as (EncodesUnsigned 32) (second_of first) U32Fault U32Fault (λ text p q. (p.1, q)) (λ f. f) h))
 
 pub pair_read : (old mid new : Reader) (first second : ℕ) → HasRead (EncodesUnsigned 32) first old mid → HasRead (EncodesUnsigned 32) second mid new →

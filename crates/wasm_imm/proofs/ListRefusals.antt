@@ -1,4 +1,4 @@
-use Rattle.std.proofs.Common.{◌≡◌, ◌≢◌, ℕ, ◌+◌, ◌<◌, ◌≤◌, ◌⊎◌, inl, inr, List, ◌++◌, length, Result, Ok, Err, refl, sym, subst, ap, ◌∙◌, append_assoc, arith}
+use Rattle.std.proofs.Common.{◌≡◌, ◌≢◌, ℕ, ◌+◌, ◌<◌, ◌≤◌, ◌⊎◌, inl, inr, List, ◌++◌, length, Result, Ok, Err, Vec, Global, refl, sym, subst, ap, ◌∙◌, append_assoc, arith}
 use Rattle.std.specs.Prelude.{⊤, IsErrAnd}
 use Rattle.wasm_below.specs.declared.error.Error.{Error}
 use Rattle.wasm_below.specs.declared.message.Message.{Message}
@@ -9,7 +9,7 @@ use Rattle.wasm_below.specs.Refusal.{IsReadFault}
 use Rattle.wasm_below.specs.Sequence.{Then, PrefixCode}
 use Rattle.wasm_below.specs.Source.{Reader, rest, offset_of, end_of, at_position, Takes, NoPrefix, SomePrefix, MayFollow, IsAhead, IsRefusal, HasRead}
 use Rattle.wasm_below.proofs.TakesLemmas.{back, ahead_before}
-use Rattle.wasm_imm.specs.Lists.{EncodesMany}
+use Rattle.wasm_imm.specs.Lists.{EncodesMany, items_of}
 use Rattle.wasm_imm.proofs.Faults.{none_here, kept_fault, many_fault}
 use Rattle.wasm_imm.specs.OutOfMemory.{IsOutOfMemoryAt, IsRefusedFrom}
 use Rattle.wasm_below.proofs.Steps.{began_within}
@@ -80,6 +80,13 @@ pub stays_refused : {X : Type 0} (P : List ℕ → X → Type 0) (F : Message �
     {copy old : Reader} → copy ≡ old → IsErrAnd r (λ y. y ≡ e) → IsRefused P F M e copy → ReadsValue P F M r old old
 stays_refused P F M (Ok x) same is h = absurd is
 stays_refused P F M (Err y) {e} {copy} {old} same is h =
+    (refl, subst (λ z. IsRefused P F M y z) same (subst (λ z. IsRefused P F M z copy) (sym is) h))
+
+-- the same for the items of a vector
+pub items_stay_refused : {X : Type 0} (P : List ℕ → List X → Type 0) (F : Message → Reader → ℕ → Type 0) (M : Reader → Type 0) (r : Result (Vec X Global) Error)
+    {e : Error} {copy old : Reader} → copy ≡ old → IsErrAnd r (λ y. y ≡ e) → IsRefused P F M e copy → ReadsValue P F M (items_of r) old old
+items_stay_refused P F M (Ok v) same is h = absurd is
+items_stay_refused P F M (Err y) {e} {copy} {old} same is h =
     (refl, subst (λ z. IsRefused P F M y z) same (subst (λ z. IsRefused P F M z copy) (sym is) h))
 
 -- a call that does not allocate reports no allocation failure

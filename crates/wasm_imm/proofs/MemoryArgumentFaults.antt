@@ -1,17 +1,17 @@
-use Rattle.std.proofs.Common.{◌≡◌, ℕ, ◌<◌, inl, inr, Option, None, subst, arith}
+use Rattle.std.proofs.Common.{◌≡◌, ℕ, ◌<◌, inl, inr, Option, None, arith}
 use Rattle.wasm_below.specs.declared.features.WasmFeatures.{WasmFeatures}
 use Rattle.wasm_below.specs.declared.error.Error.{Error}
 use Rattle.wasm_below.specs.declared.message.Message.{Message}
 use Rattle.wasm_below.specs.declared.message.Message.TheVariants as message
 use Rattle.wasm_below.specs.Number.{EncodesUnsigned}
-use Rattle.wasm_below.specs.Source.{Reader, offset_of, IsRefusal, HasRead}
+use Rattle.wasm_below.specs.Source.{Reader, IsRefusal, HasRead}
 use Rattle.wasm_below.proofs.Blocks.{refused_now}
 use Rattle.wasm_imm.specs.declared.memory_argument.MemArgTarget.{MemArgTarget}
 use Rattle.wasm_imm.specs.declared.memory_argument.MemArgTarget.TheVariants as target
 use Rattle.wasm_imm.specs.declared.memory_argument.MemArgOrdering.{MemArgOrdering}
 use Rattle.wasm_imm.specs.declared.memory_argument.MemArgKind.{MemArgKind}
 use Rattle.wasm_imm.specs.FlagsNumber.{NamesBoth, OrdersPlain, IsReserved, IsTarget, IsOrdering}
-use Rattle.wasm_imm.specs.MemoryArgumentFaults.{TargetFault, OrderingFault, OffsetFault, FlagsFault, MemArgFault}
+use Rattle.wasm_imm.specs.MemoryArgumentFaults.{TargetFault, OrderingFault, OffsetFault, FlagsFault}
 use Rattle.wasm_imm.proofs.FlagsNumber.{memory_zero, no_ordering, none_reserved}
 
 module _ (f : WasmFeatures) (k : MemArgKind) (flags start : ℕ) (mid : Reader) (one : ¬ NamesBoth f flags) where

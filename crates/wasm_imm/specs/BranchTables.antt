@@ -9,6 +9,7 @@ pub record BranchTable : Type 0 where
   pub targets : List ℕ
   pub default : ℕ
 
+-- The bytes encode that many targets.
 abbrev pub AreTargets : ℕ → List ℕ → Type 0
 AreTargets count bytes = (numbers : List ℕ) × EncodesMany (EncodesUnsigned 32) count bytes numbers
 

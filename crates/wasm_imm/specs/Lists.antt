@@ -1,5 +1,6 @@
 -- Specification: Binary Format, Lists.
-use Rattle.std.specs.Prelude.{◌≡◌, ℕ, List, [], ◌∷◌, ◌++◌, length}
+use Rattle.std.specs.Prelude.{◌≡◌, ℕ, List, [], ◌∷◌, ◌++◌, length, Vec, Result, Ok, Err}
+use Rattle.wasm_below.specs.declared.error.Error.{Error}
 use Rattle.wasm_below.specs.Number.{EncodesSize}
 use Rattle.wasm_below.specs.Sequence.{Then}
 use Rattle.wasm_below.specs.Source.{Reader, rest, SomePrefix}
@@ -20,3 +21,8 @@ HasCount limit r = SomePrefix (EncodesSize limit) (rest r)
 --   list(X) ::= n:u32 (el:X)^n ⇒ el^n
 abbrev pub EncodesList : {X : Type 0} → ℕ → (List ℕ → X → Type 0) → List ℕ → List X → Type 0
 EncodesList limit Encodes = Then (EncodesSize limit) (EncodesMany Encodes)
+
+-- The items of a vector that a call returned.
+abbrev pub items_of : {X Z : Type 0} → Result (Vec X Z) Error → Result (List X) Error
+items_of (Ok v) = Ok v.items
+items_of (Err e) = Err e

@@ -7,7 +7,7 @@ ghost use Rattle.wasm_below.specs.Source.{Reads, U32Fault};
 ghost use Rattle.wasm_below.specs.Number.{EncodesUnsigned};
 ghost use Rattle.wasm_imm.specs.Lists.{EncodesMany};
 ghost use Rattle.wasm_imm.specs.BranchTableFaults.{BranchTableFault};
-ghost use Rattle.wasm_imm.specs.BranchTables.{EncodesBranchTable, EncodesTargets, HasTargets};
+ghost use Rattle.wasm_imm.specs.BranchTables.{AreTargets, EncodesBranchTable, EncodesTargets, HasTargets, max_targets};
 
 use std::alloc::AllocError;
 use std::marker::Model;
@@ -27,13 +27,14 @@ pub struct BrTable<'a> {
 }
 
 impl<'a> Model for BrTable<'a> {
-    ghost use Rattle.wasm_imm.specs.BranchTables.{BranchTable, AreTargets};
+    ghost use Rattle.std.specs.Prelude.{◌≤◌};
+    ghost use Rattle.wasm_imm.specs.BranchTables.{BranchTable, AreTargets, max_targets};
 
     ghost Value = { BranchTable };
 
     ghost view = { λ t. record { count = t.count; targets = t.targets.now; default = t.default } };
 
-    ghost invariant = { λ t. AreTargets t.count t.targets.now };
+    ghost invariant = { λ t. AreTargets t.count t.targets.now × (t.count ≤ max_targets) };
 }
 
 impl<'a> BrTable<'a> {
@@ -72,6 +73,15 @@ impl<'a> BrTable<'a> {
         ensures { result ≡ self.now.default }
     {
         self.default
+    }
+
+    /// Returns the bytes of the targets, without the default target.
+    pub fn target_bytes(&self) -> &[u8]
+        ensures bytes { result.now ≡ self.now.targets }
+        ensures targets { AreTargets self.now.count self.now.targets }
+        ensures limit { self.now.count ≤ max_targets }
+    {
+        self.targets
     }
 
     /// Returns an iterator over the targets, without the default target.

@@ -3,6 +3,8 @@
 //! `determines_refusal` of `FromReader` state the first two.
 ghost use Rattle.std.specs.Prelude.{◌≡◌, ℕ, List, [], ◌∷◌, map, true, Result, Ok, Err};
 ghost use Rattle.wasm_below.specs.declared.error.Error.{Error};
+ghost use Rattle.wasm_below.specs.declared.features.WasmFeatures.{WasmFeatures};
+ghost use Rattle.wasm_below.specs.declared.message.SizeName.{SizeName};
 ghost use Rattle.wasm_below.specs.Equality.{IsExact};
 ghost use Rattle.wasm_below.specs.Fault.{DeterminesRefusal};
 ghost use Rattle.wasm_below.specs.Number.{EncodesUnsigned};
@@ -14,11 +16,12 @@ ghost use Rattle.wasm_imm.specs.BranchTables.{BranchTable, EncodesBranchTable, n
 ghost use Rattle.wasm_imm.specs.CastFaults.{CastFault};
 ghost use Rattle.wasm_imm.specs.Casts.{EncodesCast};
 ghost use Rattle.wasm_imm.specs.HandlerTables.{EncodesSelect};
-ghost use Rattle.wasm_imm.specs.ListFaults.{SelectFault};
+ghost use Rattle.wasm_imm.specs.ListFaults.{ListFault, SelectFault};
 ghost use Rattle.wasm_imm.specs.Lists.{EncodesMany};
 ghost use Rattle.wasm_imm.specs.BranchTableEquality.{same_table};
 
 use crate::{BlockType, ResumeTable, TryTable};
+use wasm_below::FromReader;
 
 pub fn block_types()
     ensures { PrefixCode EncodesBlockType }
@@ -42,6 +45,15 @@ pub fn control_refusals()
     ensures cast { DeterminesRefusal CastFault }
     ensures select { DeterminesRefusal SelectFault }
 {}
+
+/// States that the fault of a list of members that `FromReader` reads determines the error.
+pub fn list_refusals<'a, T: FromReader<'a>>()
+    ensures { (name : SizeName) (limit : ℕ) (features : WasmFeatures)
+        → DeterminesRefusal (ListFault name limit (T.encodes features) T.fault) }
+{
+    T::is_prefix_code();
+    T::determines_refusal();
+}
 
 /// States that bytes encode one list of targets.
 pub fn target_numbers()

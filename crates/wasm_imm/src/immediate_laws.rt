@@ -1,5 +1,6 @@
-ghost use Rattle.std.specs.Prelude.{◌≡◌, ℕ, List, ◌++◌, map};
+ghost use Rattle.std.specs.Prelude.{◌≡◌, ℕ, ◌+◌, List, ◌++◌, length, map};
 ghost use Rattle.wasm_below.specs.Equality.{IsExact};
+ghost use Rattle.wasm_below.specs.Source.{Reader, Takes, offset_of};
 ghost use Rattle.wasm_imm.specs.Immediate.{Immediate, kind_of, EncodesImmediates};
 
 use crate::{MemArg, Ordering, V128};
@@ -14,6 +15,12 @@ pub fn immediates(features: WasmFeatures)
         → EncodesImmediates features b js
         → a ++ x ≡ b ++ y
         → (is ≡ js) × (a ≡ b) }
+{}
+
+/// States that after a read the reader is after the bytes that were read, with the same features.
+pub fn place_after()
+    ensures { (old new : Reader) (text : List ℕ) → Takes old new text
+        → (offset_of new ≡ offset_of old + length text) × (new.features ≡ old.features) }
 {}
 
 pub fn equality()

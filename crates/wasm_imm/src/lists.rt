@@ -1,9 +1,9 @@
-ghost use Rattle.std.specs.Prelude.{◌≡◌, ◌+◌, ◌≤◌, ⊤, false};
+ghost use Rattle.std.specs.Prelude.{◌≡◌, ◌+◌, ◌≤◌, ⊤, false, IfOk, vec_capacity};
 ghost use Rattle.wasm_below.specs.Fault.{ManyFault};
 ghost use Rattle.wasm_below.specs.FromReader.{ReadsValue};
 ghost use Rattle.wasm_below.specs.Source.{at_position, offset_of, end_of};
 ghost use Rattle.wasm_imm.specs.ListFaults.{ListFault};
-ghost use Rattle.wasm_imm.specs.Lists.{HasCount, EncodesMany, EncodesList};
+ghost use Rattle.wasm_imm.specs.Lists.{HasCount, EncodesMany, EncodesList, items_of};
 ghost use Rattle.wasm_imm.specs.OutOfMemory.{IsRefusedFrom};
 
 use crate::members::Members;
@@ -35,6 +35,7 @@ pub fn read_list<'a, T: FromReader<'a>>(
     }
 }
 
+/// Reads `count` members, as `read_items` does.
 pub fn read_members<'a, T: FromReader<'a>>(
     alloc: Global,
     reader: &mut BinaryReader<'a>,
@@ -45,6 +46,24 @@ pub fn read_members<'a, T: FromReader<'a>>(
     ensures { ReadsValue (EncodesMany (T.encodes reader.old.features) count)
         (ManyFault (T.encodes reader.old.features) T.fault count) (λ old. ⊤) result reader.old reader.new }
 {
+    match read_items::<T>(alloc, reader, count) {
+        Ok(items) => Ok(Members::from_vec(items)),
+        Err(e) => Err(e),
+    }
+}
+
+/// Reads `count` items. Allocates once, for exactly that many.
+fn read_items<'a, T: FromReader<'a>>(
+    alloc: Global,
+    reader: &mut BinaryReader<'a>,
+    count: usize,
+) -> Result<Vec<T>>
+    requires lean { T.Memory.TAKES ≡ false }
+    requires within { offset_of reader.old ≤ end_of reader.old }
+    ensures reads { ReadsValue (EncodesMany (T.encodes reader.old.features) count)
+        (ManyFault (T.encodes reader.old.features) T.fault count) (λ old. ⊤) (items_of result) reader.old reader.new }
+    ensures exact { IfOk result (λ items. vec_capacity items ≡ count) }
+{
     T::is_prefix_code();
     let mut ahead = reader.clone();
     let mut items = match Vec::with_capacity(alloc, count) {
@@ -53,10 +72,10 @@ pub fn read_members<'a, T: FromReader<'a>>(
     };
     for _member in 0..count {
         let item = T::from_reader(alloc, &mut ahead)?;
-        items.push(item).unwrap();
+        items.push_reserved(item);
     }
     *reader = ahead;
-    Ok(Members::from_vec(items))
+    Ok(items)
 }
 
 /// Goes back to `position`, where a call began. `OutOfMemory` gets that offset; other errors are

@@ -1,4 +1,4 @@
-ghost use Rattle.std.specs.Prelude.{◌≡◌, ◌↔◌, [], length, IsTrue, IfOk, IfErr, Ok, option_copied, slice_get};
+ghost use Rattle.std.specs.Prelude.{◌≡◌, ◌↔◌, ◌<◌, ◌^◌, [], length, IsTrue, IfOk, IfErr, Ok, option_copied, slice_get, slice_index_or};
 ghost use Rattle.std.specs.Slice.Iter.{iter_rest};
 ghost use Rattle.std.specs.Iterator.Adapters.{IterYieldsInOrder};
 ghost use Rattle.wasm_imm.specs.OutOfMemory.{IsOutOfMemoryAt};
@@ -6,6 +6,7 @@ ghost use Rattle.wasm_imm.specs.OutOfMemory.{IsOutOfMemoryAt};
 use crate::handlers::{Catch, Handle};
 use std::alloc::Global;
 use std::marker::Model;
+use std::ops::Index;
 use std::slice::Iter;
 use wasm_below::{Error, Message, Result, ValType};
 
@@ -74,6 +75,39 @@ impl<T> Members<T> {
         ensures { IsTrue result ↔ (self.now ≡ []) }
     {
         self.items.is_empty()
+    }
+}
+
+impl<T> From<Vec<T>> for Members<T> {
+    ghost from_gives = { λ items members. members ≡ items.items };
+
+    fn from(items: Vec<T>) -> Members<T> {
+        Members::from_vec(items)
+    }
+}
+
+impl<T> Index<usize> for Members<T> {
+    type Output = T;
+
+    ghost can_index = { λ members index. index < length members };
+
+    ghost index_gives = { λ members index item. item ≡ slice_index_or members index item };
+
+    fn index(&self, index: usize) -> &T {
+        &self.as_slice()[index]
+    }
+}
+
+impl<'a, T> IntoIterator for &'a Members<T> {
+    type Item = &'a T;
+
+    type IntoIter = Iter<'a, T>;
+
+    ghost into_iter_gives = { λ members items. (iter_rest items ≡ members.now) × (length (iter_rest items) < 2 ^ 64)
+        × IterYieldsInOrder T };
+
+    fn into_iter(self) -> Iter<'a, T> {
+        self.as_slice().iter()
     }
 }
 

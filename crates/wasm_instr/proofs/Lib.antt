@@ -4,3 +4,4 @@ pub mod OperatorPrefixCode
 pub mod SharedOpcodes
 pub mod HighBytes
 pub mod FirstBytes
+pub mod JoinedRoles

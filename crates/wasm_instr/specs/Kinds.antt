@@ -5,13 +5,13 @@ use Rattle.wasm_instr.specs.declared.operator.Operator.TheVariants as operator
 use Rattle.wasm_instr.specs.Row.{proposal_of}
 
 -- The operator's proposal is simd or relaxed_simd.
-abbrev pub IsSimd : Operator → Type 0
-IsSimd op = (proposal_of op ≡ proposal.Simd) ⊎ (proposal_of op ≡ proposal.RelaxedSimd)
+abbrev pub HasSimdProposal : Operator → Type 0
+HasSimdProposal op = (proposal_of op ≡ proposal.Simd) ⊎ (proposal_of op ≡ proposal.RelaxedSimd)
 
 -- The operator's variant is Simd.
-abbrev pub IsVector : Operator → Type 0
-IsVector (operator.Simd _) = Unit {0}
-IsVector _ = ⊥
+abbrev pub IsSimd : Operator → Type 0
+IsSimd (operator.Simd _) = Unit {0}
+IsSimd _ = ⊥
 
 -- The operator owns a list.
 abbrev pub HoldsList : Operator → Type 0

@@ -22,6 +22,7 @@ role_of (operator.Delegate it) = delegates it
 role_of operator.End = ends
 role_of op = plain op
 
+-- The roles of operators, in order.
 abbrev pub roles_of : List Operator → List (Role Operator)
 roles_of [] = []
 roles_of (op ∷ ops) = role_of op ∷ roles_of ops

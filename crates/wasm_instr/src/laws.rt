@@ -1,4 +1,4 @@
-ghost use Rattle.std.specs.Prelude.{◌≡◌, ◌≤◌, ◌⊎◌, ℕ, List, ◌++◌, Some};
+ghost use Rattle.std.specs.Prelude.{◌≡◌, ◌≤◌, ◌⊎◌, ℕ, List, [], ◌∷◌, ◌++◌, Some};
 ghost use Rattle.wasm_grammar.specs.declared.frame_change.FrameChange.{FrameChange};
 ghost use Rattle.wasm_grammar.specs.declared.frame_kind.FrameKind.{FrameKind};
 ghost use Rattle.wasm_grammar.specs.Frames.{Allows, change_of, frames_after, frames_changed, innermost};
@@ -9,7 +9,7 @@ ghost use Rattle.wasm_instr.specs.declared.operator.Operator.{Operator};
 ghost use Rattle.wasm_instr.specs.Kinds.{IsTypedSelect};
 ghost use Rattle.wasm_instr.specs.Row.{prefix_of, opcode_of, name_of};
 ghost use Rattle.wasm_instr.specs.Encoding.{EncodesOperator};
-ghost use Rattle.wasm_instr.specs.Roles.{change_at, role_of};
+ghost use Rattle.wasm_instr.specs.Roles.{change_at, role_of, roles_of};
 
 use crate::Operator;
 use wasm_below::WasmFeatures;
@@ -21,6 +21,18 @@ pub fn operators(features: WasmFeatures)
         → EncodesOperator features b other
         → a ++ x ≡ b ++ y
         → (op ≡ other) × (a ≡ b) }
+{}
+
+/// States that the bytes 0x0b, 0x05 and 0x00 encode `end`, `else` and `unreachable`, under every set
+/// of features.
+pub fn single_bytes()
+    ensures ends { (f : WasmFeatures) → EncodesOperator f (0x0b ∷ []) Operator.End }
+    ensures turns { (f : WasmFeatures) → EncodesOperator f (0x05 ∷ []) Operator.Else }
+    ensures traps { (f : WasmFeatures) → EncodesOperator f (0x00 ∷ []) Operator.Unreachable }
+{}
+
+pub fn joined_roles()
+    ensures { (first second : List Operator) → roles_of (first ++ second) ≡ roles_of first ++ roles_of second }
 {}
 
 /// States that two variants share an opcode only if they are `TypedSelect` and `TypedSelectMulti`.

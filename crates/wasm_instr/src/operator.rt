@@ -2,7 +2,7 @@
 ghost use Rattle.std.specs.Prelude.{◌≡◌, ◌↔◌, IsTrue, IfOk, IfErr};
 ghost use Rattle.wasm_imm.specs.OutOfMemory.{IsOutOfMemoryAt};
 ghost use Rattle.wasm_instr.specs.Row.{proposal_of, name_of, prefix_of, opcode_of};
-ghost use Rattle.wasm_instr.specs.Kinds.{IsSimd, IsVector, HoldsList};
+ghost use Rattle.wasm_instr.specs.Kinds.{HasSimdProposal, IsSimd, HoldsList};
 
 use std::alloc::Global;
 use std::fmt::{self, Debug, Formatter};
@@ -457,7 +457,9 @@ impl<'a> Operator<'a> {
         }
     }
 
-    fn code(&self) -> u32
+    /// Returns the opcode; after a prefix byte, the subopcode.
+    #[inline(always)]
+    pub fn code(&self) -> u32
         ensures { result ≡ opcode_of self.now }
     {
         match self {
@@ -540,18 +542,18 @@ impl<'a> Operator<'a> {
             Operator::ResumeThrow { .. } => 0xe4,
             Operator::ResumeThrowRef { .. } => 0xe5,
             Operator::Switch { .. } => 0xe6,
-            Operator::Numeric(op) => op.info().code,
-            Operator::Gc(op) => op.info().code,
-            Operator::Misc(op) => op.info().code,
-            Operator::Simd(op) => op.info().code,
-            Operator::Atomic(op) => op.info().code,
+            Operator::Numeric(op) => op.code(),
+            Operator::Gc(op) => op.code(),
+            Operator::Misc(op) => op.code(),
+            Operator::Simd(op) => op.code(),
+            Operator::Atomic(op) => op.code(),
         }
     }
 
     /// Returns whether the proposal is `simd` or `relaxed_simd`.
     pub fn is_simd(&self) -> bool
+        ensures proposal { IsTrue result ↔ HasSimdProposal self.now }
         ensures simd { IsTrue result ↔ IsSimd self.now }
-        ensures vector { IsTrue result ↔ IsVector self.now }
     {
         matches!(self, Operator::Simd(_))
     }

@@ -538,7 +538,9 @@ impl AtomicOperator {
         }
     }
 
-    fn code(&self) -> u32
+    /// Returns the subopcode.
+    #[inline(always)]
+    pub fn code(&self) -> u32
         ensures { result ≡ atomic_subopcode self.now }
     {
         match self {

@@ -207,7 +207,9 @@ impl GcOperator {
         }
     }
 
-    fn code(&self) -> u32
+    /// Returns the subopcode.
+    #[inline(always)]
+    pub fn code(&self) -> u32
         ensures { result ≡ gc_subopcode self.now }
     {
         match self {

@@ -102,7 +102,9 @@ impl MiscOperator {
         }
     }
 
-    fn code(&self) -> u32
+    /// Returns the subopcode.
+    #[inline(always)]
+    pub fn code(&self) -> u32
         ensures { result ≡ misc_subopcode self.now }
     {
         match self {

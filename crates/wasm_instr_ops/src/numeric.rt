@@ -303,7 +303,9 @@ impl NumericOperator {
         }
     }
 
-    fn code(&self) -> u32
+    /// Returns the opcode.
+    #[inline(always)]
+    pub fn code(&self) -> u32
         ensures { result ≡ numeric_opcode self.now }
     {
         *self as u32

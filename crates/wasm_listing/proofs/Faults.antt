@@ -8,7 +8,7 @@ use Rattle.wasm_operators.specs.Expression.{Placed}
 use Rattle.wasm_operators.specs.Locals.{Declaration}
 use Rattle.wasm_listing.specs.declared.fault.DumpFault.{DumpFault}
 use Rattle.wasm_listing.specs.declared.fault.DumpFault.TheVariants as fault
-use Rattle.wasm_listing.specs.Dump.{input_of, IsBody, Lists, Dumps, IsNotRefused, WritesNothing}
+use Rattle.wasm_listing.specs.Dump.{input_of, IsBody, Lists, Dumps, IsNotRefused, WritesLines, WritesNothing}
 
 dumps_one : (f : WasmFeatures) (bytes : List ℕ) (e : DumpFault) (old new : Option (List ℕ)) → WritesNothing e →
     Dumps {X = Unit {0}} (input_of f bytes) (Err e) old new
@@ -27,6 +27,12 @@ not_refused (fault.Refused e) h = h
 not_refused fault.Reading h = tt
 not_refused fault.Writing h = tt
 not_refused fault.Memory h = tt
+
+pub no_lines : (e : DumpFault) → WritesNothing e → WritesLines {X = Unit {0}} (Err e) → ⊥
+no_lines (fault.Refused e) nothing lines = nothing
+no_lines fault.Reading nothing lines = lines
+no_lines fault.Writing nothing lines = lines
+no_lines fault.Memory nothing lines = lines
 
 pub whole_fault : (known : Option (List ℕ)) (f : WasmFeatures) (e : DumpFault) → WritesNothing e →
     IfSome known (λ bytes. (declarations : List Declaration) (placed : Placed) → IsBody (input_of f bytes) declarations placed →

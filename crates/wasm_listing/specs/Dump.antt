@@ -52,6 +52,12 @@ abbrev pub IsNotRefused : {X : Type 0} → Result X DumpFault → Type 0
 IsNotRefused (Err (fault.Refused e)) = ⊥
 IsNotRefused _ = Unit {0}
 
+-- All lines are written: of the body's operators, or of those before an error.
+abbrev pub WritesLines : {X : Type 0} → Result X DumpFault → Type 0
+WritesLines (Ok x) = Unit {0}
+WritesLines (Err (fault.Refused e)) = Unit {0}
+WritesLines (Err _) = ⊥
+
 -- The faults that occur before anything is written.
 abbrev pub WritesNothing : DumpFault → Type 0
 WritesNothing fault.Reading = Unit {0}

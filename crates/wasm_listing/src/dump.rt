@@ -4,14 +4,15 @@ ghost use Rattle.wasm_operators.specs.Expression.{Placed};
 ghost use Rattle.wasm_operators.specs.Body.{ReadsBody};
 ghost use Rattle.wasm_operators.specs.Reading.{Adds};
 ghost use Rattle.wasm_operators.specs.Locals.{Declaration};
-ghost use Rattle.wasm_listing.specs.Dump.{input_of, IsBody, Lists, Dumps, WritesNothing, IsNotRefused};
+ghost use Rattle.wasm_listing.specs.Dump.{input_of, IsBody, Lists, Dumps, WritesLines, WritesNothing, IsNotRefused};
 
 use crate::body::open_body;
 use crate::fault::DumpFault;
+use crate::flushed::FlushedWrite;
 use crate::input::read_input;
 use crate::lines::lines_of;
 use std::alloc::Global;
-use std::io::{Read, Write};
+use std::io::Read;
 use wasm_operators::{Error, Message, Operator, WasmFeatures, body_laws};
 
 #[derive(Drop)]
@@ -64,24 +65,26 @@ fn is_memory(end: &Result<(), Error>) -> bool
     }
 }
 
-fn write_text<W: Write>(writer: &mut W, text: &str) -> Result<(), DumpFault>
+/// Writes a text and flushes the writer. Fails with `Writing` only.
+fn write_text<W: FlushedWrite>(writer: &mut W, text: &str) -> Result<(), DumpFault>
     ensures ok { OnOk result (Appends (W.contents writer.old) (W.contents writer.new) text.now) }
+    ensures flushed { OnOk result (W.is_flushed writer.new) }
     ensures err { IfErr result (λ fault. fault ≡ DumpFault.Writing) }
 {
     if writer.write_all(text.as_bytes()).is_err() {
         return Err(DumpFault::Writing);
     }
-    if writer.flush().is_err() {
+    if writer.flush_all().is_err() {
         return Err(DumpFault::Writing);
     }
     Ok(())
 }
 
-/// Reads a body, and writes a line for each of its operators.
+/// Reads a body, writes a line for each of its operators, and flushes the writer.
 ///
 /// Fails with `Refused` after the lines before an error. Fails with `Reading` or `Memory` before
 /// anything is written, and with `Writing` after an unspecified part.
-pub fn run<R: Read, W: Write>(
+pub fn run<R: Read, W: FlushedWrite>(
     alloc: Global,
     features: WasmFeatures,
     reader: &mut R,
@@ -93,6 +96,7 @@ pub fn run<R: Read, W: Write>(
     ensures whole { IfSome (R.remaining reader.old) (λ bytes.
         (declarations : List Declaration) → (placed : Placed) → IsBody (input_of features bytes) declarations placed
         → IsNotRefused result) }
+    ensures flushed { WritesLines result → W.is_flushed writer.new }
     ensures nothing { IfErr result (λ fault. WritesNothing fault → writer.new ≡ writer.old) }
 {
     let input = read_input(alloc, reader)?;

@@ -3,7 +3,7 @@ ghost use Rattle.wasm_listing.specs.Dump.{WritesNothing};
 
 use crate::fault::DumpFault;
 use std::alloc::Global;
-use std::io::Read;
+use std::io::{ErrorKind, Read};
 
 /// Reads until no bytes are returned. Fails with `Reading` if a read fails.
 pub fn read_input<R: Read>(alloc: Global, reader: &mut R) -> Result<Vec<u8>, DumpFault>
@@ -11,16 +11,11 @@ pub fn read_input<R: Read>(alloc: Global, reader: &mut R) -> Result<Vec<u8>, Dum
     ensures fault { IfErr result (λ fault. WritesNothing fault) }
 {
     let mut input = Vec::new(alloc);
-    let mut chunk = [0u8; 65536];
-    loop {
-        let Ok(count) = reader.read(&mut chunk) else {
-            return Err(DumpFault::Reading);
-        };
-        if count == 0 {
-            return Ok(input);
-        }
-        if input.extend_from_slice(&chunk[..count]).is_err() {
-            return Err(DumpFault::Memory);
-        }
+    match reader.read_to_end(&mut input) {
+        Ok(_) => Ok(input),
+        Err(error) => match error.kind() {
+            ErrorKind::OutOfMemory => Err(DumpFault::Memory),
+            _ => Err(DumpFault::Reading),
+        },
     }
 }

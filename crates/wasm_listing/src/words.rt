@@ -17,7 +17,7 @@ pub fn features_of(word: Option<&str>) -> Option<WasmFeatures>
         return Some(WasmFeatures::all());
     }
     if text == "none" {
-        return Some(WasmFeatures::none());
+        return Some(WasmFeatures::empty());
     }
     from_str_strict(text).ok()
 }

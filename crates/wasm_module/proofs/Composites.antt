@@ -9,10 +9,14 @@ use Rattle.wasm_below.specs.Ahead.{Fails, ReadsAhead}
 use Rattle.wasm_module.specs.Types.{EncodesValueTypes, ValueTypesFault, EncodesSignature, SignatureFault, IsField, FieldFault, EncodesFields, FieldsFault, EncodesAfterByte, FaultAfterByte, EncodesComposite, CompositeFault, NamesSupertypes, EncodesIndices, IndicesFault, EncodesWithSupertypes, WithSupertypesFault, EncodesSubAfterByte, SubFaultAfterByte, EncodesSubType, SubTypeFault, EncodesRecTypeLength, RecTypeLengthFault}
 use Rattle.wasm_module.specs.declared.composite.CompositeType.{CompositeType}
 use Rattle.wasm_module.specs.declared.composite.CompositeType.TheVariants as composite
+use Rattle.wasm_below.proofs.Ahead.{fails_as}
+use Rattle.wasm_below.proofs.Blocks.{refused_now}
+use Rattle.wasm_below.proofs.DeterminedRefusals.{then_determines, end_determines}
+use Rattle.wasm_below.proofs.PrefixCode.{byte_prefix_code}
+use Rattle.wasm_below.proofs.Sequences.{then_prefix_code}
 use Rattle.wasm_module.proofs.Fields.{field_code, field_determines}
 use Rattle.wasm_module.proofs.Many.{length_code, length_determines}
-use Rattle.wasm_module.proofs.Parts.{refused_now, then_determines, byte_prefix_code, end_determines}
-use Rattle.wasm_module.proofs.Sequences.{then_code, both_code, refused_as}
+use Rattle.wasm_module.proofs.Sequences.{both_code}
 
 module _ (byte : ℕ) where
   pub function_read : byte ≡ 0x60 → {old new : Reader} {parameters results : ℕ} → HasRead EncodesSignature (parameters, results) old new →
@@ -35,7 +39,7 @@ module _ (byte : ℕ) where
   pub function_refused : byte ≡ 0x60 → {e : Error} {old : Reader} → Fails EncodesSignature SignatureFault e old →
       Fails (EncodesAfterByte byte) (FaultAfterByte byte) e old
   function_refused is =
-      refused_as EncodesSignature (EncodesAfterByte byte) SignatureFault (FaultAfterByte byte) (as_function is) (λ f. inl (is, f))
+      fails_as EncodesSignature (EncodesAfterByte byte) SignatureFault (FaultAfterByte byte) (as_function is) (λ f. inl (is, f))
 
   as_struct : byte ≡ 0x5f → (text : List ℕ) (ty : CompositeType) → EncodesAfterByte byte text ty → (n : ℕ) × EncodesFields text n
   as_struct is text (composite.Function parameters results) b = let other = b.0 in absurd (omega (arith, is, other))
@@ -46,7 +50,7 @@ module _ (byte : ℕ) where
   pub struct_refused : byte ≡ 0x5f → {e : Error} {old : Reader} → Fails EncodesFields FieldsFault e old →
       Fails (EncodesAfterByte byte) (FaultAfterByte byte) e old
   struct_refused is =
-      refused_as EncodesFields (EncodesAfterByte byte) FieldsFault (FaultAfterByte byte) (as_struct is) (λ f. inr (inl (is, f)))
+      fails_as EncodesFields (EncodesAfterByte byte) FieldsFault (FaultAfterByte byte) (as_struct is) (λ f. inr (inl (is, f)))
 
   as_array : byte ≡ 0x5e → (text : List ℕ) (ty : CompositeType) → EncodesAfterByte byte text ty → (done : Unit {0}) × IsField text done
   as_array is text (composite.Function parameters results) b = let other = b.0 in absurd (omega (arith, is, other))
@@ -57,7 +61,7 @@ module _ (byte : ℕ) where
   pub array_refused : byte ≡ 0x5e → {e : Error} {old : Reader} → Fails IsField FieldFault e old →
       Fails (EncodesAfterByte byte) (FaultAfterByte byte) e old
   array_refused is =
-      refused_as IsField (EncodesAfterByte byte) FieldFault (FaultAfterByte byte) (as_array is) (λ f. inr (inr (is, f)))
+      fails_as IsField (EncodesAfterByte byte) FieldFault (FaultAfterByte byte) (as_array is) (λ f. inr (inr (is, f)))
 
   as_with_supertypes : NamesSupertypes byte → (text : List ℕ) (ty : CompositeType) → EncodesSubAfterByte byte text ty → (same : CompositeType) × EncodesWithSupertypes text same
   as_with_supertypes named text ty (inl p) = (ty, p.1)
@@ -67,7 +71,7 @@ module _ (byte : ℕ) where
       ReadsAhead EncodesWithSupertypes WithSupertypesFault result old new → ReadsAhead (EncodesSubAfterByte byte) (SubFaultAfterByte byte) result old new
   with_supertypes_reads named (Ok ty) old new (a, p, t) = (a, inl (named, p), t)
   with_supertypes_reads named (Err e) old new h =
-      refused_as EncodesWithSupertypes (EncodesSubAfterByte byte) WithSupertypesFault (SubFaultAfterByte byte) (as_with_supertypes named)
+      fails_as EncodesWithSupertypes (EncodesSubAfterByte byte) WithSupertypesFault (SubFaultAfterByte byte) (as_with_supertypes named)
       (λ f. inl (named, f)) h
 
 pub names_supertypes : (byte : ℕ) → 0x4f ≤ byte → byte < 0x51 → NamesSupertypes byte
@@ -91,7 +95,7 @@ rec_type_read is (a, p, t) = (a, (is, p), t)
 pub rec_type_refused : (byte : ℕ) {e : Error} {old : Reader} → Fails (EncodesUnsigned 32) U32Fault e old →
     Fails (λ text m. (byte ≡ 0x4e) × EncodesUnsigned 32 text m) U32Fault e old
 rec_type_refused byte =
-    refused_as (EncodesUnsigned 32) (λ text m. (byte ≡ 0x4e) × EncodesUnsigned 32 text m) U32Fault U32Fault (λ text m b. (m, b.1)) (λ f. f)
+    fails_as (EncodesUnsigned 32) (λ text m. (byte ≡ 0x4e) × EncodesUnsigned 32 text m) U32Fault U32Fault (λ text m b. (m, b.1)) (λ f. f)
 
 module _ (numbers : PrefixCode (EncodesUnsigned 32)) where
   pub indices_code : PrefixCode EncodesIndices
@@ -101,7 +105,7 @@ module _ (numbers : PrefixCode (EncodesUnsigned 32)) where
   rec_type_after byte a b x y m n p q e = numbers a b x y m n p.1 q.1 e
 
   pub rec_type_code : PrefixCode EncodesRecTypeLength
-  rec_type_code = then_code IsByte (λ byte text n. (byte ≡ 0x4e) × EncodesUnsigned 32 text n) byte_prefix_code rec_type_after
+  rec_type_code = then_prefix_code IsByte (λ byte text n. (byte ≡ 0x4e) × EncodesUnsigned 32 text n) byte_prefix_code rec_type_after
 
   pub rec_type_determines : DeterminesRefusal U32Fault → DeterminesRefusal RecTypeLengthFault
   rec_type_determines small m k r a b p q =
@@ -137,10 +141,10 @@ module _ (numbers : PrefixCode (EncodesUnsigned 32)) where
     after_byte_code byte a b x y (composite.Other k) (composite.Other l) h q e = (h.2 ∙ sym q.2, ap composite.Other (h.1 ∙ sym q.1))
 
     composite_code : PrefixCode EncodesComposite
-    composite_code = then_code IsByte EncodesAfterByte byte_prefix_code after_byte_code
+    composite_code = then_prefix_code IsByte EncodesAfterByte byte_prefix_code after_byte_code
 
     with_supertypes_code : PrefixCode EncodesWithSupertypes
-    with_supertypes_code = then_code EncodesIndices (λ supertypes. EncodesComposite) indices_code (λ supertypes. composite_code)
+    with_supertypes_code = then_prefix_code EncodesIndices (λ supertypes. EncodesComposite) indices_code (λ supertypes. composite_code)
 
     sub_after_byte_code : (byte : ℕ) → PrefixCode (EncodesSubAfterByte byte)
     sub_after_byte_code byte a b x y m n (inl p) (inl q) e = with_supertypes_code a b x y m n p.1 q.1 e
@@ -149,7 +153,7 @@ module _ (numbers : PrefixCode (EncodesUnsigned 32)) where
     sub_after_byte_code byte a b x y m n (inr p) (inr q) e = after_byte_code byte a b x y m n p.1 q.1 e
 
     pub sub_type_code : PrefixCode EncodesSubType
-    sub_type_code = then_code IsByte EncodesSubAfterByte byte_prefix_code sub_after_byte_code
+    sub_type_code = then_prefix_code IsByte EncodesSubAfterByte byte_prefix_code sub_after_byte_code
 
     module _ (small : DeterminesRefusal U32Fault) (value : DeterminesRefusal ValTypeFault) where
       value_types_determine : DeterminesRefusal ValueTypesFault

@@ -16,8 +16,11 @@ use Rattle.wasm_below.specs.Source.{Reader, rest, MayFollow, HasRead, Reads, IsB
 use Rattle.wasm_below.specs.TypeEncoding.{heap_type_byte, EncodesShort, ref_byte, EncodesRefType, EncodesValType, LedBy, ByteFault, ValTypeFault}
 use Rattle.wasm_module.specs.Imports.{SomeOf}
 use Rattle.wasm_module.specs.Types.{IsPackedByte, IsPacked, IsStorage, IsField, FieldFault}
-use Rattle.wasm_module.proofs.Parts.{refused_now, then_determines, byte_prefix_code, end_determines}
-use Rattle.wasm_module.proofs.Sequences.{then_code, some_code}
+use Rattle.wasm_below.proofs.Blocks.{refused_now}
+use Rattle.wasm_below.proofs.DeterminedRefusals.{then_determines, end_determines}
+use Rattle.wasm_below.proofs.PrefixCode.{byte_prefix_code}
+use Rattle.wasm_below.proofs.Sequences.{then_prefix_code}
+use Rattle.wasm_module.proofs.Sequences.{some_code}
 
 abbrev Begins : List ℕ → Type 0
 Begins text = (byte : ℕ) × (more : List ℕ) × (text ≡ byte ∷ more) × ((byte ≤ 0x75) ⊎ (0x7b ≤ byte))
@@ -84,7 +87,7 @@ storage_code values a b x y m n (inr p) (inr q) e =
     (first ∙ ap (λ c. c ∷ []) same ∙ sym second, refl)
 
 pub field_code : PrefixCode EncodesValType → PrefixCode IsField
-field_code values = then_code IsStorage (λ storage. SomeOf IsByte) (storage_code values) (λ storage. some_code IsByte byte_prefix_code)
+field_code values = then_prefix_code IsStorage (λ storage. SomeOf IsByte) (storage_code values) (λ storage. some_code IsByte byte_prefix_code)
 
 pub field_determines : PrefixCode EncodesValType → DeterminesRefusal ValTypeFault → DeterminesRefusal FieldFault
 field_determines values value = then_determines IsStorage ValTypeFault (λ storage. EndFault) (storage_code values) value (λ storage. end_determines)

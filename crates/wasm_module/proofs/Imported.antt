@@ -6,9 +6,11 @@ use Rattle.wasm_below.specs.Source.{IsByte, EndFault, U32Fault, U64Fault}
 use Rattle.wasm_below.specs.TypeEncoding.{EncodesRefType, EncodesValType, RefTypeFault, ValTypeFault}
 use Rattle.wasm_module.specs.Imports.{SomeOf, IsMost, MostFault, IsBounds, BoundsFault, IsLimits, LimitsFault, IsTable, IsGlobal, IsTag, IsExternTypeAfterByte, ExternTypeFaultAfterByte, EncodesExternTypeAfterByte, EncodesExternType, ExternTypeFault, EncodesNamed, NamedFault, ImportParts, EncodesImport, ImportFault}
 use Rattle.wasm_module.specs.Names.{EncodesName, NameFault}
+use Rattle.wasm_below.proofs.DeterminedRefusals.{then_determines, end_determines}
+use Rattle.wasm_below.proofs.PrefixCode.{byte_prefix_code}
+use Rattle.wasm_below.proofs.Sequences.{then_prefix_code}
 use Rattle.wasm_module.proofs.Named.{name_code, name_determines}
-use Rattle.wasm_module.proofs.Parts.{then_determines, byte_prefix_code, end_determines}
-use Rattle.wasm_module.proofs.Sequences.{then_code, both_code, some_code}
+use Rattle.wasm_module.proofs.Sequences.{both_code, some_code}
 
 module _ (numbers : (width : ℕ) → PrefixCode (EncodesUnsigned width)) (references : PrefixCode EncodesRefType) (values : PrefixCode EncodesValType) where
   most_code : (flags : ℕ) → PrefixCode (IsMost flags)
@@ -18,19 +20,19 @@ module _ (numbers : (width : ℕ) → PrefixCode (EncodesUnsigned width)) (refer
   most_code flags a b x y m n (inr p) (inr q) e = (p.1 ∙ sym q.1, refl)
 
   bounds_code : (flags : ℕ) → PrefixCode (IsBounds flags)
-  bounds_code flags = then_code (EncodesUnsigned 64) (λ least. IsMost flags) (numbers 64) (λ least. most_code flags)
+  bounds_code flags = then_prefix_code (EncodesUnsigned 64) (λ least. IsMost flags) (numbers 64) (λ least. most_code flags)
 
   limits_code : PrefixCode IsLimits
-  limits_code = then_code IsByte IsBounds byte_prefix_code bounds_code
+  limits_code = then_prefix_code IsByte IsBounds byte_prefix_code bounds_code
 
   table_code : PrefixCode IsTable
-  table_code = then_code EncodesRefType (λ ty. IsLimits) references (λ ty. limits_code)
+  table_code = then_prefix_code EncodesRefType (λ ty. IsLimits) references (λ ty. limits_code)
 
   global_code : PrefixCode IsGlobal
-  global_code = then_code EncodesValType (λ ty. SomeOf IsByte) values (λ ty. some_code IsByte byte_prefix_code)
+  global_code = then_prefix_code EncodesValType (λ ty. SomeOf IsByte) values (λ ty. some_code IsByte byte_prefix_code)
 
   tag_code : PrefixCode IsTag
-  tag_code = then_code IsByte (λ attribute. SomeOf (EncodesUnsigned 32)) byte_prefix_code (λ attribute. some_code (EncodesUnsigned 32) (numbers 32))
+  tag_code = then_prefix_code IsByte (λ attribute. SomeOf (EncodesUnsigned 32)) byte_prefix_code (λ attribute. some_code (EncodesUnsigned 32) (numbers 32))
 
   is_code : (byte : ℕ) → PrefixCode (IsExternTypeAfterByte byte)
   is_code zero = some_code (EncodesUnsigned 32) (numbers 32)
@@ -44,7 +46,7 @@ module _ (numbers : (width : ℕ) → PrefixCode (EncodesUnsigned width)) (refer
   extern_type_after_byte_code byte a b x y m n p q e = ((is_code byte a b x y tt tt p.1 q.1 e).0, p.0 ∙ sym q.0)
 
   extern_type_code : PrefixCode EncodesExternType
-  extern_type_code = then_code IsByte EncodesExternTypeAfterByte byte_prefix_code extern_type_after_byte_code
+  extern_type_code = then_prefix_code IsByte EncodesExternTypeAfterByte byte_prefix_code extern_type_after_byte_code
 
   named_code : PrefixCode EncodesNamed
   named_code = both_code EncodesName EncodesExternType (λ (p : List ℕ × ℕ). p) (name_code (numbers 32)) extern_type_code (λ p. p) (λ p. refl)

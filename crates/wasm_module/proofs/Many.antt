@@ -1,18 +1,19 @@
 -- Values of one kind, as a loop reads them, and lists of which only the length is kept.
-use Rattle.std.proofs.Common.{◌≡◌, ℕ, zero, suc, ◌+◌, ◌<◌, ◌≤◌, List, [], inl, inr, refl, ap, sym, subst, ◌∙◌, arith}
+use Rattle.std.proofs.Common.{◌≡◌, ℕ, zero, suc, ◌+◌, ◌<◌, ◌≤◌, List, [], inl, inr, refl, sym, subst, ◌∙◌, arith}
 use Rattle.wasm_below.specs.declared.error.Error.{Error}
 use Rattle.wasm_below.specs.declared.message.Message.{Message}
 use Rattle.wasm_below.specs.Fault.{ManyFault, DeterminesRefusal}
 use Rattle.wasm_below.specs.Number.{EncodesUnsigned}
 use Rattle.wasm_below.specs.Sequence.{PrefixCode}
-use Rattle.wasm_below.specs.Source.{Reader, at_position, Takes, IsRefusal, HasRead, U32Fault}
+use Rattle.wasm_below.specs.Source.{Reader, IsRefusal, HasRead, U32Fault}
 use Rattle.wasm_below.specs.Ahead.{Fails}
 use Rattle.wasm_module.specs.Types.{IsMany, EncodesCounted, EncodesLength, LengthFault}
-use Rattle.wasm_module.proofs.Parts.{refused_now, then_determines}
-use Rattle.wasm_module.proofs.Sequences.{then_read, then_none, then_refused, then_code, refused_as}
-
-takes_none : (r : Reader) → Takes r r []
-takes_none r = record { moved = ap (at_position r) (let same : r.position ≡ r.position + 0 = omega arith in same); parts = refl }
+use Rattle.wasm_below.proofs.Ahead.{fails_as}
+use Rattle.wasm_below.proofs.Blocks.{refused_now}
+use Rattle.wasm_below.proofs.DeterminedRefusals.{then_determines}
+use Rattle.wasm_below.proofs.Sequences.{then_first, then_second, then_prefix_code}
+use Rattle.wasm_below.proofs.TakesLemmas.{takes_none}
+use Rattle.wasm_module.proofs.Sequences.{then_read}
 
 -- Some of the values were read, and what holds for those that are left holds for all.
 pub record IsOnTheWay {X : Type 0} (P : List ℕ → X → Type 0) (Fault : Message → Reader → ℕ → Type 0) (count i : ℕ) (old now : Reader) : Type 0 where
@@ -58,7 +59,7 @@ module _ {X : Type 0} (P : List ℕ → X → Type 0) (Fault : Message → Reade
         left = k;
         all = omega (arith, all, same);
         read = λ last q. here.0 last (then_read P (λ v. IsMany P k) h q);
-        refused = λ e q. here.1 e (then_refused P (λ v. IsMany P k) code e now new x h q);
+        refused = λ e q. here.1 e (then_second P (λ v. IsMany P k) e now new x code h q);
         fault = λ m offset f. here.2 m offset (inr (x, new, h, f));
       }
 
@@ -74,19 +75,19 @@ module _ {X : Type 0} (P : List ℕ → X → Type 0) (Fault : Message → Reade
   way_refused count i old now more w {e} h =
       let less = one_less count i w.left w.all more in
       let here = left_at count i old now w (suc less.0) less.1 in
-      refused_as (IsMany P count) (EncodesCounted P count) (ManyFault P Fault count) (ManyFault P Fault count) (λ text n b. (tt, b.1)) (λ f. f)
-      (here.1 e (then_none P (λ v. IsMany P less.0) e now h.0), here.2 e.message e.offset (inl (refused_now P e now h.0, h.1)))
+      fails_as (IsMany P count) (EncodesCounted P count) (ManyFault P Fault count) (ManyFault P Fault count) (λ text n b. (tt, b.1)) (λ f. f)
+      (here.1 e (then_first P (λ v. IsMany P less.0) e now h.0), here.2 e.message e.offset (inl (refused_now P e now h.0, h.1)))
 
   module _ (code : PrefixCode P) where
     many_code : (n : ℕ) → PrefixCode (IsMany P n)
     many_code zero = λ a b x y m k p q e. (p ∙ sym q, refl)
-    many_code (suc n) = then_code P (λ v. IsMany P n) code (λ v. many_code n)
+    many_code (suc n) = then_prefix_code P (λ v. IsMany P n) code (λ v. many_code n)
 
     counted_code : (count : ℕ) → PrefixCode (EncodesCounted P count)
     counted_code count a b x y m n p q e = ((many_code count a b x y tt tt p.1 q.1 e).0, p.0 ∙ sym q.0)
 
     pub length_code : PrefixCode (EncodesUnsigned 32) → PrefixCode (EncodesLength P)
-    length_code numbers = then_code (EncodesUnsigned 32) (EncodesCounted P) numbers counted_code
+    length_code numbers = then_prefix_code (EncodesUnsigned 32) (EncodesCounted P) numbers counted_code
 
     many_determines : DeterminesRefusal Fault → (n : ℕ) → DeterminesRefusal (ManyFault P Fault n)
     many_determines item zero = λ m k r a b p q. absurd p

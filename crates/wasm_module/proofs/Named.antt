@@ -7,12 +7,18 @@ use Rattle.wasm_below.specs.Source.{Reader, IsByte, IsBlock, EndFault, EndsWithi
 use Rattle.wasm_below.specs.Ahead.{Fails}
 use Rattle.wasm_module.specs.Exports.{ExportParts, EncodesExternIndex, ExternIndexFault, EncodesExport, ExportFault}
 use Rattle.wasm_module.specs.Names.{IsBytes, EncodesName, NameFault, NameParts, EncodesNameAssociation, NameAssociationFault}
-use Rattle.wasm_module.proofs.Parts.{then_determines, byte_prefix_code, short_determines, end_determines}
-use Rattle.wasm_module.proofs.Sequences.{then_code, both_code, refused_as}
+use Rattle.wasm_below.proofs.Ahead.{fails_as}
+use Rattle.wasm_below.proofs.DeterminedRefusals.{then_determines, end_determines}
+use Rattle.wasm_below.proofs.PrefixCode.{byte_prefix_code}
+use Rattle.wasm_below.proofs.Sequences.{then_prefix_code}
+use Rattle.wasm_module.proofs.Sequences.{both_code}
+
+pub short_determines : (n : ℕ) → DeterminesRefusal (EndsWithin n)
+short_determines n m k r a b h q = (h.0 ∙ sym q.0, h.1 ∙ sym q.1)
 
 pub bytes_refused : (n : ℕ) {e : Error} {old : Reader} → Fails (IsBlock n) (EndsWithin n) e old → Fails (IsBytes n) (EndsWithin n) e old
 bytes_refused n =
-    refused_as (IsBlock n) (IsBytes n) (EndsWithin n) (EndsWithin n) (λ text z b. (record { ref_ptr = (0, 0); now = text }, (refl, b.1))) (λ f. f)
+    fails_as (IsBlock n) (IsBytes n) (EndsWithin n) (EndsWithin n) (λ text z b. (record { ref_ptr = (0, 0); now = text }, (refl, b.1))) (λ f. f)
 
 bytes_code : (n : ℕ) → PrefixCode (IsBytes n)
 bytes_code n a b x y m k p q e = let same = same_start a b x y (p.1 ∙ sym q.1) e in (same, p.0 ∙ same ∙ sym q.0)
@@ -25,7 +31,7 @@ bytes_code n a b x y m k p q e = let same = same_start a b x y (p.1 ∙ sym q.1)
 
 module _ (numbers : PrefixCode (EncodesUnsigned 32)) where
   pub name_code : PrefixCode EncodesName
-  name_code = then_code (EncodesUnsigned 32) IsBytes numbers bytes_code
+  name_code = then_prefix_code (EncodesUnsigned 32) IsBytes numbers bytes_code
 
   pub association_code : PrefixCode EncodesNameAssociation
   association_code =

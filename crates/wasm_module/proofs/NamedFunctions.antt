@@ -6,11 +6,8 @@ use Rattle.std.proofs.lemmas.Bool.{eqb-true}
 use Rattle.std.proofs.lemmas.Grind.{flat_map-append}
 use Rattle.std.proofs.lemmas.List.{map-append, map-set, replicate-append-replicate}
 use Rattle.wasm_below.specs.declared.error.Error.{Error}
-use Rattle.wasm_below.specs.declared.message.Message.{Message}
-use Rattle.wasm_below.specs.declared.message.Message.TheVariants as message
-use Rattle.wasm_below.specs.Refusal.{IsReadFault}
 use Rattle.wasm_below.specs.Sequence.{PrefixCode}
-use Rattle.wasm_below.specs.Source.{Reader, rest, MayFollow, IsRefusal, HasRead}
+use Rattle.wasm_below.specs.Source.{Reader, rest, IsRefusal, HasRead}
 use Rattle.wasm_module.specs.Exports.{ExportParts}
 use Rattle.wasm_module.specs.Imports.{ImportParts}
 use Rattle.wasm_module.specs.Module.{SectionParts}
@@ -19,6 +16,7 @@ use Rattle.wasm_module.specs.Sections.{first_with}
 use Rattle.wasm_module.specs.FunctionNames.{name_bytes, bytes_of, function_name, with_exports, with_names, IsNames, NoneIsNames, LastNames}
 use Rattle.wasm_module.specs.declared.function_names.FunctionName.{FunctionName}
 use Rattle.wasm_module.specs.declared.function_names.FunctionName.TheVariants as name
+use Rattle.wasm_below.proofs.Blocks.{refused_now}
 
 pub exports_more : (names : List (List ℕ)) (es : List ExportParts) (e : ExportParts) →
     with_exports names (es ++ e ∷ []) ≡ with_exports (with_exports names es) (e ∷ [])
@@ -65,15 +63,8 @@ pub one_value : {X : Type 0} (P : List ℕ → X → Type 0) → PrefixCode P �
 one_value P code r a b x y (text, is, takes) (other, is_other, takes_other) =
     (code text other (rest a) (rest b) x y is is_other (sym takes.parts ∙ takes_other.parts)).1
 
--- The data may end after an error.
-may_end : (m : Message) → IsReadFault m → MayFollow m []
-may_end message.EndOfData h = refl
-may_end message.OutOfMemory h = h
-may_end _ h = tt
-
 pub not_both : {X : Type 0} (P : List ℕ → X → Type 0) (e : Error) (r b : Reader) (x : X) → IsRefusal P e r → HasRead P x r b → ⊥
-not_both P e r b x refused (text, is, takes) =
-    refused.refuses [] (may_end e.message refused.fault) text (rest b) x is (append-nil (rest r) ∙ takes.parts)
+not_both P e r b x refused (text, is, takes) = refused_now P e r refused text (rest b) x is takes.parts
 
 pub one_named : (index : ℕ) (names : List FunctionName) (given : Bor (List ℕ)) →
     bytes_of (set names index (name.Given given)) ≡ set (bytes_of names) index given.now

@@ -1,14 +1,12 @@
-use Rattle.std.proofs.Common.{◌≡◌, ℕ, ◌+◌, ◌-◌, ◌≤◌, List, [], length, length-append, length-drop, append-nil, Option, Some, refl, sym, ap, subst, ◌∙◌, arith, inl, inr}
+use Rattle.std.proofs.Common.{◌≡◌, ℕ, ◌+◌, ◌-◌, ◌≤◌, List, length, length-append, length-drop, Option, Some, sym, ap, subst, ◌∙◌, arith, inl, inr}
 use Rattle.wasm_below.specs.declared.error.Error.{Error}
-use Rattle.wasm_below.specs.declared.message.Message.{Message}
-use Rattle.wasm_below.specs.declared.message.Message.TheVariants as message
 use Rattle.wasm_below.specs.FromReader.{EncodesReader}
 use Rattle.wasm_below.specs.Number.{EncodesUnsigned}
-use Rattle.wasm_below.specs.Refusal.{IsReadFault}
-use Rattle.wasm_below.specs.Source.{Reader, HasRead, Takes, IsRefusal, MayFollow, rest, offset_of, end_of, at_position}
+use Rattle.wasm_below.specs.Source.{Reader, HasRead, Takes, IsRefusal, rest, offset_of, end_of, at_position}
 use Rattle.wasm_module.specs.Sections.{IsSection}
 use Rattle.wasm_module.specs.declared.bodies.WasmBodies.{WasmBodies}
 use Rattle.wasm_module.specs.Bodies.{module_of, after_bytes, InSection, HasType, TakesPart, IsPlace}
+use Rattle.wasm_below.proofs.Blocks.{refused_now}
 
 abbrev pub OneSection : Type 0
 OneSection = (whole : Reader) → (id : ℕ) → (a b : Option Reader) → IsSection whole id a → IsSection whole id b → a ≡ b
@@ -68,17 +66,12 @@ part_taken bytes start old new before after part a at (text, encodes, takes) pla
       place = place;
     }
 
-nothing_follows : (m : Message) → IsReadFault m → MayFollow m []
-nothing_follows message.EndOfData h = refl
-nothing_follows message.OutOfMemory h = h
-nothing_follows _ h = tt
-
 -- If reading a type index fails, none is encoded.
 pub no_type : OneSection → (bytes : List ℕ) (n : ℕ) (place : Reader) (e : Error) → InSection bytes 3 n place → IsRefusal (EncodesUnsigned 32) e place →
     HasType bytes n → ⊥
 no_type law bytes n place e there refused (new, ty, (before, after, a, b, (text, encodes, takes))) =
     let same = same_place law bytes 3 n place before there a in
-    refused.refuses [] (nothing_follows e.message refused.fault) text (rest after) ty encodes (append-nil (rest place) ∙ ap rest same ∙ takes.parts)
+    refused_now (EncodesUnsigned 32) e place refused text (rest after) ty encodes (ap rest same ∙ takes.parts)
 
 -- No place: no body is left, some bytes were read, and the code section has fewer.
 pub no_end : (bytes : List ℕ) (c : WasmBodies) → c.left ≡ 0 → (c.code ≡ 0 → ⊥) → ((there : Reader) → InSection bytes 10 c.code there → ⊥) →

@@ -13,7 +13,7 @@ use Rattle.wasm_module.specs.Sections.{SectionsOccur, BeginsModule, IsModule, Is
 use Rattle.wasm_module.proofs.NamedFunctions.{not_both}
 use Rattle.wasm_module.proofs.Occurring.{shorter}
 
-same_texts : (a b x y : List ℕ) → length a ≡ length b → a ++ x ≡ b ++ y → (a ≡ b) × (x ≡ y)
+pub same_texts : (a b x y : List ℕ) → length a ≡ length b → a ++ x ≡ b ++ y → (a ≡ b) × (x ≡ y)
 same_texts [] [] x y l e = (refl, e)
 same_texts [] (c ∷ b) x y l e = absurd (omega (arith, l))
 same_texts (c ∷ a) [] x y l e = absurd (omega (arith, l))

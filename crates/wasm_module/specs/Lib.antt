@@ -5,6 +5,7 @@ pub mod Module
 pub mod Names
 pub mod Types
 pub mod Faults
+pub mod Growth
 pub mod Sections
 pub mod Items
 pub mod Parameters

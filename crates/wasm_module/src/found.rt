@@ -9,6 +9,7 @@ ghost use Rattle.wasm_module.specs.ModuleFunctions.{CountsImports, ListsTypes, N
 
 use crate::fault::ModuleFault;
 use crate::function_names::FunctionName;
+use crate::growing::GrowingVec;
 use crate::imports::{import_names, imported_functions};
 use crate::names::{name_exports, name_functions};
 use crate::sections::{find_names, find_section};
@@ -31,7 +32,7 @@ pub fn find_parameters(
     alloc: Global,
     features: WasmFeatures,
     bytes: &[u8],
-) -> Result<Vec<u32>, ModuleFault>
+) -> Result<GrowingVec<u32>, ModuleFault>
     ensures ok { IfOk result (λ counts. (section : Option Reader) × IsSection (reader_of features 0 bytes.now) 1 section
         × CountsParameters section counts.items) }
     ensures refused { IfErr result (λ fault. (section : Option Reader) → (counts : List ℕ) → IsSection (reader_of features 0 bytes.now) 1 section
@@ -42,7 +43,7 @@ pub fn find_parameters(
     fixed_numbers();
     match find_section(features, bytes, TYPES)? {
         Some(contents) => parameter_counts(alloc, contents),
-        None => Ok(Vec::new(alloc)),
+        None => Ok(GrowingVec::new(alloc)),
     }
 }
 
@@ -67,7 +68,7 @@ pub fn find_types(
     alloc: Global,
     features: WasmFeatures,
     bytes: &[u8],
-) -> Result<Vec<u32>, ModuleFault>
+) -> Result<GrowingVec<u32>, ModuleFault>
     ensures ok { IfOk result (λ types. (section : Option Reader) × IsSection (reader_of features 0 bytes.now) 3 section
         × ListsTypes section types.items) }
     ensures refused { IfErr result (λ fault. (section : Option Reader) → (types : List ℕ) → IsSection (reader_of features 0 bytes.now) 3 section
@@ -78,7 +79,7 @@ pub fn find_types(
     fixed_numbers();
     match find_section(features, bytes, FUNCTIONS)? {
         Some(contents) => function_types(alloc, contents),
-        None => Ok(Vec::new(alloc)),
+        None => Ok(GrowingVec::new(alloc)),
     }
 }
 
@@ -88,7 +89,7 @@ fn find_import_names<'a>(
     alloc: Global,
     features: WasmFeatures,
     bytes: &'a [u8],
-) -> Result<Vec<FunctionName<'a>>, ModuleFault>
+) -> Result<GrowingVec<FunctionName<'a>>, ModuleFault>
     ensures ok { IfOk result (λ names. (section : Option Reader) × IsSection (reader_of features 0 bytes.now) 2 section
         × NamesImported section (bytes_of names.items)) }
     ensures refused { IfErr result (λ fault. (sections : List SectionParts) → IsModule (reader_of features 0 bytes.now) sections
@@ -98,13 +99,16 @@ fn find_import_names<'a>(
 {
     match find_section(features, bytes, IMPORTS)? {
         Some(contents) => import_names(alloc, contents),
-        None => Ok(Vec::new(alloc)),
+        None => Ok(GrowingVec::new(alloc)),
     }
 }
 
 #[tactic(auto, using(crate::proofs::NamedFunctions::unnamed_more))]
 /// Appends an empty name for each of `count` functions.
-fn push_unnamed<'a>(names: &mut Vec<FunctionName<'a>>, count: usize) -> Result<(), ModuleFault>
+fn push_unnamed<'a>(
+    names: &mut GrowingVec<FunctionName<'a>>,
+    count: usize,
+) -> Result<(), ModuleFault>
     ensures ok { OnOk result (bytes_of names.new.items ≡ bytes_of names.old.items ++ replicate count []) }
     ensures memory { IfErr result (λ fault. fault ≡ ModuleFault.Memory) }
     ensures some { IfErr result (λ fault. 0 < count) }
@@ -122,7 +126,7 @@ fn push_unnamed<'a>(names: &mut Vec<FunctionName<'a>>, count: usize) -> Result<(
 fn set_exports<'a>(
     features: WasmFeatures,
     bytes: &'a [u8],
-    names: &mut Vec<FunctionName<'a>>,
+    names: &mut GrowingVec<FunctionName<'a>>,
 ) -> Result<(), ModuleFault>
     ensures ok { IfOk result (λ done. (section : Option Reader) × IsSection (reader_of features 0 bytes.now) 7 section
         × NamesExported section (bytes_of names.old.items) (bytes_of names.new.items)) }
@@ -142,7 +146,7 @@ fn set_exports<'a>(
 fn set_names<'a>(
     features: WasmFeatures,
     bytes: &'a [u8],
-    names: &mut Vec<FunctionName<'a>>,
+    names: &mut GrowingVec<FunctionName<'a>>,
 ) -> Result<(), ModuleFault>
     ensures ok { IfOk result (λ done. (section : Option Reader) × HasNames (reader_of features 0 bytes.now) section
         × NamesGiven section (bytes_of names.old.items) (bytes_of names.new.items)) }
@@ -163,7 +167,7 @@ pub fn find_function_names<'a>(
     features: WasmFeatures,
     bytes: &'a [u8],
     count: usize,
-) -> Result<Vec<FunctionName<'a>>, ModuleFault>
+) -> Result<GrowingVec<FunctionName<'a>>, ModuleFault>
     ensures ok { IfOk result (λ names. NamesFunctions (reader_of features 0 bytes.now) count (bytes_of names.items)) }
     ensures refused { IfErr result (λ fault. (names : List (List ℕ)) → NamesFunctions (reader_of features 0 bytes.now) count names
         → fault ≡ ModuleFault.Memory) }

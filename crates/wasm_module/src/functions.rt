@@ -9,6 +9,7 @@ ghost use Rattle.wasm_module.specs.ModuleFunctions.{ModuleFunctions, DescribesFu
 use crate::fault::ModuleFault;
 use crate::found::{find_function_names, find_imported, find_parameters, find_types};
 use crate::function_names::FunctionName;
+use crate::growing::GrowingVec;
 use crate::names::name_of_module;
 use crate::sections::find_names;
 use std::alloc::Global;
@@ -21,9 +22,9 @@ use wasm_below::byte_laws::{fixed_numbers, unsigned_numbers};
 #[derive(Debug, Drop)]
 pub struct Functions<'a> {
     imported: u32,
-    parameters: Vec<u32>,
-    types: Vec<u32>,
-    names: Vec<FunctionName<'a>>,
+    parameters: GrowingVec<u32>,
+    types: GrowingVec<u32>,
+    names: GrowingVec<FunctionName<'a>>,
 }
 
 impl<'a> Model for Functions<'a> {
@@ -101,8 +102,13 @@ impl<'a> Functions<'a> {
     pub fn parameters(&self, ordinal: u32) -> u32
         ensures { result ≡ parameters_at self.now ordinal }
     {
-        match self.types.get(ordinal as usize) {
-            Some(ty) => self.parameters.get(*ty as usize).copied().unwrap_or(0),
+        match self.types.as_slice().get(ordinal as usize) {
+            Some(ty) => self
+                .parameters
+                .as_slice()
+                .get(*ty as usize)
+                .copied()
+                .unwrap_or(0),
             None => 0,
         }
     }

@@ -5,6 +5,7 @@ ghost use Rattle.wasm_module.specs.ModuleFunctions.{CountsImports};
 
 use crate::fault::ModuleFault;
 use crate::function_names::FunctionName;
+use crate::growing::GrowingVec;
 use crate::{Import, module_laws};
 use std::alloc::Global;
 use wasm_below::BinaryReader;
@@ -45,7 +46,7 @@ pub fn imported_functions(contents: BinaryReader<'_>) -> Result<u32, ModuleFault
 #[tactic(auto, using(crate::proofs::NamedFunctions::import_pushed))]
 /// Appends the name of an import, if it is a function.
 fn push_import<'a>(
-    names: &mut Vec<FunctionName<'a>>,
+    names: &mut GrowingVec<FunctionName<'a>>,
     import: &Import<'a>,
 ) -> Result<(), ModuleFault>
     ensures ok { OnOk result (bytes_of names.new.items ≡ bytes_of names.old.items ++ function_name import.now) }
@@ -66,12 +67,12 @@ fn push_import<'a>(
 pub fn import_names<'a>(
     alloc: Global,
     contents: BinaryReader<'a>,
-) -> Result<Vec<FunctionName<'a>>, ModuleFault>
+) -> Result<GrowingVec<FunctionName<'a>>, ModuleFault>
     ensures ok { IfOk result (λ names. NamesImported (Some contents.entry) (bytes_of names.items)) }
     ensures memory { IfErr result (λ fault. (fault ≡ ModuleFault.Memory) × ImportsFunction contents.entry) }
 {
     let mut reader = contents;
-    let mut names: Vec<FunctionName<'a>> = Vec::new(alloc);
+    let mut names: GrowingVec<FunctionName<'a>> = GrowingVec::new(alloc);
     let count = match reader.read_var_u32() {
         Ok(count) => count,
         Err(_) => return Ok(names),

@@ -22,6 +22,7 @@ mod found;
 pub mod function_laws;
 mod function_names;
 mod functions;
+mod growing;
 mod import;
 mod imports;
 mod list;

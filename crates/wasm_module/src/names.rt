@@ -7,6 +7,7 @@ ghost use Rattle.wasm_module.specs.Refusals.{ExportsFault};
 
 use crate::fault::ModuleFault;
 use crate::function_names::FunctionName;
+use crate::growing::GrowingVec;
 use crate::{Export, Name, NameAssociation, module_laws, read_section};
 use wasm_below::BinaryReader;
 use wasm_below::byte_laws::unsigned_numbers;
@@ -19,17 +20,17 @@ const MODULE_NAME: u8 = 0;
 const FUNCTION_NAMES: u8 = 1;
 
 /// Sets the name of the function with this index, if the module has it.
-fn set_name<'a>(names: &mut Vec<FunctionName<'a>>, index: u32, name: &'a [u8])
+fn set_name<'a>(names: &mut GrowingVec<FunctionName<'a>>, index: u32, name: &'a [u8])
     ensures { bytes_of names.new.items ≡ set (bytes_of names.old.items) index name.now }
 {
     let place = index as usize;
     if place < names.len() {
-        names[place] = FunctionName::Given(name);
+        names.set(place, FunctionName::Given(name));
     }
 }
 
 /// Sets the name of an exported function.
-fn set_exported<'a>(names: &mut Vec<FunctionName<'a>>, export: &Export<'a>)
+fn set_exported<'a>(names: &mut GrowingVec<FunctionName<'a>>, export: &Export<'a>)
     ensures { bytes_of names.new.items ≡ with_exports (bytes_of names.old.items) (export.now ∷ []) }
 {
     if export.kind() == FUNCTION {
@@ -41,7 +42,7 @@ fn set_exported<'a>(names: &mut Vec<FunctionName<'a>>, export: &Export<'a>)
 /// exports or of an export.
 pub fn name_exports<'a>(
     contents: BinaryReader<'a>,
-    names: &mut Vec<FunctionName<'a>>,
+    names: &mut GrowingVec<FunctionName<'a>>,
 ) -> Result<(), ModuleFault>
     ensures ok { IfOk result (λ done. (exports : List ExportParts) × IsList EncodesExport contents.entry exports
         × (bytes_of names.new.items ≡ with_exports (bytes_of names.old.items) exports)) }
@@ -60,7 +61,7 @@ pub fn name_exports<'a>(
 }
 
 /// Sets the names of the functions in a subsection, up to an error.
-fn name_associations<'a>(contents: BinaryReader<'a>, names: &mut Vec<FunctionName<'a>>)
+fn name_associations<'a>(contents: BinaryReader<'a>, names: &mut GrowingVec<FunctionName<'a>>)
     ensures { (given : List NameParts) × ReadsItems EncodesNameAssociation contents.entry given
         × (bytes_of names.new.items ≡ with_names (bytes_of names.old.items) given) }
 {
@@ -78,7 +79,7 @@ fn name_associations<'a>(contents: BinaryReader<'a>, names: &mut Vec<FunctionNam
 }
 
 /// Sets functions' names from the custom section `name`, up to an error.
-pub fn name_functions<'a>(contents: BinaryReader<'a>, names: &mut Vec<FunctionName<'a>>)
+pub fn name_functions<'a>(contents: BinaryReader<'a>, names: &mut GrowingVec<FunctionName<'a>>)
     ensures { (given : List NameParts) × GivesNames contents.entry given
         × (bytes_of names.new.items ≡ with_names (bytes_of names.old.items) given) }
 {

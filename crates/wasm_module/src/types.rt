@@ -9,6 +9,7 @@ ghost use Rattle.wasm_module.specs.Parameters.{parameter_count, IsKnownType, Cou
 ghost use Rattle.wasm_module.specs.Refusals.{SubTypesFault, TypesFault, FunctionsFault};
 
 use crate::fault::ModuleFault;
+use crate::growing::GrowingVec;
 use crate::{CompositeType, module_laws, read_rec_type_len};
 use std::alloc::Global;
 use wasm_below::BinaryReader;
@@ -29,7 +30,7 @@ fn parameter_count(ty: CompositeType) -> u32
 fn read_rec_type(
     reader: &mut BinaryReader<'_>,
     len: u32,
-    counts: &mut Vec<u32>,
+    counts: &mut GrowingVec<u32>,
 ) -> Result<(), ModuleFault>
     ensures ok { IfOk result (λ done. (types : List CompositeType) × (length types ≡ len) × ItemsOccur EncodesSubType reader.old types reader.new
         × All IsKnownType types × (counts.new.items ≡ counts.old.items ++ map parameter_count types)) }
@@ -55,7 +56,10 @@ fn read_rec_type(
 ///
 /// Fails with `TypeKind` at a type that is no function, structure or array type, with the error of
 /// a count or a type, or with `Memory`.
-pub fn parameter_counts(alloc: Global, contents: BinaryReader<'_>) -> Result<Vec<u32>, ModuleFault>
+pub fn parameter_counts(
+    alloc: Global,
+    contents: BinaryReader<'_>,
+) -> Result<GrowingVec<u32>, ModuleFault>
     ensures ok { IfOk result (λ counts. CountsParameters (Some contents.entry) counts.items) }
     ensures refused { IfErr result (λ fault. (counts : List ℕ) → CountsParameters (Some contents.entry) counts → fault ≡ ModuleFault.Memory) }
     ensures fault { IfErr result (λ fault. TypesFault fault contents.entry) }
@@ -63,7 +67,7 @@ pub fn parameter_counts(alloc: Global, contents: BinaryReader<'_>) -> Result<Vec
     unsigned_numbers();
     module_laws::types();
     let mut reader = contents;
-    let mut counts = Vec::new(alloc);
+    let mut counts = GrowingVec::new(alloc);
     let rec_types = reader.read_var_u32()?;
     for _rec_type in 0..rec_types {
         let len = read_rec_type_len(&mut reader)?;
@@ -74,14 +78,17 @@ pub fn parameter_counts(alloc: Global, contents: BinaryReader<'_>) -> Result<Vec
 
 /// Returns the type index of each function of a section. Fails with the error of their number or of
 /// an index, or with `Memory`.
-pub fn function_types(alloc: Global, contents: BinaryReader<'_>) -> Result<Vec<u32>, ModuleFault>
+pub fn function_types(
+    alloc: Global,
+    contents: BinaryReader<'_>,
+) -> Result<GrowingVec<u32>, ModuleFault>
     ensures ok { IfOk result (λ types. IsList (EncodesUnsigned 32) contents.entry types.items) }
     ensures refused { IfErr result (λ fault. (types : List ℕ) → IsList (EncodesUnsigned 32) contents.entry types → fault ≡ ModuleFault.Memory) }
     ensures fault { IfErr result (λ fault. FunctionsFault fault contents.entry) }
 {
     unsigned_numbers();
     let mut reader = contents;
-    let mut types = Vec::new(alloc);
+    let mut types = GrowingVec::new(alloc);
     let count = reader.read_var_u32()?;
     for _function in 0..count {
         let ty = reader.read_var_u32()?;

@@ -244,7 +244,7 @@ pub fn read_words(alloc: Global, words: Vec<String>) -> Words {
         functions: false,
         census: false,
         function: Choice::All,
-        features: features_of(None).unwrap_or(WasmFeatures::none()),
+        features: features_of(None).unwrap_or(WasmFeatures::empty()),
         files: Vec::new(alloc),
     };
     let mut next = Next::Any;

@@ -1,6 +1,6 @@
 use std::io;
 use std::io::Write;
-use wasm_disassembly::FlushedWrite;
+use wasm_listing::FlushedWrite;
 
 /// A writer that keeps the last error of another writer.
 #[derive(Drop)]

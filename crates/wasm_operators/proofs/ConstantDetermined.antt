@@ -57,10 +57,10 @@ no_end_there : (first : List Operator) (next : Operator) (more : List Operator) 
 no_end_there [] next more h is = h.0 is
 no_end_there (x ∷ xs) next more h is = no_end_there xs next more h.1 is
 
-not_shorter : (m : Message) (r a b : Reader) (xs ys : List FrameKind) (offset : ℕ) (p : PassesOperators r a xs) (q : PassesOperators r b ys) →
+no_longer_than_ended : (m : Message) (r a b : Reader) (xs ys : List FrameKind) (offset : ℕ) (p : PassesOperators r a xs) (q : PassesOperators r b ys) →
     Ended m a xs offset →
     length q.placed ≤ length p.placed
-not_shorter m r a b xs ys offset p q ended =
+no_longer_than_ended m r a b xs ys offset p q ended =
     elim (cases_lt (length p.placed) (length q.placed)) [
       | inl lt ↦ absurd (goes (laid_goes_on r.features (offset_of r) p.placed q.placed p.text q.text (rest a) (rest b) p.laid q.laid
           (sym p.takes.parts ∙ q.takes.parts) lt))
@@ -94,8 +94,8 @@ same_end m n r frames x y (inr h) (inr k) = (h.2 ∙ sym k.2, h.3 ∙ sym k.3)
 pub constant_determines : DeterminesRefusal ConstantFault
 unfolding Ended
 constant_determines m n r x y (a, xs, p, h) (b, ys, q, k) =
-    let le = not_shorter m r a b xs ys x p q h in
-    let ge = not_shorter n r b a ys xs y q p k in
+    let le = no_longer_than_ended m r a b xs ys x p q h in
+    let ge = no_longer_than_ended n r b a ys xs y q p k in
     let same = laid_same r.features (offset_of r) p.placed q.placed p.text q.text (rest a) (rest b) p.laid q.laid (sym p.takes.parts ∙ q.takes.parts)
     (omega (arith, le, ge)) in
     let readers : a ≡ b = p.takes.moved ∙ ap (λ z. at_position r (r.position + length z)) same.1 ∙ sym q.takes.moved in

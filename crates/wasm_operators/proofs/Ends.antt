@@ -11,7 +11,7 @@ use Rattle.wasm_below.specs.Refusal.{IsReadFault}
 use Rattle.wasm_below.specs.Source.{Source, Reader, rest, offset_of, source_of, at_position, MayFollow, Takes}
 use Rattle.wasm_grammar.specs.declared.frame_kind.FrameKind.{FrameKind}
 use Rattle.wasm_grammar.specs.Role.{ends}
-use Rattle.wasm_grammar.specs.Frames.{frames_after, frames_along}
+use Rattle.wasm_grammar.specs.Frames.{frames_after, frames_along, innermost}
 use Rattle.wasm_grammar.specs.Beginning.{IsWalk}
 use Rattle.wasm_grammar.specs.OpenPath.{OpenPath}
 use Rattle.wasm_grammar.proofs.Paths.{run_path, same_frames, some_is}
@@ -22,7 +22,8 @@ use Rattle.wasm_instr.specs.Encoding.{EncodesOperator}
 use Rattle.wasm_instr.specs.Roles.{role_of, roles_of}
 use Rattle.wasm_operators.specs.Expression.{Placed, OfPlaced, operators, LaidOut, Longest, IsPrefixAfter}
 use Rattle.wasm_operators.specs.Flat.{IsAllowedFrom}
-use Rattle.wasm_operators.specs.Reading.{State, TakesOperators, StopsRun, EndsRun, Decoder}
+use Rattle.wasm_operators.specs.Reading.{State, TakesOperators, StopsRun, StopsFinish, Finishes, EndsRun, Decoder}
+use Rattle.wasm_operators.specs.Single.{FinishesExpression}
 use Rattle.wasm_operators.specs.MainTheorem.{ReadSoFar, BeginningAt, ReadsBeginning, IsNotOutOfMemory, ClosesFrom, IsCut, CutFault, IsCompletedByEnds}
 use Rattle.wasm_operators.proofs.LayoutLemmas.{roles_of-append, operators-append, roles_of-ends, laid_append, laid_goes_on, laid_no_longer, laid_same, one_longest, GoesOn, next_allowed, goes_allowed}
 use Rattle.wasm_operators.proofs.OneRead.{refused_none, one_refusal, closed_read, read_closed}
@@ -220,9 +221,9 @@ record RanOver (reader : Reader) (frames : List FrameKind) (new : State) (placed
 ran_over : (old new : State) (placed : Placed) → TakesOperators old new placed → RanOver old.reader old.frames new placed
 ran_over old new placed r = record { text = r.text; takes = r.takes; laid = r.laid; along = r.frames }
 
-not_shorter : (Kept : Operator → Type 0) (reader : Reader) (frames : List FrameKind) (new end : State) (placed others : Placed) →
+no_longer_than_stuck : (Kept : Operator → Type 0) (reader : Reader) (frames : List FrameKind) (new end : State) (placed others : Placed) →
     RanOver reader frames new placed → RanOver reader frames end others → AreEach Kept others → IsStuckFor Kept new → length others ≤ length placed
-not_shorter Kept reader frames new end placed others r q each none =
+no_longer_than_stuck Kept reader frames new end placed others r q each none =
     elim (cases_lt (length placed) (length others)) [
       | inl lt ↦ absurd (goes (laid_goes_on reader.features (offset_of reader) placed others r.text q.text (rest new.reader) (rest end.reader) r.laid q.laid
           (sym r.takes.parts ∙ q.takes.parts) lt))
@@ -244,8 +245,8 @@ run_determined decoder Kept takes determined first second old new other end plac
     other_memory =
     let r1 = ran_over old new placed r in
     let q1 = subst (λ s. RanOver s old.frames end others) reader (subst (λ fs. RanOver other.reader fs end others) frames (ran_over other end others q)) in
-    let le = not_shorter Kept old.reader old.frames new end placed others r1 q1 each_others (stuck decoder Kept takes first new a memory) in
-    let ge = not_shorter Kept old.reader old.frames end new others placed q1 r1 each_placed (stuck decoder Kept takes second end b other_memory) in
+    let le = no_longer_than_stuck Kept old.reader old.frames new end placed others r1 q1 each_others (stuck decoder Kept takes first new a memory) in
+    let ge = no_longer_than_stuck Kept old.reader old.frames end new others placed q1 r1 each_placed (stuck decoder Kept takes second end b other_memory) in
     let same = laid_same old.reader.features (offset_of old.reader) placed others r1.text q1.text (rest new.reader) (rest end.reader) r1.laid q1.laid
     (sym r1.takes.parts ∙ q1.takes.parts) (omega arith) in
     let readers : end.reader ≡ new.reader = q1.takes.moved ∙ ap (λ z. at_position old.reader (old.reader.position + length z)) (sym same.1) ∙
@@ -296,3 +297,19 @@ beginnings_same decoder determined before d e old new end placed others a b othe
     let stacks : end.frames ≡ new.frames = same_frames end.frames new.frames (roles_of (before ++ operators placed)) path a.read_so_far.path in
     let both = same_stops decoder determined d e new end readers stacks a.stops b.stops other_d other_e in
     (same, readers, stacks, both.0, both.1)
+
+-- ---- finishing, by the innermost frame
+
+stops_as : (m : Message) (A B : Type 0) (r : Reader) → (A → B) → (B → A) → StopsFinish m A r → StopsFinish m B r
+stops_as message.FramesRemain A B r to from stops = λ closed. stops (from closed)
+stops_as message.UnexpectedData A B r to from (closed, left) = (to closed, left)
+stops_as _ A B r to from stops = stops
+
+closed_frames : (frames : List FrameKind) → innermost frames ≡ None → frames ≡ []
+closed_frames [] none = refl
+closed_frames (first ∷ inside) none = absurd (cc none)
+
+pub finishes_of : {X : Type 0} (result : Result X Error) (s : State) → FinishesExpression result (innermost s.frames) s.reader → Finishes result s
+finishes_of (Ok x) s (closed, all) = (closed_frames s.frames closed, all)
+finishes_of (Err e) s (at, stops) =
+    (at, stops_as e.message (innermost s.frames ≡ None) (s.frames ≡ []) s.reader (closed_frames s.frames) (ap innermost) stops)

@@ -59,9 +59,9 @@ most_after frames (p ∷ ps) (Some next) more few =
     let others = most_after next ps (frames_after next (role_of p.0)) _ (λ after e. after_length next (role_of p.0) after e) in
     omega (arith, n, others)
 
-pub most_few : (f : WasmFeatures) (offset : ℕ) (placed : Placed) (text : List ℕ) (frames : List FrameKind) → LaidOut f offset text placed →
+pub twice_most_open : (f : WasmFeatures) (offset : ℕ) (placed : Placed) (text : List ℕ) (frames : List FrameKind) → LaidOut f offset text placed →
     2 * most_open (Some frames) placed ≤ 2 * length frames + length text
-most_few f offset placed text frames laid =
+twice_most_open f offset placed text frames laid =
     let most = most_after frames placed (Some frames) 0 (λ next e. let same : next ≡ frames = cc e in let n = ap length same in omega (arith, n)) in
     let twice = twice_opened_along f offset placed text laid in
     omega (arith, most, twice)

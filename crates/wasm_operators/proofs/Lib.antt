@@ -27,6 +27,7 @@ pub mod Scalar
 pub mod Clauses
 pub mod Messages
 pub mod GuardedRefusals
+pub mod GuardedReads
 pub mod Offsets
 pub mod DecoderPremises
 pub mod Taken

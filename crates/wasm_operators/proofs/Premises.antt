@@ -10,7 +10,7 @@ use Rattle.wasm_grammar.specs.declared.frame_kind.FrameKind.{FrameKind}
 use Rattle.wasm_grammar.specs.Frames.{Allows}
 use Rattle.wasm_instr.specs.declared.operator.Operator.{Operator}
 use Rattle.wasm_instr.specs.Encoding.{EncodesOperator}
-use Rattle.wasm_instr.specs.Kinds.{IsVector}
+use Rattle.wasm_instr.specs.Kinds.{IsSimd}
 use Rattle.wasm_instr.specs.Roles.{role_of}
 use Rattle.wasm_operators.specs.Expression.{Placed, OfPlaced}
 use Rattle.wasm_operators.specs.Reading.{Taking, Refusing}
@@ -27,8 +27,8 @@ TakesEach Kept Encodes = (f : WasmFeatures) (kind : FrameKind) (text : List ℕ)
 abbrev pub Everything : Operator → Type 0
 Everything op = Unit {0}
 
-abbrev pub IsNoVector : Operator → Type 0
-IsNoVector op = IsVector op → ⊥
+abbrev pub IsNotSimd : Operator → Type 0
+IsNotSimd op = IsSimd op → ⊥
 
 abbrev pub TakesAll : Taking → Type 0
 TakesAll Encodes = TakesEach Everything Encodes
@@ -41,8 +41,8 @@ pub record Keeps (Sort : Operator → Type 0) (Kept : OfPlaced) (Encodes : Takin
   pub takes : TakesEach Sort Encodes
   pub each : (placed : Placed) → Kept placed → AreEach Sort placed
 
-abbrev pub TakesNoVector : Taking → Type 0
-TakesNoVector Encodes = (f : WasmFeatures) (kind : FrameKind) (text : List ℕ) (op : Operator) → Encodes f kind text op → IsVector op → ⊥
+abbrev pub TakesNoSimd : Taking → Type 0
+TakesNoSimd Encodes = (f : WasmFeatures) (kind : FrameKind) (text : List ℕ) (op : Operator) → Encodes f kind text op → IsSimd op → ⊥
 
 abbrev pub IsReading : Refusing → Type 0
 IsReading Fault = (f : WasmFeatures) (kind : FrameKind) (m : Message) (r : Reader) (offset : ℕ) → Fault f kind m r offset → IsReadFault m
@@ -50,6 +50,6 @@ IsReading Fault = (f : WasmFeatures) (kind : FrameKind) (m : Message) (r : Reade
 abbrev pub IsDetermined : Refusing → Type 0
 IsDetermined Fault = (f : WasmFeatures) (kind : FrameKind) → DeterminesRefusal (Fault f kind)
 
-abbrev pub RefusesVectors : Refusing → Type 0
-RefusesVectors Fault = (f : WasmFeatures) (kind : FrameKind) (m : Message) (r : Reader) (offset : ℕ) → Fault f kind m r offset → BeginsWith 0xfd (rest r) →
+abbrev pub RefusesSimd : Refusing → Type 0
+RefusesSimd Fault = (f : WasmFeatures) (kind : FrameKind) (m : Message) (r : Reader) (offset : ℕ) → Fault f kind m r offset → BeginsWith 0xfd (rest r) →
     m ≡ message.UnexpectedSimd

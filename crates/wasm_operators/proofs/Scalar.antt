@@ -14,35 +14,35 @@ use Rattle.wasm_grammar.proofs.Runs.{bound, some_of, IsSome_of, frames_along-app
 use Rattle.wasm_instr.specs.declared.operator.Operator.{Operator}
 use Rattle.wasm_instr.specs.declared.operator.Operator.TheVariants as operator
 use Rattle.wasm_instr.specs.Encoding.{EncodesOperator}
-use Rattle.wasm_instr.specs.Kinds.{IsVector}
+use Rattle.wasm_instr.specs.Kinds.{IsSimd}
 use Rattle.wasm_instr.specs.Roles.{role_of, roles_of}
 use Rattle.wasm_instr.specs.Row.{prefix_of, opcode_of}
 use Rattle.wasm_operators.specs.Expression.{Placed, OfPlaced, operators, LaidOut, AreEncoded, IsPrefixAfter, Longest, IsLongestAfter, IsBeginningOf}
 use Rattle.wasm_operators.specs.Flat.{IsAllowedFrom, IsFlatFrom}
 use Rattle.wasm_operators.specs.Reading.{State, TakesOperators, StopsRun, RunsToEnd, Decoder}
 use Rattle.wasm_operators.specs.MainTheorem.{ReadSoFar, StopsAtSimd, ClosesFrom}
-use Rattle.wasm_operators.specs.Visiting.{is_vector, scalar_beginning, IsScalar}
+use Rattle.wasm_operators.specs.Visiting.{is_simd, scalar_beginning, IsScalar}
 use Rattle.wasm_operators.proofs.LayoutLemmas.{roles_of-append, operators-append, begins_walk, not_empty, laid_beginning, laid_goes_on, laid_no_longer, laid_same, one_longest, GoesOn, goes_allowed}
 use Rattle.wasm_operators.proofs.OneRead.{is_memory}
 use Rattle.wasm_instr.proofs.FirstBytes.{first_byte, begins_encoding}
-use Rattle.wasm_operators.proofs.Premises.{AreEach, IsNoVector, Keeps, RefusesVectors}
+use Rattle.wasm_operators.proofs.Premises.{AreEach, IsNotSimd, Keeps, RefusesSimd}
 use Rattle.wasm_operators.proofs.Runs.{features_stay, read_further, beginning_of_run, IsStuckFor, stuck_run}
-use Rattle.wasm_operators.proofs.VisitLemmas.{no_vector_of, vector_of, scalar_begins, scalar_longest, scalar_none}
+use Rattle.wasm_operators.proofs.VisitLemmas.{not_simd_if, simd_if, scalar_begins, scalar_longest, scalar_none}
 
-pub each_scalar : (placed : Placed) → IsScalar placed → AreEach IsNoVector placed
+pub each_scalar : (placed : Placed) → IsScalar placed → AreEach IsNotSimd placed
 each_scalar placed scalar before after p e vector = scalar_none placed p before after (scalar ∙ e) vector
 
-next_vector : (before : List Operator) (old new : State) (placed longest : Placed) → ReadSoFar before old → (r : TakesOperators old new placed) →
-    IsLongestAfter before (source_of old.reader) longest → IsStuckFor IsNoVector new →
-    (g : GoesOn old.reader.features placed longest (rest new.reader)) → is_vector g.next.0 ≡ true
-next_vector before old new placed longest h r l none g =
-    elim (cases_Bool (is_vector g.next.0)) [
+next_simd : (before : List Operator) (old new : State) (placed longest : Placed) → ReadSoFar before old → (r : TakesOperators old new placed) →
+    IsLongestAfter before (source_of old.reader) longest → IsStuckFor IsNotSimd new →
+    (g : GoesOn old.reader.features placed longest (rest new.reader)) → is_simd g.next.0 ≡ true
+next_simd before old new placed longest h r l none g =
+    elim (cases_Bool (is_simd g.next.0)) [
       | inl is ↦ is
       | inr not ↦ (
           let encodes = subst (λ f. EncodesOperator f g.text g.next.0) (sym (features_stay old.reader new.reader r.text r.takes)) g.encodes in
           absurd (goes_allowed before old.reader.features placed longest (rest new.reader) new.frames (read_further before old new placed h r).path
           (begins_walk old.reader.features (before ++ operators longest) l.beginning.begins) g
-          (none g.text g.more g.next.0 encodes (no_vector_of g.next.0 not) g.bytes))
+          (none g.text g.more g.next.0 encodes (not_simd_if g.next.0 not) g.bytes))
           )
     ]
 
@@ -59,14 +59,14 @@ run_and_longest before old new placed longest h r l =
           l.beginning.laid both (omega arith)).0
     ]
 
-vector_byte : (op : Operator) → IsVector op → first_byte (prefix_of op) (opcode_of op) ≡ 0xfd
-vector_byte (operator.Simd op) is = refl
-vector_byte _ is = absurd is
+simd_byte : (op : Operator) → IsSimd op → first_byte (prefix_of op) (opcode_of op) ≡ 0xfd
+simd_byte (operator.Simd op) is = refl
+simd_byte _ is = absurd is
 
-pub scalar_vector : (decoder : Decoder) → Keeps IsNoVector IsScalar decoder.Encodes → RefusesVectors decoder.Fault →
+pub scalar_stops_at_simd : (decoder : Decoder) → Keeps IsNotSimd IsScalar decoder.Encodes → RefusesSimd decoder.Fault →
     (before : List Operator) (e : Error) (old new : State) (placed longest : Placed) → ReadSoFar before old → TakesOperators old new placed → IsScalar placed → StopsRun decoder e new →
     IsLongestAfter before (source_of old.reader) longest → (IsScalar longest → ⊥) → (e.message ≡ message.UnexpectedSimd) ⊎ (e.message ≡ message.OutOfMemory)
-scalar_vector decoder keeps refuses before e old new placed longest h r scalar stops l vectors =
+scalar_stops_at_simd decoder keeps refuses before e old new placed longest h r scalar stops l vectors =
     elim (is_memory e.message) [
       | inl is ↦ inr is
       | inr other ↦ inl (elim (run_and_longest before old new placed longest h r l) [
@@ -77,10 +77,10 @@ scalar_vector decoder keeps refuses before e old new placed longest h r scalar s
   where
     led : GoesOn old.reader.features placed longest (rest new.reader) → (e.message ≡ message.OutOfMemory → ⊥) → BeginsWith 0xfd (rest new.reader)
     led g other =
-        let none = stuck_run decoder IsNoVector keeps.takes e new stops other in
-        let vector = vector_of g.next.0 (next_vector before old new placed longest h r l none g) in
+        let none = stuck_run decoder IsNotSimd keeps.takes e new stops other in
+        let vector = simd_if g.next.0 (next_simd before old new placed longest h r l none g) in
         let first = begins_encoding old.reader.features g.next.0 g.text g.encodes in
-        let byte = vector_byte g.next.0 vector in
+        let byte = simd_byte g.next.0 vector in
         (first.0 ++ g.more, g.bytes ∙ ap (λ x. x ++ g.more) (first.1 ∙ ap (λ (b : ℕ). b ∷ first.0) byte))
 
     at_next : GoesOn old.reader.features placed longest (rest new.reader) → (e.message ≡ message.OutOfMemory → ⊥) → e.message ≡ message.UnexpectedSimd
@@ -96,11 +96,11 @@ scalar_vector decoder keeps refuses before e old new placed longest h r scalar s
         stopped (inr (some, inr (inr memory))) = absurd (other memory.0)
 
 pub scalar_refused : {X : Type 0} (decoder : Decoder) (Effect : OfPlaced) → ((placed : Placed) → Effect placed → IsScalar placed) →
-    Keeps IsNoVector IsScalar decoder.Encodes → RefusesVectors decoder.Fault → (r : Result X Error) (old new : State) → RunsToEnd decoder Effect r old new →
+    Keeps IsNotSimd IsScalar decoder.Encodes → RefusesSimd decoder.Fault → (r : Result X Error) (old new : State) → RunsToEnd decoder Effect r old new →
     StopsAtSimd r old
 scalar_refused decoder Effect kept keeps refuses (Ok x) old new run before h longest l vectors = tt
 scalar_refused decoder Effect kept keeps refuses (Err e) old new (placed, effect, ran, stops) before h longest l vectors =
-    scalar_vector decoder keeps refuses before e old new placed longest h ran (kept placed effect) stops l vectors
+    scalar_stops_at_simd decoder keeps refuses before e old new placed longest h ran (kept placed effect) stops l vectors
 
 laid_first : (f : WasmFeatures) (offset : ℕ) (ps qs : Placed) (bytes : List ℕ) → LaidOut f offset bytes (ps ++ qs) →
     (a b : List ℕ) × (bytes ≡ a ++ b) × LaidOut f offset a ps
@@ -153,9 +153,9 @@ begins_length ps qs (more, e) = let n : length qs ≡ length ps + length more = 
 
 pub scalar_is_scalar : (ps : Placed) → IsScalar (scalar_beginning ps)
 scalar_is_scalar [] = refl
-scalar_is_scalar (p ∷ ps) = go (is_vector p.0) refl (scalar_is_scalar ps)
+scalar_is_scalar (p ∷ ps) = go (is_simd p.0) refl (scalar_is_scalar ps)
   where
-    go : (b : Bool) → is_vector p.0 ≡ b → IsScalar (scalar_beginning ps) →
+    go : (b : Bool) → is_simd p.0 ≡ b → IsScalar (scalar_beginning ps) →
         scalar_beginning (cond b [] (p ∷ scalar_beginning ps)) ≡ cond b [] (p ∷ scalar_beginning ps)
     go true is h = refl
     go false is h = ap (λ c. cond c [] (p ∷ scalar_beginning (scalar_beginning ps))) is ∙ ap (λ (z : Placed). p ∷ z) h

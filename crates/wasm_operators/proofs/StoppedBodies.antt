@@ -12,7 +12,7 @@ use Rattle.wasm_operators.specs.Expression.{Placed, operators}
 use Rattle.wasm_operators.specs.Openings.{most_open}
 use Rattle.wasm_operators.specs.Reading.{State, StopsRun, TakesOperators}
 use Rattle.wasm_operators.proofs.Ends.{run_determined}
-use Rattle.wasm_operators.proofs.FrameMemory.{few_frames, most_few, most_least}
+use Rattle.wasm_operators.proofs.FrameMemory.{few_frames, twice_most_open, most_least}
 use Rattle.wasm_operators.proofs.Premises.{Everything}
 use Rattle.wasm_operators.proofs.Runs.{run_only, fresh_before}
 use Rattle.wasm_operators.proofs.DecoderPremises.{takes_all, keeps_all}
@@ -53,7 +53,7 @@ ran_after : (e : Error) (body : Reader) (placed : Placed) (h : NoExpression e bo
 ran_after e body placed h =
     let along = ap (λ (frames : List FrameKind). frames_along frames (roles_of (operators placed))) h.opens.1 ∙
     run_path h.stopped.frames (roles_of (operators placed)) h.reads.read_so_far.path in
-    let few = most_few h.opened.reader.features (offset_of h.opened.reader) placed h.reads.text h.opened.frames h.reads.laid in
+    let few = twice_most_open h.opened.reader.features (offset_of h.opened.reader) placed h.reads.text h.opened.frames h.reads.laid in
     let left = few_frames h.opened.reader.features (offset_of h.opened.reader) placed h.reads.text h.opened.frames h.stopped.frames h.reads.laid along in
     let least = most_least h.opened.frames placed in
     record {

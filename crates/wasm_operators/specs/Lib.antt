@@ -5,6 +5,7 @@ pub mod Visiting
 pub mod Stack
 pub mod Reading
 pub mod Next
+pub mod Sets
 pub mod Guarded
 pub mod Iterating
 pub mod Collecting
@@ -26,3 +27,4 @@ pub use Rattle.wasm_instr_simd.specs as instr_simd
 pub use Rattle.wasm_instr.specs as instr
 pub use Rattle.wasm_decode_opcodes.specs as opcodes
 pub use Rattle.wasm_decode.specs.Reading as Decoding
+pub use Rattle.wasm_decode.specs.OperatorSets as sets

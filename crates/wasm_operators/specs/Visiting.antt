@@ -14,14 +14,14 @@ VisitRun {V} {A} visits before (p ∷ ps) outcomes after =
 abbrev pub Visited : {V A : Type 0} → (V → Operator → A → V → Type 0) → V → V → Placed → Type 0
 Visited {V} {A} visits before after placed = (outcomes : List A) × VisitRun visits before placed outcomes after
 
-abbrev pub is_vector : Operator → Bool
-is_vector (operator.Simd _) = true
-is_vector _ = false
+abbrev pub is_simd : Operator → Bool
+is_simd (operator.Simd _) = true
+is_simd _ = false
 
 -- The longest prefix without SIMD operators.
 abbrev pub scalar_beginning : Placed → Placed
 scalar_beginning [] = []
-scalar_beginning (p ∷ ps) = if is_vector p.0 then [] else (p ∷ scalar_beginning ps)
+scalar_beginning (p ∷ ps) = if is_simd p.0 then [] else (p ∷ scalar_beginning ps)
 
 -- The list has no SIMD operator.
 abbrev pub IsScalar : Placed → Type 0

@@ -11,6 +11,7 @@ use crate::collector::Collector;
 use crate::operators::OperatorsReader;
 use std::mem::replace;
 use wasm_below::{Error, Message, Result};
+use wasm_decode::{AllOperators, ScalarOperators};
 use wasm_instr::Operator;
 use wasm_visit::{HoldTable, VisitOperator};
 
@@ -87,7 +88,7 @@ impl<'a> OperatorsReader<'a> {
         ensures flat { ReadsFlat all_operators (Visited V.visits v.old v.new) result self.old }
         ensures depth { IsWithinDepth self.old self.new }
     {
-        self.visit_to_end_simd(v)
+        self.visit_to_end::<V, AllOperators>(v)
     }
 
     /// Visits operators up to the end of the data, an error or a SIMD operator, and finishes. Drops
@@ -100,9 +101,9 @@ impl<'a> OperatorsReader<'a> {
         ensures rest { ReadsRest scalar_operators (VisitedScalar V.visits v.old v.new) result self.old self.new }
         ensures runs { RunsToEnd scalar_operators (VisitedScalar V.visits v.old v.new) result self.old self.new }
         ensures flat { ReadsFlat scalar_operators (VisitedScalar V.visits v.old v.new) result self.old }
-        ensures vector { StopsAtSimd result self.old }
+        ensures simd { StopsAtSimd result self.old }
         ensures depth { IsWithinDepth self.old self.new }
     {
-        self.visit_to_end(v)
+        self.visit_to_end::<V, ScalarOperators>(v)
     }
 }

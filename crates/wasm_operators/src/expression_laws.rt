@@ -4,7 +4,7 @@ ghost use Rattle.wasm_grammar.specs.declared.frame_kind.FrameKind.{FrameKind};
 ghost use Rattle.wasm_grammar.specs.Frames.{OpensFrame};
 ghost use Rattle.wasm_instr.specs.declared.operator.Operator.{Operator};
 ghost use Rattle.wasm_instr.specs.Encoding.{EncodesOperator};
-ghost use Rattle.wasm_instr.specs.Kinds.{IsVector};
+ghost use Rattle.wasm_instr.specs.Kinds.{IsSimd};
 ghost use Rattle.wasm_instr.specs.Roles.{change_at};
 ghost use Rattle.wasm_operators.specs.Expression.{Placed, LaidOut, EndsAt, AreEncoded, EncodesRest, EncodesExpression, IsBeginningOf, IsPrefixAfter, Longest, IsLongestAfter, IsLongestBeginning};
 ghost use Rattle.wasm_operators.specs.Flat.{IsAllowedFrom, IsFlatFrom, IsFlatBeginning};
@@ -88,7 +88,7 @@ pub fn flat_beginnings()
 pub fn scalar_beginnings()
     ensures beginning { (placed : Placed) → IsBeginningOf (scalar_beginning placed) placed }
     ensures none { (placed before after : Placed) (op : Operator) (at : ℕ)
-        → scalar_beginning placed ≡ before ++ (op, at) ∷ after → ¬ IsVector op }
+        → scalar_beginning placed ≡ before ++ (op, at) ∷ after → ¬ IsSimd op }
     ensures longest { (placed others : Placed)
         → IsBeginningOf others placed → IsScalar others → IsBeginningOf others (scalar_beginning placed) }
 {}

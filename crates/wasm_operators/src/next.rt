@@ -6,22 +6,23 @@ ghost use Rattle.std.specs.Prelude.{◌≡◌, ◌+◌, ◌<◌, ◌≤◌, ◌�
 ghost use Rattle.wasm_below.specs.Source.{rest};
 ghost use Rattle.wasm_decode_opcodes.specs.Allowed.{EncodesAllowed};
 ghost use Rattle.wasm_operators.specs.Collecting.{Collects};
-ghost use Rattle.wasm_operators.specs.Next.{NextMayAllocate, all_operators, collecting, scalar_operators, VisitsNext, VisitsNextScalar, state_of};
+ghost use Rattle.wasm_operators.specs.Next.{NextMayAllocate, collecting, state_of};
 ghost use Rattle.wasm_operators.specs.Expression.{Placed};
-ghost use Rattle.wasm_operators.specs.Reading.{StopsRun, TakesOperators};
-ghost use Rattle.wasm_operators.specs.Visiting.{Visited, VisitedScalar};
+ghost use Rattle.wasm_operators.specs.Reading.{StopsRun, TakesOperators, VisitsOperator};
+ghost use Rattle.wasm_operators.specs.Sets.{decoder_of, VisitedOf};
 
 use crate::ControlStack;
 use crate::begin::{KEEPS_FRAMES_FROM, begin};
 use crate::collector::Collector;
 use std::alloc::Global;
 use wasm_below::{BinaryReader, Error, Message, Result};
-use wasm_decode::{visit_after_opcode, visit_after_opcode_simd, visit_below_0x20};
+use wasm_decode::{AllOperators, OperatorSet, visit_after_opcode, visit_below_0x20};
 use wasm_instr::frame_change_at;
 use wasm_visit::{HoldTable, VisitOperator};
 
+/// Visits the next operator, which must be in the set `S`.
 #[inline(always)]
-pub fn visit_next_simd<'a, V>(
+pub fn visit_next<'a, V, S: OperatorSet<V>>(
     alloc: Global,
     v: &mut V,
     reader: &mut BinaryReader<'a>,
@@ -29,40 +30,13 @@ pub fn visit_next_simd<'a, V>(
 ) -> Result<V::Output>
 where
     V: VisitOperator<'a>,
-    ensures { VisitsNext V.visits result (state_of reader.old control.old) (state_of reader.new control.new)
-        v.old v.new }
+    ensures { VisitsOperator V.visits (decoder_of S.set) result (state_of reader.old control.old)
+        (state_of reader.new control.new) v.old v.new }
 {
     match begin(reader, control) {
         Ok(at) => {
             if at.code >= KEEPS_FRAMES_FROM {
-                return visit_after_opcode_simd(alloc, v, reader, at.start, at.frame, at.code);
-            }
-            match visit_below_0x20(alloc, v, reader, at.start, at.frame, at.code) {
-                Ok(outcome) => {
-                    control.apply_change(frame_change_at(at.code));
-                    Ok(outcome)
-                }
-                Err(e) => Err(e),
-            }
-        }
-        Err(e) => Err(e),
-    }
-}
-
-#[inline(always)]
-pub fn visit_next<'a, V: VisitOperator<'a>>(
-    alloc: Global,
-    v: &mut V,
-    reader: &mut BinaryReader<'a>,
-    control: &mut ControlStack,
-) -> Result<V::Output>
-    ensures { VisitsNextScalar V.visits result (state_of reader.old control.old) (state_of reader.new control.new)
-        v.old v.new }
-{
-    match begin(reader, control) {
-        Ok(at) => {
-            if at.code >= KEEPS_FRAMES_FROM {
-                return visit_after_opcode(alloc, v, reader, at.start, at.frame, at.code);
+                return visit_after_opcode::<V, S>(alloc, v, reader, at.start, at.frame, at.code);
             }
             match visit_below_0x20(alloc, v, reader, at.start, at.frame, at.code) {
                 Ok(outcome) => {
@@ -79,7 +53,7 @@ pub fn visit_next<'a, V: VisitOperator<'a>>(
 /// Visits to the end of the data or to an error. Whether data is left is found after each visit, so
 /// that the compiler jumps from there to the next visit, without a test for an error.
 #[inline(always)]
-pub fn visit_rest_simd<'a, V>(
+pub fn visit_rest<'a, V, S: OperatorSet<V>>(
     alloc: Global,
     v: &mut V,
     reader: &mut BinaryReader<'a>,
@@ -88,40 +62,14 @@ pub fn visit_rest_simd<'a, V>(
 where
     V: VisitOperator<'a>,
     V::Output: Copy,
-    ensures visited { (placed : Placed) × Visited V.visits v.old v.new placed
+    ensures visited { (placed : Placed) × VisitedOf S.set V.visits v.old v.new placed
         × TakesOperators (state_of reader.old control.old) (state_of reader.new control.new) placed }
     ensures end { OnOk result (rest reader.new ≡ []) }
-    ensures stopped { IfErr result (λ e. StopsRun all_operators e (state_of reader.new control.new)) }
+    ensures stopped { IfErr result (λ e. StopsRun (decoder_of S.set) e (state_of reader.new control.new)) }
 {
     let mut more = !reader.eof();
     'visits: while more {
-        match visit_next_simd(alloc, v, reader, control) {
-            Ok(_) => {}
-            Err(e) => return Err(e),
-        }
-        more = !reader.eof();
-    }
-    Ok(())
-}
-
-/// Visits like `visit_rest_simd`, for a visitor without SIMD operators.
-#[inline(always)]
-pub fn visit_rest<'a, V: VisitOperator<'a>>(
-    alloc: Global,
-    v: &mut V,
-    reader: &mut BinaryReader<'a>,
-    control: &mut ControlStack,
-) -> Result<()>
-where
-    V::Output: Copy,
-    ensures visited { (placed : Placed) × VisitedScalar V.visits v.old v.new placed
-        × TakesOperators (state_of reader.old control.old) (state_of reader.new control.new) placed }
-    ensures end { OnOk result (rest reader.new ≡ []) }
-    ensures stopped { IfErr result (λ e. StopsRun scalar_operators e (state_of reader.new control.new)) }
-{
-    let mut more = !reader.eof();
-    'scalar_visits: while more {
-        match visit_next(alloc, v, reader, control) {
+        match visit_next::<V, S>(alloc, v, reader, control) {
             Ok(_) => {}
             Err(e) => return Err(e),
         }
@@ -156,7 +104,7 @@ where
         if list.items.try_reserve(1).is_err() {
             return Err(Error::new(Message::OutOfMemory, list.offset));
         }
-        match visit_next_simd(alloc, list, reader, control) {
+        match visit_next::<Collector<T>, AllOperators>(alloc, list, reader, control) {
             Ok(_) => {}
             Err(e) => return Err(e),
         }

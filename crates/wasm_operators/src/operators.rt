@@ -9,12 +9,13 @@ mod stack;
 mod to_end;
 
 use crate::begin::{KEEPS_FRAMES_FROM, begin};
-use crate::next::{visit_next, visit_next_simd};
+use crate::next::visit_next;
+use crate::read_operators::ReadOperators;
 use crate::{ControlStack, OperatorsReaderAllocations};
 use std::alloc::Global;
 use std::marker::Model;
-use wasm_below::{BinaryReader, Error, Message, Result};
-use wasm_decode::{read_after_opcode, read_below_0x20};
+use wasm_below::{BinaryReader, Result};
+use wasm_decode::{AllOperators, ScalarOperators, read_after_opcode, read_below_0x20};
 use wasm_grammar::FrameKind;
 use wasm_instr::{Operator, frame_change_at};
 use wasm_visit::VisitOperator;
@@ -149,7 +150,7 @@ impl<'a> OperatorsReader<'a> {
         V: VisitOperator<'a>,
         ensures { VisitsNext V.visits result self.old self.new v.old v.new }
     {
-        visit_next_simd(self.alloc, v, &mut self.reader, &mut self.control)
+        visit_next::<V, AllOperators>(self.alloc, v, &mut self.reader, &mut self.control)
     }
 
     /// Visits the next operator. Fails with `UnexpectedSimd` at the prefix 0xfd if a frame is open,
@@ -158,7 +159,7 @@ impl<'a> OperatorsReader<'a> {
     pub fn visit_operator<V: VisitOperator<'a>>(&mut self, v: &mut V) -> Result<V::Output>
         ensures { VisitsNextScalar V.visits result self.old self.new v.old v.new }
     {
-        visit_next(self.alloc, v, &mut self.reader, &mut self.control)
+        visit_next::<V, ScalarOperators>(self.alloc, v, &mut self.reader, &mut self.control)
     }
 
     /// Checks that all frames are closed and all data was read. Fails at the position, with
@@ -175,12 +176,6 @@ impl<'a> OperatorsReader<'a> {
     pub fn finish(&self) -> Result<()>
         ensures { Finishes result self.now }
     {
-        if self.control.last().is_some() {
-            return Err(Error::new(Message::FramesRemain, self.original_position()));
-        }
-        if !self.eof() {
-            return Err(Error::new(Message::UnexpectedData, self.original_position()));
-        }
-        Ok(())
+        self.reader.finish_expression(self)
     }
 }

@@ -4,8 +4,10 @@ ghost use Rattle.wasm_below.specs.Features.{HasFeature, memory64};
 use crate::failure::{Failure, Written};
 use bitflags::Flags;
 use std::alloc::Global;
-use wasm_below::{BinaryReader, HeapType, RefType, TakesMemory, WasmFeatures};
-use wasm_imm::{BrTable, Cast, Ieee32, Members, ReadImmediates, V128};
+use wasm_below::{BinaryReader, HeapType, RefType, TakesMemory, ValType, WasmFeatures};
+use wasm_imm::{
+    BrTable, Cast, Catch, Handle, Ieee32, Members, ReadImmediates, ResumeTable, TryTable, V128,
+};
 
 pub fn write_scenario(alloc: Global, text: &mut String, name: &str) -> Written {
     match name {
@@ -92,6 +94,11 @@ fn write_members(alloc: Global, text: &mut String) -> Written {
     write!(text, ", items {items:?}")?;
     let none = Members::<u32>::from_vec(Vec::new(alloc));
     write!(text, "; {none:?}, is_empty {}", none.is_empty())?;
+    let members = Members::from(vec![in alloc; 3u32, 4]?);
+    write!(text, "; second {}", members[1])?;
+    for item in &members {
+        write!(text, ", item {item}")?;
+    }
     Ok(())
 }
 
@@ -126,6 +133,17 @@ fn write_references(text: &mut String) -> Written {
         to.is_nullable()
     )?;
     write!(text, ", from {:?}", from.heap_type())?;
-    write!(text, "; u32 takes memory {}", u32::TAKES_MEMORY)?;
+    write_memory_use(text)
+}
+
+fn write_memory_use(text: &mut String) -> Written {
+    write!(text, "; allocates: u32 {}", u32::TAKES_MEMORY)?;
+    write!(text, ", HeapType {}", HeapType::TAKES_MEMORY)?;
+    write!(text, ", RefType {}", RefType::TAKES_MEMORY)?;
+    write!(text, ", ValType {}", ValType::TAKES_MEMORY)?;
+    write!(text, ", Catch {}", Catch::TAKES_MEMORY)?;
+    write!(text, ", Handle {}", Handle::TAKES_MEMORY)?;
+    write!(text, ", TryTable {}", TryTable::TAKES_MEMORY)?;
+    write!(text, ", ResumeTable {}", ResumeTable::TAKES_MEMORY)?;
     Ok(())
 }

@@ -2,7 +2,7 @@ use crate::listing::write_run;
 use crate::row::Given;
 use std::alloc::{AllocError, Global};
 use std::io::{self, Read, Write};
-use wasm_listing::{DumpFault, run};
+use wasm_listing::{DumpFault, FlushedWrite, run};
 use wasm_operators::WasmFeatures;
 use wasm_tests_texts::Written;
 
@@ -17,7 +17,7 @@ struct OneByte<'a> {
 impl<'a> Read for OneByte<'a> {
     fn read(&mut self, buf: &mut [u8]) -> io::Result<usize> {
         if self.calls == self.fails_at {
-            return Err(io::Error::from(io::ErrorKind::Interrupted));
+            return Err(io::Error::from(io::ErrorKind::Other));
         }
         self.calls = self.calls.wrapping_add(1);
         let Some((first, others)) = self.bytes.split_first() else {
@@ -61,6 +61,15 @@ impl Write for OneTaken {
         }
         self.calls = self.calls.wrapping_add(1);
         Ok(())
+    }
+}
+
+// Without a buffer.
+impl FlushedWrite for OneTaken {
+    ghost is_flushed = { λ writer. Unit {0} };
+
+    fn flush_all(&mut self) -> io::Result<()> {
+        self.flush()
     }
 }
 

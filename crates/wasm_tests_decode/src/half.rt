@@ -18,7 +18,7 @@ pub fn run_half<V: GroupSimdLow + GroupSimdHigh>(
     task.frame?;
     let mut reader = reader_at(task, bytes);
     let start = reader.current_position();
-    let code = read_vector_subopcode(&mut reader, start)?;
+    let code = read_simd_subopcode(&mut reader, start)?;
     let outcome = if code < 0x80 {
         v.decode_simd_low(&mut reader, start, code)
     } else {
@@ -27,7 +27,7 @@ pub fn run_half<V: GroupSimdLow + GroupSimdHigh>(
     Some((outcome, reader.current_position()))
 }
 
-fn read_vector_subopcode(reader: &mut BinaryReader<'_>, start: usize) -> Option<u32>
+fn read_simd_subopcode(reader: &mut BinaryReader<'_>, start: usize) -> Option<u32>
     requires { start ≡ reader.old.position }
     ensures { IfSome result (λ code. IsAfterCode start (Some 0xfd) code reader.new) }
 {

@@ -31,12 +31,13 @@ nan_text canonical payload = if payload == canonical then codes "nan" else codes
 abbrev pub special_text : ℕ → ℕ → List ℕ
 special_text canonical payload = if payload == 0 then codes "inf" else nan_text canonical payload
 
-abbrev pub sign_text : ℕ → List ℕ
-sign_text sign = if sign == 0 then codes " " else codes " -"
+-- The space before a float, and its sign if that is negative.
+abbrev pub space_and_sign : ℕ → List ℕ
+space_and_sign sign = if sign == 0 then codes " " else codes " -"
 
 -- The float of a sign bit, 8 exponent bits and 23 fraction bits.
 abbrev pub float_32_text : ℕ → List ℕ
-float_32_text bits = sign_text (bits / 2 ^ 31) ++ (if bits / 2 ^ 23 % 2 ^ 8 == 255 then special_text (2 ^ 22) (bits % 2 ^ 23) else finite_text 127 (bits / 2 ^ 23 % 2 ^ 8) (bits % 2 ^ 23 * 2 ^ 29))
+float_32_text bits = space_and_sign (bits / 2 ^ 31) ++ (if bits / 2 ^ 23 % 2 ^ 8 == 255 then special_text (2 ^ 22) (bits % 2 ^ 23) else finite_text 127 (bits / 2 ^ 23 % 2 ^ 8) (bits % 2 ^ 23 * 2 ^ 29))
 
 abbrev pub float_64_text : ℕ → List ℕ
-float_64_text bits = sign_text (bits / 2 ^ 63) ++ (if bits / 2 ^ 52 % 2 ^ 11 == 2047 then special_text (2 ^ 51) (bits % 2 ^ 52) else finite_text 1023 (bits / 2 ^ 52 % 2 ^ 11) (bits % 2 ^ 52))
+float_64_text bits = space_and_sign (bits / 2 ^ 63) ++ (if bits / 2 ^ 52 % 2 ^ 11 == 2047 then special_text (2 ^ 51) (bits % 2 ^ 52) else finite_text 1023 (bits / 2 ^ 52 % 2 ^ 11) (bits % 2 ^ 52))

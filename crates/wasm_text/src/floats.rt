@@ -1,5 +1,5 @@
 ghost use Rattle.std.specs.Prelude.{◌≡◌, ◌++◌, ◌^◌, ◌<◌, OnOk, string_bytes};
-ghost use Rattle.wasm_text.specs.Floats.{fraction_digits, fraction_text, exponent_text, finite_text, special_text, sign_text, float_32_text, float_64_text};
+ghost use Rattle.wasm_text.specs.Floats.{fraction_digits, fraction_text, exponent_text, finite_text, special_text, space_and_sign, float_32_text, float_64_text};
 
 use crate::digits::write_digit;
 use crate::values::Written;
@@ -76,8 +76,9 @@ fn write_special(out: &mut String, canonical: u64, payload: u64) -> Written
     write!(out, "nan:0x{payload:x}")
 }
 
-fn write_sign(out: &mut String, sign: u64) -> Written
-    ensures { OnOk result (string_bytes out.new ≡ string_bytes out.old ++ sign_text sign) }
+/// Writes the space before a float, and its sign if that is negative.
+fn write_space_and_sign(out: &mut String, sign: u64) -> Written
+    ensures { OnOk result (string_bytes out.new ≡ string_bytes out.old ++ space_and_sign sign) }
 {
     if sign == 0 {
         out.push_str(" ")
@@ -90,7 +91,7 @@ pub fn write_float_32(out: &mut String, value: Ieee32) -> Written
     ensures { OnOk result (string_bytes out.new ≡ string_bytes out.old ++ float_32_text value) }
 {
     let bits = u64::from(value.bits());
-    write_sign(out, bits / 0x8000_0000)?;
+    write_space_and_sign(out, bits / 0x8000_0000)?;
     let biased = bits / 0x80_0000 % 0x100;
     let fraction = bits % 0x80_0000;
     if biased == 255 {
@@ -103,7 +104,7 @@ pub fn write_float_64(out: &mut String, value: Ieee64) -> Written
     ensures { OnOk result (string_bytes out.new ≡ string_bytes out.old ++ float_64_text value) }
 {
     let bits = value.bits();
-    write_sign(out, bits / 0x8000_0000_0000_0000)?;
+    write_space_and_sign(out, bits / 0x8000_0000_0000_0000)?;
     let biased = bits / 0x10_0000_0000_0000 % 0x800;
     let fraction = bits % 0x10_0000_0000_0000;
     if biased == 2047 {

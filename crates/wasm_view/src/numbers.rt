@@ -1,39 +1,16 @@
 ghost use Rattle.std.specs.Prelude.{◌≡◌, ◌≤◌, length, min};
-ghost use Rattle.wasm_below.specs.TypeEncoding.{heap_type_byte};
 ghost use Rattle.wasm_view.specs.Numbers.{heap_kind, heap_index, reference_kind, value_kind, value_index, block_kind, block_index, target_number, target_index, order_number, ordering_number};
 
-use wasm_below::{AbstractHeapType, HeapType, RefType, ValType};
+use wasm_below::{HeapType, RefType, ValType};
 use wasm_imm::{BlockType, MemArgOrdering, MemArgTarget, Ordering};
-
-fn heap_type_byte(ty: AbstractHeapType) -> u32
-    ensures is { result ≡ heap_type_byte ty }
-    ensures byte { result ≤ 0x75 }
-{
-    match ty {
-        AbstractHeapType::NoCont => 0x75,
-        AbstractHeapType::NoExn => 0x74,
-        AbstractHeapType::NoFunc => 0x73,
-        AbstractHeapType::NoExtern => 0x72,
-        AbstractHeapType::None => 0x71,
-        AbstractHeapType::Func => 0x70,
-        AbstractHeapType::Extern => 0x6f,
-        AbstractHeapType::Any => 0x6e,
-        AbstractHeapType::Eq => 0x6d,
-        AbstractHeapType::I31 => 0x6c,
-        AbstractHeapType::Struct => 0x6b,
-        AbstractHeapType::Array => 0x6a,
-        AbstractHeapType::Exn => 0x69,
-        AbstractHeapType::Cont => 0x68,
-    }
-}
 
 pub fn heap_kind(ty: HeapType) -> u32
     ensures is { result ≡ heap_kind ty }
     ensures small { result ≤ 0x175 }
 {
     match ty {
-        HeapType::Abstract { shared: false, ty } => heap_type_byte(ty),
-        HeapType::Abstract { shared: true, ty } => heap_type_byte(ty) + 256,
+        HeapType::Abstract { shared: false, ty } => u32::from(ty.byte()),
+        HeapType::Abstract { shared: true, ty } => u32::from(ty.byte()) + 256,
         HeapType::Concrete(_) => 1,
         HeapType::Exact(_) => 2,
     }

@@ -1,6 +1,6 @@
 ghost use Rattle.std.specs.Prelude.{◌≡◌, IsOk, IfOk, IfErr};
 ghost use Rattle.wasm_imm.specs.OutOfMemory.{IsOutOfMemoryAt};
-ghost use Rattle.wasm_instr.specs.Kinds.{IsVector, HoldsList};
+ghost use Rattle.wasm_instr.specs.Kinds.{IsSimd, HoldsList};
 
 use crate::operator::VisitOperator;
 use crate::owned::{visit_owned, visit_owned_simd};
@@ -17,7 +17,7 @@ pub fn visit_operator<'a, V: VisitOperator<'a>>(
     v: &mut V,
     op: &Operator<'a>,
 ) -> Result<V::Output>
-    requires { ¬ IsVector op.now }
+    requires { ¬ IsSimd op.now }
     ensures visited { IfOk result (λ outcome. V.visits v.old op.now outcome v.new) }
     ensures refused { IfErr result (λ e. IsOutOfMemoryAt 0 e × (v.new ≡ v.old)) }
     ensures lean { ¬ HoldsList op.now → IsOk result }

@@ -1,5 +1,5 @@
 ghost use Rattle.wasm_instr.specs.declared.operator.Operator.{Operator};
-ghost use Rattle.wasm_instr.specs.Kinds.{IsVector};
+ghost use Rattle.wasm_instr.specs.Kinds.{IsSimd};
 
 use crate::operator::VisitOperator;
 use crate::routes::{GroupSimdHigh, GroupSimdLow};
@@ -8,7 +8,7 @@ use wasm_instr_simd::SimdOperator;
 
 /// Visits an operator that is not a SIMD operator. The call itself does not allocate.
 pub fn visit_owned<'a, V: VisitOperator<'a>>(v: &mut V, op: Operator<'a>) -> V::Output
-    requires { ¬ IsVector op }
+    requires { ¬ IsSimd op }
     ensures { V.visits v.old op.entry result v.new }
 {
     match op {
@@ -27,13 +27,13 @@ pub fn visit_owned_simd<'a, V: VisitOperator<'a>>(v: &mut V, op: Operator<'a>) -
     ensures { V.visits v.old op.entry result v.new }
 {
     match op {
-        Operator::Simd(op) => visit_vector(v, op),
+        Operator::Simd(op) => visit_simd(v, op),
         op => visit_owned(v, op),
     }
 }
 
 /// Visits a SIMD operator. The call itself does not allocate.
-fn visit_vector<V: GroupSimdLow + GroupSimdHigh>(v: &mut V, op: SimdOperator) -> V::Output
+fn visit_simd<V: GroupSimdLow + GroupSimdHigh>(v: &mut V, op: SimdOperator) -> V::Output
     ensures { V.visits v.old (Operator.Simd op) result v.new }
 {
     if op.info().code < 0x80 {

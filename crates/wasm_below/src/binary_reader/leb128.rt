@@ -6,9 +6,11 @@ ghost use Rattle.wasm_below.specs.Leb128.{HasPlace, refusal_message, refusal_off
 
 use super::BinaryReader;
 use crate::error::{Error, Result};
-use crate::long_numbers::{NumberRefusal, last_value, long_i32, long_s33, number_error, two_bytes};
+use crate::long_numbers::{
+    NumberRefusal, last_value, long_i32, long_i64, long_s33, long_u32, long_u64, number_error,
+    two_bytes,
+};
 use crate::message::{Message, NumberName};
-use crate::number_calls::{long_i64, long_u32, long_u64};
 
 impl<'a> BinaryReader<'a> {
     /// Reads an unsigned LEB128 number of at most five bytes.

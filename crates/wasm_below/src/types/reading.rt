@@ -1,4 +1,4 @@
-ghost use Rattle.std.specs.Prelude.{◌≡◌, ◌≢◌, IsTrue, ◌↔◌, IfSome, IfNone};
+ghost use Rattle.std.specs.Prelude.{◌≡◌, ◌≢◌, ◌≤◌, IsTrue, ◌↔◌, IfSome, IfNone};
 ghost use Rattle.wasm_below.specs.declared.types.AbstractHeapType.{AbstractHeapType};
 ghost use Rattle.wasm_below.specs.Source.{Reads, BeginsWith, rest};
 ghost use Rattle.wasm_below.specs.TypeEncoding.{heap_type_byte, ref_byte, LeadsShort, LeadsRefType, LedBy, EncodesShort, EncodesConcrete, EncodesExact, EncodesHeapType, EncodesShortRef, EncodesLongRef, EncodesRefType, EncodesNumberType, EncodesValType, ShortFault, ByteFault, ExactFault, ConcreteFault, HeapTypeFault, RefTypeFault, ValTypeFault};
@@ -15,6 +15,31 @@ const REF_NULL: u8 = 0x63;
 const REF: u8 = 0x64;
 
 impl AbstractHeapType {
+    /// Returns the byte that encodes the type if it is not shared. Specification: Binary Format,
+    /// Heap Types.
+    pub fn byte(self) -> u8
+        ensures is { result ≡ heap_type_byte self }
+        ensures low { 0x68 ≤ result }
+        ensures high { result ≤ 0x75 }
+    {
+        match self {
+            AbstractHeapType::Cont => 0x68,
+            AbstractHeapType::Exn => 0x69,
+            AbstractHeapType::Array => 0x6a,
+            AbstractHeapType::Struct => 0x6b,
+            AbstractHeapType::I31 => 0x6c,
+            AbstractHeapType::Eq => 0x6d,
+            AbstractHeapType::Any => 0x6e,
+            AbstractHeapType::Extern => 0x6f,
+            AbstractHeapType::Func => 0x70,
+            AbstractHeapType::None => 0x71,
+            AbstractHeapType::NoExtern => 0x72,
+            AbstractHeapType::NoFunc => 0x73,
+            AbstractHeapType::NoExn => 0x74,
+            AbstractHeapType::NoCont => 0x75,
+        }
+    }
+
     fn from_byte(code: u8) -> Option<AbstractHeapType>
         ensures some { IfSome result (λ ty. heap_type_byte ty ≡ code) }
         ensures none { IfNone result ((ty : AbstractHeapType) → heap_type_byte ty ≢ code) }

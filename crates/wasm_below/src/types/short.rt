@@ -1,7 +1,7 @@
 //! Heap types in four bytes, as reference types store them. So a value type takes six bytes, and
 //! operators stay small.
 ghost use Rattle.std.specs.Prelude.{◌≡◌, ◌<◌};
-ghost use Rattle.wasm_below.specs.Reference.{IsIndexed};
+ghost use Rattle.wasm_below.specs.Reference.{FitsRefType};
 ghost use Rattle.wasm_below.specs.ShortTypes.{heap_type_of};
 
 use super::{AbstractHeapType, HeapType};
@@ -67,7 +67,7 @@ pub enum ShortHeapType {
 impl ShortHeapType {
     #[inline(always)]
     pub fn new(heap_type: HeapType) -> ShortHeapType
-        requires { IsIndexed heap_type }
+        requires { FitsRefType heap_type }
         ensures { heap_type_of result ≡ heap_type }
     {
         match heap_type {

@@ -2,16 +2,17 @@
 ghost use Rattle.std.specs.Prelude.{◌≡◌, ◌+◌, ◌<◌, ◌≤◌, ◌⊎◌, IfErr, vec_capacity, vec_len};
 ghost use Rattle.wasm_decode_opcodes.specs.Allowed.{EncodesAllowed};
 ghost use Rattle.wasm_operators.specs.Collecting.{Collects};
-ghost use Rattle.wasm_operators.specs.Next.{NextMayAllocate, all_operators, collecting, scalar_operators};
+ghost use Rattle.wasm_operators.specs.Next.{NextMayAllocate, collecting};
 ghost use Rattle.wasm_operators.specs.Reading.{RunsToEnd};
-ghost use Rattle.wasm_operators.specs.Visiting.{Visited, VisitedScalar};
+ghost use Rattle.wasm_operators.specs.Sets.{decoder_of, VisitedOf};
 
 use super::OperatorsReader;
 use crate::ControlStack;
 use crate::collector::Collector;
-use crate::next::{collect_rest, visit_rest, visit_rest_simd};
+use crate::next::{collect_rest, visit_rest};
 use std::mem::replace;
 use wasm_below::{Message, Result};
+use wasm_decode::OperatorSet;
 use wasm_visit::{HoldTable, VisitOperator};
 
 impl<'a> OperatorsReader<'a> {
@@ -33,31 +34,15 @@ impl<'a> OperatorsReader<'a> {
         }
     }
 
-    pub(crate) fn visit_to_end_simd<V>(&mut self, v: &mut V) -> Result<()>
+    pub(crate) fn visit_to_end<V, S: OperatorSet<V>>(&mut self, v: &mut V) -> Result<()>
     where
         V: VisitOperator<'a>,
         V::Output: Copy,
-        ensures { RunsToEnd all_operators (Visited V.visits v.old v.new) result self.old self.new }
+        ensures { RunsToEnd (decoder_of S.set) (VisitedOf S.set V.visits v.old v.new) result self.old self.new }
     {
         let mut reader = self.reader.clone();
         let mut control = replace(&mut self.control, ControlStack::new(self.alloc));
-        let outcome = visit_rest_simd(self.alloc, v, &mut reader, &mut control);
-        self.reader = reader;
-        self.control = control;
-        match outcome {
-            Ok(()) => self.finish(),
-            Err(e) => Err(e),
-        }
-    }
-
-    pub(crate) fn visit_to_end<V: VisitOperator<'a>>(&mut self, v: &mut V) -> Result<()>
-    where
-        V::Output: Copy,
-        ensures { RunsToEnd scalar_operators (VisitedScalar V.visits v.old v.new) result self.old self.new }
-    {
-        let mut reader = self.reader.clone();
-        let mut control = replace(&mut self.control, ControlStack::new(self.alloc));
-        let outcome = visit_rest(self.alloc, v, &mut reader, &mut control);
+        let outcome = visit_rest::<V, S>(self.alloc, v, &mut reader, &mut control);
         self.reader = reader;
         self.control = control;
         match outcome {

@@ -15,7 +15,7 @@ returns-clause-found c =
     let read_so_far = c.one_operator.ensures.any [] op c.new-reader.result c.read.new.self c.in_ok-first.ensures c.new-reader.ensures.read_so_far in
     let along = (c.in_ok-read_all.ensures.rest (op ∷ []) read_so_far).tree in
     let list = along.1 ∙ ap (λ first. first ++ along.0) c.new-others.ensures.items in
-    let all = first_then c.args.features c.args.bytes.now c.new-reader.result c.read.new.self op along.0 (c.new-reader.ensures.reader ∙ c.new_features.ensures)
+    let all = first_then c.place_after.ensures c.args.features c.args.bytes.now c.new-reader.result c.read.new.self op along.0 (c.new-reader.ensures.reader ∙ c.new_features.ensures)
     c.in_ok-first.ensures along.2.encodes in
     subst (λ others. EncodesExpression (input c.args.features c.args.bytes.now) ((op, 0) ∷ others)) (sym list) all
 

@@ -7,7 +7,7 @@ use Rattle.uses.proofs.single_steps.scalar_refusal.Goals as goal
 
 pub returns-in-Err-clause-there : goal.returns-in-Err-clause-there
 returns-in-Err-clause-there c = λ begins other.
-    let law = rw (c.features.ensures, c.get_binary_reader.ensures) at c.vector_refusals.ensures.there in
+    let law = rw (c.features.ensures, c.get_binary_reader.ensures) at c.simd_refusals.ensures.there in
     let old = c.args.operators.now in
     let e = c.in-Err.error in
     let fault = fault_of scalar_operators e old c.visit_operator.new.self c.in-Some.frame (sym c.current_frame.ensures ∙ c.in-Some.is) other
@@ -16,7 +16,7 @@ returns-in-Err-clause-there c = λ begins other.
 
 pub returns-in-Err-clause-elsewhere : goal.returns-in-Err-clause-elsewhere
 returns-in-Err-clause-elsewhere c = λ frame inner none other.
-    let law = rw (c.features.ensures, c.get_binary_reader.ensures) at c.vector_refusals.ensures.elsewhere in
+    let law = rw (c.features.ensures, c.get_binary_reader.ensures) at c.simd_refusals.ensures.elsewhere in
     let old = c.args.operators.now in
     let e = c.in-Err.error in
     let opened = sym c.current_frame.ensures ∙ c.in-Some.is in

@@ -13,10 +13,11 @@ returns-in-FeatureRequired-clause-why c =
     let same = c.features-features.ensures ∙ ap (λ (r : Reader). r.features) c.get_binary_reader.ensures in
     let said : e.message ≡ message.FeatureRequired c.in-FeatureRequired.field-0 = sym c.message.ensures ∙ c.in-FeatureRequired.is in
     let other : e.message ≢ message.OutOfMemory = λ m. absurd (cc (said, m)) in
-    let fault = fault_before e s c.next_refusal.new.operators c.in-Some.frame (sym c.current_frame.ensures ∙ c.in-Some.is) other c.in-Some-next_refusal.ensures in
+    let inner = sym c.current_frame.ensures ∙ c.in-Some.is in
+    let fault = fault_before e s c.next_refusal.new.operators c.in-Some.frame inner other c.in-Some-next_refusal.ensures in
     let there = subst (λ m. OperatorFault s.reader.features c.in-Some.frame m s.reader e.offset) said fault in
     let why = (rw same at c.features_required.ensures.only) c.in-FeatureRequired.field-0 s.reader e.offset there in
-    (why.0, why.1, why.2)
+    (why.0, (c.in-Some.frame, inner, why.1, why.2))
 
 pub returns-in-WrongFrame-clause-why : goal.returns-in-WrongFrame-clause-why
 returns-in-WrongFrame-clause-why c =
@@ -29,7 +30,7 @@ returns-in-WrongFrame-clause-why c =
     let fault = fault_before e s c.next_refusal.new.operators c.in-Some.frame inner other c.in-Some-next_refusal.ensures in
     let there = subst (λ m. OperatorFault s.reader.features c.in-Some.frame m s.reader e.offset) said fault in
     let why = (rw same at c.wrong_frames.ensures.only) c.in-WrongFrame.field-0 c.in-WrongFrame.field-1 s.reader e.offset there in
-    (why.0, c.in-Some.frame, why.1, inner, why.3)
+    (why.0, (c.in-Some.frame, inner, why.1, why.2, why.3))
 
 pub returns-in-WrongFrame-clause-feature : goal.returns-in-WrongFrame-clause-feature
 returns-in-WrongFrame-clause-feature c = λ guard begins lacks.

@@ -1,6 +1,7 @@
 use Rattle.std.proofs.Common.{◌/◌, ◌++◌, ◌∷◌, [], false, sym, subst, ap, ◌∙◌}
 use Rattle.std.proofs.lemmas.Fmt.{hex_one_digit}
-use Rattle.wasm_c.specs.Texts.{PutsPiece, hexadecimal}
+use Rattle.wasm_operators.specs.below.MessageText.{hexadecimal}
+use Rattle.wasm_c.specs.Texts.{PutsPiece}
 use Rattle.wasm_c.proofs.Puts.{puts_both}
 use Rattle.wasm_c.proofs.Digits.{hexadecimal_step}
 use Rattle.wasm_c.proofs.text.+put_hexadecimal.Goals as goal

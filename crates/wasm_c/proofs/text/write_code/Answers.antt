@@ -1,5 +1,5 @@
 use Rattle.std.proofs.Common.{◌++◌}
-use Rattle.wasm_c.specs.Texts.{hexadecimal}
+use Rattle.wasm_operators.specs.below.MessageText.{hexadecimal}
 use Rattle.wasm_c.proofs.Puts.{puts_both, puts_text}
 use Rattle.wasm_c.proofs.text.write_code.Goals as goal
 

@@ -2,7 +2,8 @@ use Rattle.std.proofs.Common.{◌++◌, Some, subst}
 use Rattle.std.specs.Prelude.{codes}
 use Rattle.std.specs.Option.{option_map}
 use Rattle.wasm_operators.specs.below.declared.message.Message.TheVariants as message
-use Rattle.wasm_c.specs.Texts.{message_text, ReturnsText}
+use Rattle.wasm_operators.specs.below.MessageText.{message_text}
+use Rattle.wasm_c.specs.Texts.{ReturnsText}
 use Rattle.wasm_c.proofs.text.write_feature.Goals as goal
 
 pub returns-in-Some : goal.returns-in-Some

@@ -1,6 +1,6 @@
 use Rattle.std.proofs.Common.{◌++◌}
 use Rattle.std.specs.Prelude.{codes}
-use Rattle.wasm_c.specs.Texts.{eight_digits}
+use Rattle.wasm_operators.specs.below.MessageText.{eight_digits}
 use Rattle.wasm_c.proofs.Puts.{puts_both, puts_text}
 use Rattle.wasm_c.proofs.text.write_flags.Goals as goal
 

@@ -37,7 +37,7 @@ bodies-preserved g c =
 
 pub returns-in-Err-clause-whole : goal.returns-in-Err-clause-whole
 returns-in-Err-clause-whole g c =
-    λ all code asked. c.no_refusal.ensures c.args.code all [] c.in-Err.e code (inl (refl, c.in-Err.ensures.refused))
+    λ all code asked. c.no_refusal.ensures c.args.code all [] c.in-Err.e code (inl (refl, (c.in-Err.ensures.refused, c.in-Err.ensures.fault)))
 
 pub returns-in-Err-item-clause-whole : goal.returns-in-Err-item-clause-whole
 returns-in-Err-item-clause-whole g c =

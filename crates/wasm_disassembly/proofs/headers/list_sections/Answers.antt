@@ -18,7 +18,7 @@ pub sections-smaller : goal.sections-smaller
 sections-smaller g c = c.next_section.ensures.shorter c.sections.reader c.read_section.new.reader c.in-Ok.section c.in-Ok.ensures.reads
 
 pub returns-in-Err-clause-lists : goal.returns-in-Err-clause-lists
-returns-in-Err-clause-lists g c = (c.sections.reader, c.sections.invariant, inl c.in-Err.ensures.reads.1)
+returns-in-Err-clause-lists g c = (c.sections.reader, c.sections.invariant, inl (c.in-Err.ensures.reads.1, c.in-Err.ensures.reads.2))
 
 pub returns-in-Err-detail_of-clause-lists : goal.returns-in-Err-detail_of-clause-lists
 returns-in-Err-detail_of-clause-lists g c =

@@ -1,7 +1,7 @@
-use Rattle.std.proofs.Common.{[], ◌∷◌, refl, sym, ap, ◌∙◌}
+use Rattle.std.proofs.Common.{[], ◌∷◌, refl, sym, subst, ap, ◌∙◌}
 use Rattle.std.proofs.lemmas.Result.{err_from_is_err_and}
 use Rattle.wasm_module.specs.ModuleFunctions.{index_of}
-use Rattle.wasm_disassembly.specs.Listing.{is_asked, refusals_of, ListsFunction}
+use Rattle.wasm_disassembly.specs.Listing.{is_asked, refusals_of, IsHalt, ListsFunction}
 use Rattle.wasm_disassembly.proofs.Asked.{asked_for, not_asked_for}
 use Rattle.wasm_disassembly.proofs.Bodies.{appends_none, keeps_both}
 use Rattle.wasm_disassembly.proofs.listing.list_asked.Goals as goal
@@ -52,4 +52,4 @@ pub returns-in_err-outcome-clause-halts : goal.returns-in_err-outcome-clause-hal
 returns-in_err-outcome-clause-halts g c = let p = err_from_is_err_and c.from_residual.result c.from_residual.ensures.1 in rw (p.1, p.2) c.in_err-outcome.ensures.halts
 
 pub returns-in_err-complain-in-Err-clause-halts : goal.returns-in_err-complain-in-Err-clause-halts
-returns-in_err-complain-in-Err-clause-halts g c = let p = err_from_is_err_and c.from_residual-in_err-complain-in-Err.result c.from_residual-in_err-complain-in-Err.ensures.1 in rw (p.1, p.2) c.in_err-complain-in-Err.ensures.halts
+returns-in_err-complain-in-Err-clause-halts g c = let p = err_from_is_err_and c.from_residual-in_err-complain-in-Err.result c.from_residual-in_err-complain-in-Err.ensures.1 in rw (p.1, p.2) (subst IsHalt (sym c.in_err-complain-in-Err.ensures.err) tt)

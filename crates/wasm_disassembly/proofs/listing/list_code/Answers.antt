@@ -51,14 +51,14 @@ bodies-preserved g c =
 pub returns-in-Err-clause-lists : goal.returns-in-Err-clause-lists
 returns-in-Err-clause-lists g c = (
   [],
-  inl (refl, c.in-Err.ensures.refused),
+  inl (refl, (c.in-Err.ensures.refused, c.in-Err.ensures.fault)),
   [],
   writes_none g.C.Complaints.reports c.args.functions.now c.args.only c.args.complaints.now (g.W.Write.contents c.args.writer.now),
 )
 
 pub returns-in-Err-clause-whole : goal.returns-in-Err-clause-whole
 returns-in-Err-clause-whole g c =
-    λ all code asked. c.no_refusal.ensures c.args.code all [] c.in-Err.e code (inl (refl, c.in-Err.ensures.refused))
+    λ all code asked. c.no_refusal.ensures c.args.code all [] c.in-Err.e code (inl (refl, (c.in-Err.ensures.refused, c.in-Err.ensures.fault)))
 
 pub returns-in-Err-item-clause-whole : goal.returns-in-Err-item-clause-whole
 returns-in-Err-item-clause-whole g c =

@@ -1,7 +1,7 @@
 use Rattle.std.proofs.Common.{subst, string_bytes}
 use Rattle.std.specs.Io.KnownBytes.{Appends}
 use Rattle.std.proofs.lemmas.Result.{err_from_is_err_and}
-use Rattle.wasm_listing.proofs.Faults.{dumps_fault, dumps_refused, whole_fault, whole_refused}
+use Rattle.wasm_listing.proofs.Faults.{dumps_fault, dumps_refused, no_lines, whole_fault, whole_refused}
 use Rattle.wasm_listing.proofs.dump.run.Goals as goal
 
 pub returns-in_err-input-clause-lines : goal.returns-in_err-input-clause-lines
@@ -13,6 +13,11 @@ pub returns-in_err-input-clause-whole : goal.returns-in_err-input-clause-whole
 returns-in_err-input-clause-whole g c =
     let p = err_from_is_err_and c.from_residual.result c.from_residual.ensures.1 in
     rw (p.1, p.2) (whole_fault (g.R.Read.remaining c.args.reader.now) c.args.features c.in_err-input.field-0.0 c.in_err-input.ensures.fault)
+
+pub returns-in_err-input-clause-flushed : goal.returns-in_err-input-clause-flushed
+returns-in_err-input-clause-flushed g c =
+    let p = err_from_is_err_and c.from_residual.result c.from_residual.ensures.1 in
+    rw (p.1, p.2) (λ lines. absurd (no_lines c.in_err-input.field-0.0 c.in_err-input.ensures.fault lines))
 
 pub returns-clause-lines : goal.returns-clause-lines
 returns-clause-lines g c =

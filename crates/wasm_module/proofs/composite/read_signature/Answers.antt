@@ -1,7 +1,8 @@
 use Rattle.std.proofs.Common.{ℕ}
 use Rattle.wasm_module.specs.Types.{EncodesValueTypes, ValueTypesFault, EncodesSignature, SignatureFault}
+use Rattle.wasm_below.proofs.Ahead.{failed}
 use Rattle.wasm_module.proofs.Composites.{value_types_code}
-use Rattle.wasm_module.proofs.Sequences.{both_read, both_first, both_second, failed}
+use Rattle.wasm_module.proofs.Sequences.{both_read, both_first, both_second}
 use Rattle.wasm_module.proofs.composite.read_signature.Goals as goal
 
 pub returns-in_err-parameters : goal.returns-in_err-parameters

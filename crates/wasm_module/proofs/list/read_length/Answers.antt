@@ -2,8 +2,9 @@ use Rattle.wasm_below.specs.Fault.{ManyFault}
 use Rattle.wasm_below.specs.Number.{EncodesUnsigned}
 use Rattle.wasm_below.specs.Source.{U32Fault}
 use Rattle.wasm_module.specs.Types.{EncodesCounted, EncodesLength, LengthFault}
+use Rattle.wasm_below.proofs.Ahead.{first_fails, second_fails, failed}
 use Rattle.wasm_module.proofs.Many.{way_begins, way_goes_on, way_ends, way_refused}
-use Rattle.wasm_module.proofs.Sequences.{then_read, then_first, then_second, failed}
+use Rattle.wasm_module.proofs.Sequences.{then_read}
 use Rattle.wasm_module.proofs.list.read_length.Goals as goal
 
 pub loop-item-init : goal.loop-item-init
@@ -21,7 +22,7 @@ returns-in_err-length g c =
     let P = g.T.Item.encodes in
     let F = g.T.Item.fault in
     failed (EncodesLength P) (LengthFault P F) _ c.read_var_u32.new.self c.from_residual.ensures.1
-    (then_first (EncodesUnsigned 32) (EncodesCounted P) U32Fault (ManyFault P F) (h.1, h.2))
+    (first_fails (EncodesUnsigned 32) (EncodesCounted P) U32Fault (ManyFault P F) (h.1, h.2))
 
 pub returns-in_err-read_item : goal.returns-in_err-read_item
 returns-in_err-read_item g c =
@@ -30,7 +31,7 @@ returns-in_err-read_item g c =
     let item = way_refused P F c.in_ok-length.length c.loop-item._item c.read_var_u32.new.self c.loop-item.reader c.loop-item-test.true
     c.loop-item.invariant c.in_err-read_item.ensures in
     failed (EncodesLength P) (LengthFault P F) _ _ c.from_residual-in_err-read_item.ensures.1
-    (then_second (EncodesUnsigned 32) (EncodesCounted P) U32Fault (ManyFault P F) (c.unsigned_numbers.ensures 32) c.in_ok-length.ensures item)
+    (second_fails (EncodesUnsigned 32) (EncodesCounted P) U32Fault (ManyFault P F) (c.unsigned_numbers.ensures 32) c.in_ok-length.ensures item)
 
 pub returns : goal.returns
 returns g c =

@@ -2,7 +2,9 @@ use Rattle.std.specs.Int.{w32}
 use Rattle.wasm_below.specs.FromReader.{ReaderFault}
 use Rattle.wasm_below.specs.Number.{EncodesFixed}
 use Rattle.wasm_below.specs.Source.{IsByte, EndFault, EndsWithin}
-use Rattle.wasm_module.proofs.Parts.{then_determines, byte_prefix_code, short_determines, end_determines}
+use Rattle.wasm_below.proofs.DeterminedRefusals.{then_determines, end_determines}
+use Rattle.wasm_below.proofs.PrefixCode.{byte_prefix_code}
+use Rattle.wasm_module.proofs.Named.{short_determines}
 use Rattle.wasm_module.proofs.module_laws.refusals.Goals as goal
 
 pub returns-clause-preamble : goal.returns-clause-preamble

@@ -1,7 +1,8 @@
-use Rattle.std.proofs.Common.{◌≡◌, [], ◌∷◌, ◌++◌, Option, Vec, Global, refl, sym, subst, ap, ◌∙◌, inl, inr, rules}
+use Rattle.std.proofs.Common.{◌≡◌, [], ◌∷◌, ◌++◌, Option, refl, sym, subst, ap, ◌∙◌, inl, inr, rules}
 use Rattle.wasm_below.specs.Source.{Reader, rest}
 use Rattle.wasm_module.specs.Names.{EncodesNameAssociation}
 use Rattle.wasm_module.specs.FunctionNames.{bytes_of, with_names, ReadsItems}
+use Rattle.wasm_module.specs.Growth.{Growing}
 use Rattle.wasm_module.specs.declared.function_names.FunctionName.{FunctionName}
 use Rattle.wasm_module.specs.Sections.{or_first}
 use Rattle.wasm_module.proofs.NamedFunctions.{not_first}
@@ -13,7 +14,7 @@ returns-in-Err c =
     let h = c.sections.invariant in (
       [],
       record { before = h.0; mid = c.sections.reader; occur = h.1; others = h.2; gives = inr (refl, inr (c.in-Err.field-0, c.in-Err.ensures.reads.1)) },
-      ap (λ (v : Vec FunctionName Global). bytes_of v.items) h.3,
+      ap (λ (v : Growing FunctionName). bytes_of v.items) h.3,
     )
 
 pub returns-then-id-eq-FUNCTION_NAMES : goal.returns-then-id-eq-FUNCTION_NAMES
@@ -24,7 +25,7 @@ returns-then-id-eq-FUNCTION_NAMES c =
     let gives = inl (c.in-Ok.section, c.read_section.new.reader, c.in-Ok.ensures.reads, sym c.id.ensures ∙ c.if-id-eq-FUNCTION_NAMES.true, reads) in (
       a.0,
       record { before = h.0; mid = c.sections.reader; occur = h.1; others = h.2; gives = gives },
-      a.2 ∙ ap (λ (v : Vec FunctionName Global). with_names (bytes_of v.items) a.0) h.3,
+      a.2 ∙ ap (λ (v : Growing FunctionName). with_names (bytes_of v.items) a.0) h.3,
     )
 
 pub sections-preserved : goal.sections-preserved
@@ -44,5 +45,5 @@ returns c =
     let end : rest c.sections.reader ≡ [] = search rules in (
       [],
       record { before = h.0; mid = c.sections.reader; occur = h.1; others = h.2; gives = inr (refl, inl end) },
-      ap (λ (v : Vec FunctionName Global). bytes_of v.items) h.3,
+      ap (λ (v : Growing FunctionName). bytes_of v.items) h.3,
     )

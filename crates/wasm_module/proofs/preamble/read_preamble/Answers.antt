@@ -3,7 +3,8 @@ use Rattle.wasm_below.specs.Number.{EncodesFixed}
 use Rattle.wasm_below.specs.Source.{EndsWithin}
 use Rattle.wasm_module.specs.declared.preamble.Preamble.{Preamble}
 use Rattle.wasm_module.specs.Module.{EncodesPreamble, PreambleFault}
-use Rattle.wasm_module.proofs.Sequences.{both_read, both_first, both_second, stays, advances}
+use Rattle.wasm_below.proofs.Ahead.{stays, advances}
+use Rattle.wasm_module.proofs.Sequences.{both_read, both_first, both_second}
 use Rattle.wasm_module.proofs.preamble.read_preamble.Goals as goal
 
 pub returns-in_err-magic : goal.returns-in_err-magic

@@ -3,8 +3,9 @@ use Rattle.wasm_below.specs.FromReader.{EncodesReader, ReaderFault}
 use Rattle.wasm_below.specs.Source.{Reader, IsByte, EndFault, HasRead}
 use Rattle.wasm_below.specs.Ahead.{Fails}
 use Rattle.wasm_module.specs.Module.{SectionParts, EncodesSection, SectionFault}
-use Rattle.wasm_module.proofs.Parts.{byte_prefix_code}
-use Rattle.wasm_module.proofs.Sequences.{both_read, both_first, both_second, stays, advances}
+use Rattle.wasm_below.proofs.Ahead.{stays, advances}
+use Rattle.wasm_below.proofs.PrefixCode.{byte_prefix_code}
+use Rattle.wasm_module.proofs.Sequences.{both_read, both_first, both_second}
 use Rattle.wasm_module.proofs.section.read_section.Goals as goal
 
 pub returns-in_err-id-clause-reads : goal.returns-in_err-id-clause-reads

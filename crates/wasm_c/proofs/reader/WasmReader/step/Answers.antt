@@ -25,7 +25,7 @@ returns-else-opens c = λ bytes was same.
       takes_plain c.frame_changes.ensures.frames bytes c.args.self.now after c.args.frames.now c.change_frames.new.frames c.args.ahead.now c.view_operator.new.reader c.innermost.result
           c.view_operator.new.viewer.view c.view_operator.new.viewer.change was same c.in-Ok.ensures.taken (omega (arith, c.if-depth-eq0.false))
           c.innermost.ensures c.change_frames.ensures.frames c.change_frames.ensures.within c.change_frames.ensures.most
-          c.change_frames.auto.frames c.current_position.ensures refl refl refl,
+          c.change_frames.auto.frames c.change_frames.ensures.past c.current_position.ensures refl refl refl,
       reader_after_plain bytes c.args.self.now after c.args.ahead.now c.view_operator.new.reader c.innermost.result c.view_operator.new.viewer.view
           c.view_operator.new.viewer.change same c.in-Ok.ensures.taken c.current_position.ensures refl refl,
     )

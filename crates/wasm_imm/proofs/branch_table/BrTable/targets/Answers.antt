@@ -9,7 +9,7 @@ use Rattle.wasm_imm.proofs.branch_table.BrTable.targets.Goals as goal
 pub returns : goal.returns
 returns c =
     let t = c.self.inside in
-    let encodes = targets_encoded t.count t.targets.now c.self.invariant in
+    let encodes = targets_encoded t.count t.targets.now c.self.invariant.0 in
     let left : rest c.new.result ≡ t.targets.now = ap rest c.new.ensures in
     let whole : EncodesMany (EncodesUnsigned 32) t.count t.targets.now (numbers_of (rest c.new.result)) =
     subst (λ (z : List ℕ). EncodesMany (EncodesUnsigned 32) t.count t.targets.now (numbers_of z)) (sym left) encodes in

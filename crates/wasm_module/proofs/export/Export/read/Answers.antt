@@ -3,9 +3,10 @@ use Rattle.wasm_below.specs.Number.{EncodesUnsigned}
 use Rattle.wasm_below.specs.Source.{IsByte, EndFault, U32Fault}
 use Rattle.wasm_module.specs.Exports.{EncodesExternIndex, ExternIndexFault, ExportParts, EncodesExport, ExportFault}
 use Rattle.wasm_module.specs.Names.{EncodesName, NameFault}
+use Rattle.wasm_below.proofs.Ahead.{stays, advances}
+use Rattle.wasm_below.proofs.PrefixCode.{byte_prefix_code}
 use Rattle.wasm_module.proofs.Named.{name_code}
-use Rattle.wasm_module.proofs.Parts.{byte_prefix_code}
-use Rattle.wasm_module.proofs.Sequences.{both_read, both_first, both_second, stays, advances}
+use Rattle.wasm_module.proofs.Sequences.{both_read, both_first, both_second}
 use Rattle.wasm_module.proofs.export.Export.read.Goals as goal
 
 pub returns-in_err-name : goal.returns-in_err-name

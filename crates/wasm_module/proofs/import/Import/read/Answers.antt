@@ -1,8 +1,9 @@
 use Rattle.std.proofs.Common.{ℕ, List}
 use Rattle.wasm_module.specs.Imports.{EncodesExternType, ExternTypeFault, EncodesNamed, NamedFault, ImportParts, EncodesImport, ImportFault}
 use Rattle.wasm_module.specs.Names.{EncodesName, NameFault}
+use Rattle.wasm_below.proofs.Ahead.{stays, advances}
 use Rattle.wasm_module.proofs.Named.{name_code}
-use Rattle.wasm_module.proofs.Sequences.{both_read, both_first, both_second, stays, advances}
+use Rattle.wasm_module.proofs.Sequences.{both_read, both_first, both_second}
 use Rattle.wasm_module.proofs.import.Import.read.Goals as goal
 
 pub returns-in_err-module_name : goal.returns-in_err-module_name

@@ -1,7 +1,8 @@
 use Rattle.wasm_below.specs.Number.{EncodesUnsigned}
 use Rattle.wasm_below.specs.Source.{U32Fault}
 use Rattle.wasm_module.specs.Names.{EncodesName, NameFault, NameParts, EncodesNameAssociation, NameAssociationFault}
-use Rattle.wasm_module.proofs.Sequences.{both_read, both_first, both_second, stays, advances}
+use Rattle.wasm_below.proofs.Ahead.{stays, advances}
+use Rattle.wasm_module.proofs.Sequences.{both_read, both_first, both_second}
 use Rattle.wasm_module.proofs.name.NameAssociation.read.Goals as goal
 
 pub returns-in_err-index : goal.returns-in_err-index

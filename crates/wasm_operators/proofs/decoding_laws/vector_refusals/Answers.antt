@@ -1,8 +1,0 @@
-use Rattle.wasm_operators.proofs.DecoderPremises.{refuses_vectors, refused_same}
-use Rattle.wasm_operators.proofs.decoding_laws.vector_refusals.Goals as goal
-
-pub returns-clause-there : goal.returns-clause-there
-returns-clause-there c = refuses_vectors c.args.features c.args.frame
-
-pub returns-clause-elsewhere : goal.returns-clause-elsewhere
-returns-clause-elsewhere c = λ m r offset h other. refused_same c.args.features c.args.frame m r offset h other
