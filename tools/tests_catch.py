@@ -1,8 +1,9 @@
 #!/usr/bin/env python3
-"""Tries wrong bodies that the prover accepts, and that a test must catch.
+"""Tries wrong bodies that a test must catch.
 
     tools/tests_catch.py [--keep DIR] [NAME..]      tries the edits of these crates, or of all
 
+The prover accepts most of them: no contract says, for example, which of a visitor's visits run. An edit
 `crates/NAME/tests-catch/X.edit` has the form of a must-fail edit. Its first line, `# ITEM`, names the item of `tools/test`
 that must fail. Each edit is made in a copy of the repository, in which the item passes before. `--keep DIR` keeps the
 programs that are built. An edit takes a minute or two: the program is built again.
@@ -17,9 +18,9 @@ import sys
 import tempfile
 from pathlib import Path
 
-from edits import TOP, edited, edits_of
-from testing.running import Clock
+from edits import TOP, BadEdit, edited, edits_of
 from testing.outcome import tail
+from testing.running import Clock
 from testing.selftest import LEFT_OUT, run_tool
 
 FOLDER = "tests-catch"
@@ -47,7 +48,10 @@ def run_item(copy, kept, item):
 def fault_of(copy, kept, path, item):
     """Makes an edit in the copy and runs its item. Returns what is wrong, or None."""
     crate = copy / path.parent.parent.relative_to(TOP)
-    changed = edited(crate, path.read_text(encoding="utf-8"))
+    try:
+        changed = edited(crate, path.read_text(encoding="utf-8"))
+    except BadEdit as bad:
+        return f"BAD EDIT: {bad}"
     before = {name: (crate / name).read_text(encoding="utf-8") for name in changed}
     for name, text in changed.items():
         (crate / name).write_text(text, encoding="utf-8")

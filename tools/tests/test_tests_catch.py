@@ -48,6 +48,9 @@ class TestsCatch(unittest.TestCase):
         run = lambda text: (set(), "") if "1" in text else ({"wasm_low"}, "src/lib.rt:2:5: error[unknown-name]: ..")
         self.assertEqual(self.tried(run), (0, 1))
 
+    def test_does_not_apply(self):
+        self.assertEqual(self.tried(lambda text: (set(), ""), EDIT.replace("old: 1", "old: 3")), (0, 1))
+
     def test_names_no_item(self):
         self.assertEqual(self.tried(lambda text: ({"wasm_low"}, ""), EDIT.removeprefix("# wasm_low\n")), (0, 1))
 

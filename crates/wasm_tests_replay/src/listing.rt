@@ -1,7 +1,7 @@
 use crate::outcomes::fingerprint;
 use std::alloc::Global;
 use std::io::{self, Write};
-use wasm_listing::{DumpFault, run};
+use wasm_listing::{DumpFault, FlushedWrite, run};
 use wasm_operators::{Error, WasmFeatures};
 use wasm_tests_texts::Written;
 
@@ -23,6 +23,14 @@ impl Write for Flushed {
     fn flush(&mut self) -> io::Result<()> {
         self.arrived = self.text.len();
         Ok(())
+    }
+}
+
+impl FlushedWrite for Flushed {
+    ghost is_flushed = { λ writer. Unit {0} };
+
+    fn flush_all(&mut self) -> io::Result<()> {
+        self.flush()
     }
 }
 
