@@ -1,18 +1,18 @@
 #!/usr/bin/env python3
-"""Checks that every must-fail edit still applies to the sources.
+"""Checks that every edit still applies to the sources.
 
     tools/edits.py [--log LOG]
 
-It reads `crates/NAME/must-fail/X.edit`, which the gate tries, and `crates/NAME/more-must-fail/X.edit`, which
-`tools/run more_must_fail` tries. Each replaces texts of a file, which must occur once, in order. With `--log` it also
-fails if the log of `rt ci` has a `BAD EDIT`, which `rt ci` skips.
+It reads `crates/NAME/must-fail/X.edit`, which the gate tries, and the edits in `more-must-fail` and `tests-catch`, which
+`tools/run more_must_fail` and `tools/run tests_catch` try. Each replaces texts of a file, which must occur once, in
+order. With `--log` it also fails if the log of `rt ci` has a `BAD EDIT`, which `rt ci` skips.
 """
 
 import sys
 from pathlib import Path
 
 TOP = Path(__file__).resolve().parent.parent
-FOLDERS = ("must-fail", "more-must-fail")
+FOLDERS = ("must-fail", "more-must-fail", "tests-catch")
 PARTS = ("src/", "specs/", "proofs/")
 
 

@@ -103,8 +103,8 @@ def breaks(crates):
     return found
 
 
-def run_tool(top, kept):
-    ran = running.run([sys.executable, "-B", top / "tools" / "test", "--keep", kept], LIMIT, top)
+def run_tool(top, kept, *words):
+    ran = running.run([sys.executable, "-B", top / "tools" / "test", "--keep", kept, *words], LIMIT, top)
     lines = LINE.findall(ran.out.decode(errors="replace"))
     passed, failed = ({name for word, name in lines if word == wanted} for wanted in ("ok", "FAILED"))
     if ran.status != (1 if failed else 0):

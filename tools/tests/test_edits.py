@@ -25,7 +25,7 @@ class Edits(unittest.TestCase):
         for folder in edits.FOLDERS:
             found, count = self.edit(folder, "file: src/lib.rt\nold: 1 + 1\nnew: 2 + 1\n")
             self.assertEqual(found, [])
-        self.assertEqual(count, 2)
+        self.assertEqual(count, len(edits.FOLDERS))
 
     def test_edits_that_do_not_apply(self):
         for text, why in [

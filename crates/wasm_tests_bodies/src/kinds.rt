@@ -8,7 +8,7 @@ use crate::listing::{write_census, write_features, write_listing, write_nops};
 use crate::module::{write_rec_types, write_section, write_sections};
 use crate::row::Given;
 use crate::scenarios::write_scenario;
-use crate::sections::{write_code, write_code_operators, write_numbers};
+use crate::sections::{write_code, write_code_operators, write_iter, write_numbers};
 use crate::single::{Visits, write_clones, write_finish, write_next, write_peek, write_visits};
 use std::alloc::Global;
 use wasm_tests_texts::Written;
@@ -39,6 +39,7 @@ pub fn write_found(
         "memory_constant" => write_constant(alloc, given, out),
         "memory_only_constant" => write_only_constant(alloc, given, out),
         "numbers" => write_numbers(alloc, given, out),
+        "read_iter" => write_iter(alloc, given, out),
         "code" => write_code(alloc, given, out),
         "code_operators" => write_code_operators(alloc, given, out),
         "locals" => write_locals(given, out),

@@ -59,6 +59,7 @@ impl<'r> Row<'r> {
             | "locals"
             | "nops"
             | "long_nops"
+            | "read_iter"
             | "rec_types"
             | "section" => self.argument.parse::<u32>().is_ok(),
             _ => self.argument == "-" || frame_named(self.argument).is_some(),

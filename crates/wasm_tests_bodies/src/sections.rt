@@ -1,7 +1,7 @@
 use crate::row::Given;
 use crate::words::{write_bytes, write_error};
 use std::alloc::Global;
-use wasm_operators::{CodeSectionReader, FunctionBody, Operator, Result, SectionLimited};
+use wasm_operators::{CodeSectionReader, FunctionBody, Operator, Result, SectionLimited, SizeName};
 use wasm_tests_texts::Written;
 
 pub fn write_numbers(alloc: Global, given: Given<'_>, out: &mut String) -> Written {
@@ -24,6 +24,29 @@ fn write_items(section: SectionLimited<'_, u32>, out: &mut String) -> Written {
         }
     }
     Ok(())
+}
+
+/// Writes the items of `read_iter`, whose limit is the row's argument, and the offset of the next
+/// byte.
+pub fn write_iter(alloc: Global, given: Given<'_>, out: &mut String) -> Written {
+    let mut reader = given.reader();
+    match reader.read_iter::<u32>(alloc, given.number() as usize, SizeName::Catches) {
+        Ok(items) => {
+            for item in items {
+                match item {
+                    Ok(item) => write!(out, "{item}")?,
+                    Err(e) => write_error(out, e)?,
+                }
+                out.push_str(" ")?;
+            }
+        }
+        Err(e) => {
+            write_error(out, e)?;
+            out.push_str(" ")?;
+        }
+    }
+    let next = reader.original_position();
+    write!(out, "next {next}")
 }
 
 pub fn write_code(alloc: Global, given: Given<'_>, out: &mut String) -> Written {

@@ -1,14 +1,13 @@
 //! One operator, read and visited. Each result has the position of the reader after it.
 
-use crate::own::Call;
 use crate::task::Task;
-use crate::teller::Teller;
-use std::alloc::{AllocError, Global};
+use crate::teller::{OnceTeller, Told};
+use std::alloc::Global;
 use wasm_below::{BinaryReader, Error, Result};
 use wasm_decode::{read_operator, visit_operator, visit_operator_simd};
 use wasm_instr::Operator;
 use wasm_tests_texts::{Written, write_operator};
-use wasm_visit::OperatorFactory;
+use wasm_visit::{OperatorFactory, VisitOperator};
 
 /// Creates a reader at a task's operator, or at the start of data that is too short.
 pub fn reader_at<'a>(task: Task, bytes: &'a [u8]) -> BinaryReader<'a> {
@@ -33,61 +32,32 @@ pub fn run_factory<'a>(
     (outcome, reader.current_position())
 }
 
-pub type Reported = Result<std::result::Result<Call, AllocError>>;
+/// What a visitor returned, or the error.
+pub type Reported = Result<Told>;
 
-pub fn run_simd(alloc: Global, teller: &mut Teller, task: Task, bytes: &[u8]) -> (Reported, usize) {
-    let mut reader = reader_at(task, bytes);
-    let outcome = visit_operator_simd(alloc, teller, &mut reader, task.frame);
-    (outcome, reader.current_position())
-}
-
-pub fn run_plain(
+pub fn run_visit<'a, V: VisitOperator<'a>>(
     alloc: Global,
-    teller: &mut Teller,
+    v: &mut V,
     task: Task,
-    bytes: &[u8],
-) -> (Reported, usize) {
+    bytes: &'a [u8],
+) -> (Result<V::Output>, usize) {
     let mut reader = reader_at(task, bytes);
-    let outcome = visit_operator(alloc, teller, &mut reader, task.frame);
+    let outcome = visit_operator_simd(alloc, v, &mut reader, task.frame);
     (outcome, reader.current_position())
 }
 
-pub fn run_borrowed(
+pub fn run_plain<'a, V: VisitOperator<'a>>(
     alloc: Global,
-    teller: &mut Teller,
+    v: &mut V,
     task: Task,
-    bytes: &[u8],
-) -> (Reported, usize) {
+    bytes: &'a [u8],
+) -> (Result<V::Output>, usize) {
     let mut reader = reader_at(task, bytes);
-    let mut borrowed = teller;
-    let outcome = visit_operator_simd(alloc, &mut borrowed, &mut reader, task.frame);
+    let outcome = visit_operator(alloc, v, &mut reader, task.frame);
     (outcome, reader.current_position())
 }
 
-pub fn run_boxed(
-    alloc: Global,
-    boxed: &mut Box<Teller>,
-    task: Task,
-    bytes: &[u8],
-) -> (Reported, usize) {
-    let mut reader = reader_at(task, bytes);
-    let outcome = visit_operator_simd(alloc, boxed, &mut reader, task.frame);
-    (outcome, reader.current_position())
-}
-
-pub fn run_both(
-    alloc: Global,
-    boxed: &mut Box<Teller>,
-    task: Task,
-    bytes: &[u8],
-) -> (Reported, usize) {
-    let mut reader = reader_at(task, bytes);
-    let mut borrowed = boxed;
-    let outcome = visit_operator_simd(alloc, &mut borrowed, &mut reader, task.frame);
-    (outcome, reader.current_position())
-}
-
-pub fn is_refused_again(alloc: Global, teller: &mut Teller, task: Task, bytes: &[u8]) -> bool {
+pub fn is_refused_again(alloc: Global, teller: &mut OnceTeller, task: Task, bytes: &[u8]) -> bool {
     let mut reader = reader_at(task, bytes);
     let read = read_operator(alloc, &mut reader, task.frame).err();
     let read_again = read_operator(alloc, &mut reader, task.frame).err();

@@ -1,5 +1,5 @@
-use crate::own::Call;
 use std::alloc::{AllocError, Global};
+use std::marker::PhantomData;
 use wasm_below::{BinaryReader, Result};
 use wasm_grammar::FrameKind;
 use wasm_imm::BrTable;
@@ -13,40 +13,91 @@ use wasm_visit::{
 };
 use wasm_visit_groups::{
     ByAny, OnceAtomic, OnceGc, OnceMisc, OnceNumeric, OnceOneByte, OnceSimdHigh, OnceSimdLow,
+    OwnAtomic, OwnGc, OwnMisc, OwnNumeric, OwnOneByte, OwnSimdHigh, OwnSimdLow, Routes, ToOwn,
     Visitor,
 };
 
-/// Writes the operators that it visits, and returns which call it received, or that the text could
-/// not be stored. It overrides all visits; ten functions pass it on, so its calls compare the visits
-/// once.
-#[derive(Drop)]
-pub struct Teller {
-    pub text: String,
+/// The visit that an operator received.
+#[derive(Clone, Copy, Debug, PartialEq, Eq)]
+pub enum Call {
+    Own,
+    Any,
+    Table,
 }
 
-impl Teller {
-    pub fn new(alloc: Global) -> Teller {
+/// The visit that an operator received, or that the text could not be stored.
+pub type Told = std::result::Result<Call, AllocError>;
+
+/// Writes the operators that it visits, and returns which visit it received. It overrides all
+/// visits. `R` names the routes to them.
+#[derive(Drop)]
+pub struct Teller<R> {
+    pub text: String,
+    routes: PhantomData<R>,
+}
+
+/// Ten functions pass this visitor on, so its calls compare the visits once.
+pub type OnceTeller = Teller<
+    OnceOneByte<OnceNumeric<OnceGc<OnceMisc<OnceAtomic<OnceSimdLow<OnceSimdHigh<ByAny>>>>>>>,
+>;
+
+/// Names `Own` for the operators with a one-byte opcode or with prefix 0xfe. A function that passes
+/// a visitor on compares the visits of all groups whose route is `Own`, so no visitor names it for
+/// all.
+pub type FirstTeller = Teller<
+    OwnOneByte<OwnNumeric<OnceGc<OnceMisc<OwnAtomic<OnceSimdLow<OnceSimdHigh<ByAny>>>>>>>,
+>;
+
+/// Names `Own` for the other operators.
+pub type SecondTeller = Teller<
+    OnceOneByte<OnceNumeric<OwnGc<OwnMisc<OnceAtomic<OwnSimdLow<OwnSimdHigh<ByAny>>>>>>>,
+>;
+
+impl<R> Teller<R> {
+    pub fn new(alloc: Global) -> Teller<R> {
         Teller {
             text: String::new(alloc),
+            routes: PhantomData,
         }
     }
 
-    pub fn own(&mut self, op: Operator<'static>) -> std::result::Result<Call, AllocError> {
+    pub fn own(&mut self, op: Operator<'static>) -> Told {
         self.written(&op, Call::Own)
     }
 
-    fn written(&mut self, op: &Operator<'_>, call: Call) -> std::result::Result<Call, AllocError> {
+    fn written(&mut self, op: &Operator<'_>, call: Call) -> Told {
         write_operator(&mut self.text, op)?;
         Ok(call)
     }
 }
 
-impl Visitor for Teller {
-    type Output = std::result::Result<Call, AllocError>;
+/// A visitor that collects the texts of its visits.
+pub trait Tells {
+    fn text(&mut self) -> &mut String;
+}
 
-    type Visits = OnceOneByte<
-        OnceNumeric<OnceGc<OnceMisc<OnceAtomic<OnceSimdLow<OnceSimdHigh<ByAny>>>>>>,
-    >;
+impl<R> Tells for Teller<R> {
+    fn text(&mut self) -> &mut String {
+        &mut self.text
+    }
+}
+
+impl<V: Tells> Tells for &mut V {
+    fn text(&mut self) -> &mut String {
+        (**self).text()
+    }
+}
+
+impl<V: Tells> Tells for Box<V> {
+    fn text(&mut self) -> &mut String {
+        (**self).text()
+    }
+}
+
+impl<R: Routes> Visitor for Teller<R> {
+    type Output = Told;
+
+    type Visits = R;
 
     ghost visits = { λ before op outcome after. Unit {0} };
 
@@ -55,7 +106,7 @@ impl Visitor for Teller {
     }
 }
 
-impl CallOneByte for Teller {
+impl<R: Routes<OneByte: ToOwn>> CallOneByte for Teller<R> {
     fn dispatch_one_byte(&mut self, op: Operator<'_>) -> Self::Output {
         dispatch::one_byte(self, op)
     }
@@ -83,7 +134,7 @@ impl CallOneByte for Teller {
     }
 }
 
-impl CallNumeric for Teller {
+impl<R: Routes<Numeric: ToOwn>> CallNumeric for Teller<R> {
     fn dispatch_numeric(&mut self, op: NumericOperator) -> Self::Output {
         dispatch::numeric(self, op)
     }
@@ -93,7 +144,7 @@ impl CallNumeric for Teller {
     }
 }
 
-impl CallGc for Teller {
+impl<R: Routes<Gc: ToOwn>> CallGc for Teller<R> {
     fn dispatch_gc(&mut self, op: GcOperator) -> Self::Output {
         dispatch::gc(self, op)
     }
@@ -108,7 +159,7 @@ impl CallGc for Teller {
     }
 }
 
-impl CallMisc for Teller {
+impl<R: Routes<Misc: ToOwn>> CallMisc for Teller<R> {
     fn dispatch_misc(&mut self, op: MiscOperator) -> Self::Output {
         dispatch::misc(self, op)
     }
@@ -123,7 +174,7 @@ impl CallMisc for Teller {
     }
 }
 
-impl CallAtomic for Teller {
+impl<R: Routes<Atomic: ToOwn>> CallAtomic for Teller<R> {
     fn dispatch_atomic(&mut self, op: AtomicOperator) -> Self::Output {
         dispatch::atomic(self, op)
     }
@@ -138,7 +189,7 @@ impl CallAtomic for Teller {
     }
 }
 
-impl CallSimdLow for Teller {
+impl<R: Routes<SimdLow: ToOwn>> CallSimdLow for Teller<R> {
     fn dispatch_simd_low(&mut self, op: SimdOperator) -> Self::Output {
         dispatch::simd_low(self, op)
     }
@@ -153,7 +204,7 @@ impl CallSimdLow for Teller {
     }
 }
 
-impl CallSimdHigh for Teller {
+impl<R: Routes<SimdHigh: ToOwn>> CallSimdHigh for Teller<R> {
     fn dispatch_simd_high(&mut self, op: SimdOperator) -> Self::Output {
         dispatch::simd_high(self, op)
     }
@@ -168,8 +219,20 @@ impl CallSimdHigh for Teller {
     }
 }
 
-impl<'a> VisitOperator<'a> for Teller {
-    fn visit_br_table(&mut self, targets: BrTable<'a>) -> Self::Output {
+impl<'a> VisitOperator<'a> for OnceTeller {
+    fn visit_br_table(&mut self, targets: BrTable<'a>) -> Told {
+        self.written(&Operator::BrTable { targets }, Call::Table)
+    }
+}
+
+impl<'a> VisitOperator<'a> for FirstTeller {
+    fn visit_br_table(&mut self, targets: BrTable<'a>) -> Told {
+        self.written(&Operator::BrTable { targets }, Call::Table)
+    }
+}
+
+impl<'a> VisitOperator<'a> for SecondTeller {
+    fn visit_br_table(&mut self, targets: BrTable<'a>) -> Told {
         self.written(&Operator::BrTable { targets }, Call::Table)
     }
 }

@@ -1,8 +1,38 @@
 use crate::outcomes::fingerprint;
 use std::alloc::Global;
-use wasm_listing::{DumpFault, run};
+use std::io::{self, Write};
+use wasm_listing::{DumpFault, FlushedWrite, run};
 use wasm_operators::{Error, WasmFeatures};
 use wasm_tests_texts::Written;
+
+/// A writer whose bytes arrive when it is flushed.
+#[derive(Drop)]
+struct Flushed {
+    text: Vec<u8>,
+    arrived: usize,
+}
+
+impl Write for Flushed {
+    fn write(&mut self, buf: &[u8]) -> io::Result<usize> {
+        match self.text.extend_from_slice(buf) {
+            Ok(()) => Ok(buf.len()),
+            Err(_) => Err(io::Error::from(io::ErrorKind::OutOfMemory)),
+        }
+    }
+
+    fn flush(&mut self) -> io::Result<()> {
+        self.arrived = self.text.len();
+        Ok(())
+    }
+}
+
+impl FlushedWrite for Flushed {
+    ghost is_flushed = { λ writer. Unit {0} };
+
+    fn flush_all(&mut self) -> io::Result<()> {
+        self.flush()
+    }
+}
 
 #[derive(Drop)]
 pub struct Listing {
@@ -13,8 +43,13 @@ pub struct Listing {
 impl Listing {
     pub fn of(alloc: Global, features: WasmFeatures, body: &[u8]) -> Listing {
         let mut reader = body;
-        let mut text = Vec::new(alloc);
-        let end = run(alloc, features, &mut reader, &mut text);
+        let mut writer = Flushed {
+            text: Vec::new(alloc),
+            arrived: 0,
+        };
+        let end = run(alloc, features, &mut reader, &mut writer);
+        let Flushed { mut text, arrived } = writer;
+        text.truncate(arrived);
         Listing { text, end }
     }
 
