@@ -4,7 +4,10 @@ ghost use Rattle.wasm_below.specs.Features.{HasFeature, memory64};
 use crate::failure::{Failure, Written};
 use bitflags::Flags;
 use std::alloc::Global;
-use wasm_below::{BinaryReader, HeapType, RefType, TakesMemory, ValType, WasmFeatures};
+use wasm_below::{
+    BinaryReader, HeapType, Message, RefType, SizeName, TakesMemory, ValType, WasmFeatures,
+};
+use wasm_grammars::{Bytes, Read, read_list, read_within};
 use wasm_imm::{
     BrTable, Cast, Catch, Handle, Ieee32, Members, ReadImmediates, ResumeTable, TryTable, V128,
 };
@@ -15,6 +18,7 @@ pub fn write_scenario(alloc: Global, text: &mut String, name: &str) -> Written {
         "debug" => write_debug(alloc, text),
         "branch_tables" => write_branch_tables(text),
         "members" => write_members(alloc, text),
+        "grammars" => write_grammars(alloc, text),
         "constants" => write_constants(text),
         "references" => write_references(text),
         _ => Err(Failure::Malformed),
@@ -99,6 +103,25 @@ fn write_members(alloc: Global, text: &mut String) -> Written {
     for item in &members {
         write!(text, ", item {item}")?;
     }
+    Ok(())
+}
+
+fn write_grammars(alloc: Global, text: &mut String) -> Written {
+    let mut reader = BinaryReader::new(&[2, 0x68, 0x69, 2, 0x7f, 0x7e, 1, 5, 9], 100);
+    let name = Bytes::read_from(alloc, &mut reader)?;
+    write!(text, "{:?}", name.as_slice())?;
+    let types = read_list::<ValType>(alloc, &mut reader, 2, SizeName::SelectTypes)?;
+    write!(text, ", {types:?}")?;
+    match read_list::<u32>(alloc, &mut reader, 0, SizeName::Catches) {
+        Ok(list) => write!(text, "; {list:?}")?,
+        Err(e) => write!(text, "; {e}")?,
+    }
+    match read_within::<u32>(alloc, &mut reader, 2, Message::DataAfterSection) {
+        Ok(number) => write!(text, "; {number}")?,
+        Err(e) => write!(text, "; {e}")?,
+    }
+    let list = read_list::<u32>(alloc, &mut reader, 1, SizeName::Catches)?;
+    write!(text, "; {list:?}, next {}", reader.original_position())?;
     Ok(())
 }
 

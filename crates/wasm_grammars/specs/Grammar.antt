@@ -1,0 +1,82 @@
+-- A grammar says which bytes encode a value, which error other bytes have, and where allocation may
+-- fail. Its encodings are a prefix code, and its errors are determined: law `grammar_laws`.
+use Rattle.std.specs.Prelude.{◌+◌, ◌≤◌, length, take, ◌≡◌, ℕ, ◌⊎◌, Bool, true, false, List, [], ◌∷◌}
+use Rattle.wasm_below.specs.declared.message.Message.{Message}
+use Rattle.wasm_below.specs.Fault.{ThenFault, DeterminesRefusal}
+use Rattle.wasm_below.specs.Sequence.{Then, PrefixCode}
+use Rattle.wasm_below.specs.Source.{Reader, reader_of, rest, offset_of, end_of, HasRead, NoPrefix, EndFault, EndsWithin}
+
+-- What an encoding and a fault owe that are given as relations.
+pub record IsPart {X : Type 0} (E : List ℕ → X → Type 0) (F : Message → Reader → ℕ → Type 0) : Type 0 where
+  pub code : PrefixCode E
+  pub determines : DeterminesRefusal F
+
+-- `part E F M is`: the encoding E, its fault F; allocation may fail if M. `done x`: no bytes, the value x.
+-- `fail m`: no value, the error m at the start of the thing. `bind g h`: a value x by g, then `h x`.
+-- `need b m g`: g if b is true, else the error m at the start of the thing. `choose b g h`: g if b is
+-- true, else h. `peek p g h`: g if the next byte passes the test p, else h; neither consumes it.
+-- `within n m g`: g in exactly n bytes, or the error m at the first byte left over. `allocate g`:
+-- allocation may fail, then g. `thing g`: g as a thing, at whose start its errors are.
+pub data Grammar : Type 0 → Type 1 where
+  part : {X : Type 0} → (E : List ℕ → X → Type 0) → (F : Message → Reader → ℕ → Type 0) → (M : Reader → Type 0) → IsPart E F → Grammar X
+  done : {X : Type 0} → X → Grammar X
+  fail : {X : Type 0} → Message → Grammar X
+  bind : {X Y : Type 0} → Grammar X → (X → Grammar Y) → Grammar Y
+  need : {X : Type 0} → Bool → Message → Grammar X → Grammar X
+  choose : {X : Type 0} → Bool → Grammar X → Grammar X → Grammar X
+  peek : {X : Type 0} → (ℕ → Bool) → Grammar X → Grammar X → Grammar X
+  within : {X : Type 0} → ℕ → Message → Grammar X → Grammar X
+  allocate : {X : Type 0} → Grammar X → Grammar X
+  thing : {X : Type 0} → Grammar X → Grammar X
+
+abbrev pub pick : Bool → Type 0 → Type 0 → Type 0
+pick true A B = A
+pick false A B = B
+
+-- The bytes have a first byte, for which the test returns this.
+abbrev pub Leads : (ℕ → Bool) → Bool → List ℕ → Type 0
+Leads p b text = (first : ℕ) × (after : List ℕ) × (text ≡ first ∷ after) × (p first ≡ b)
+
+-- A reader of the next `n` bytes.
+abbrev pub cut : ℕ → Reader → Reader
+cut n r = reader_of r.features (offset_of r) (take n (rest r))
+
+-- The bytes encode the value.
+abbrev pub Encodes : {X : Type 0} → Grammar X → List ℕ → X → Type 0
+Encodes (part E F M is) = E
+Encodes (done v) = λ text x. (text ≡ []) × (x ≡ v)
+Encodes (fail m) = λ text x. ⊥
+Encodes (bind g h) = Then (Encodes g) (λ x. Encodes (h x))
+Encodes (need b m g) = λ text x. (b ≡ true) × Encodes g text x
+Encodes (choose b g h) = λ text x. pick b (Encodes g text x) (Encodes h text x)
+Encodes (peek p g h) = λ text x. (v : Bool) × Leads p v text × pick v (Encodes g text x) (Encodes h text x)
+Encodes (within n m g) = λ text x. (length text ≡ n) × Encodes g text x
+Encodes (allocate g) = Encodes g
+Encodes (thing g) = Encodes g
+
+-- The message and the offset of a failed read at this reader; the thing starts at `start`.
+abbrev pub Fault : {X : Type 0} → Grammar X → ℕ → Message → Reader → ℕ → Type 0
+Fault (part E F M is) start = F
+Fault (done v) start = λ m r offset. ⊥
+Fault (fail k) start = λ m r offset. (m ≡ k) × (offset ≡ start)
+Fault (bind g h) start = ThenFault (Encodes g) (Fault g start) (λ x. Fault (h x) start)
+Fault (need b k g) start = λ m r offset. pick b (Fault g start m r offset) ((m ≡ k) × (offset ≡ start))
+Fault (choose b g h) start = λ m r offset. pick b (Fault g start m r offset) (Fault h start m r offset)
+Fault (peek p g h) start = λ m r offset. ((v : Bool) × Leads p v (rest r) × pick v (Fault g start m r offset) (Fault h start m r offset)) ⊎ EndFault m r offset
+Fault (within {X} n k g) start = λ m r offset. EndsWithin n m r offset ⊎ ((offset_of r + n ≤ end_of r) × ((NoPrefix (Encodes g) (rest (cut n r)) × Fault g start m (cut n r) offset) ⊎
+    ((x : X) × (end : Reader) × HasRead (Encodes g) x (cut n r) end × (m ≡ k) × (offset ≡ offset_of end))))
+Fault (allocate g) start = Fault g start
+Fault (thing g) start = λ m r offset. Fault g (offset_of r) m r offset
+
+-- Allocation may fail, with an error at this offset.
+abbrev pub Memory : {X : Type 0} → Grammar X → ℕ → Reader → ℕ → Type 0
+Memory (part E F M is) start r offset = M r × (offset ≡ offset_of r)
+Memory (done v) start r offset = ⊥
+Memory (fail m) start r offset = ⊥
+Memory (bind {X} g h) start r offset = Memory g start r offset ⊎ ((x : X) × (mid : Reader) × HasRead (Encodes g) x r mid × Memory (h x) start mid offset)
+Memory (need b m g) start r offset = pick b (Memory g start r offset) ⊥
+Memory (choose b g h) start r offset = pick b (Memory g start r offset) (Memory h start r offset)
+Memory (peek p g h) start r offset = (v : Bool) × Leads p v (rest r) × pick v (Memory g start r offset) (Memory h start r offset)
+Memory (within n m g) start r offset = Memory g start (cut n r) offset
+Memory (allocate g) start r offset = (offset ≡ start) ⊎ Memory g start r offset
+Memory (thing g) start r offset = Memory g (offset_of r) r offset

@@ -1,0 +1,5 @@
+pub mod Grammar
+pub mod Parts
+pub mod Reading
+pub mod Blocks
+pub mod BlockLaws

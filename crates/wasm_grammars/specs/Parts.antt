@@ -1,0 +1,61 @@
+-- Parts that wasm_below reads, and the statements of a grammar.
+use Rattle.std.specs.Prelude.{ℕ, zero, suc, Bool, List, [], ◌∷◌, ◌++◌}
+use Rattle.wasm_below.specs.declared.message.Message.{Message}
+use Rattle.wasm_below.specs.declared.message.SizeName.{SizeName}
+use Rattle.wasm_below.specs.declared.types.HeapType.{HeapType}
+use Rattle.wasm_below.specs.declared.types.ValType.{ValType}
+use Rattle.wasm_below.specs.Number.{EncodesUnsigned, EncodesSize}
+use Rattle.wasm_below.specs.Source.{Reader, IsByte, EndFault, U32Fault, CountFault}
+use Rattle.wasm_below.specs.TypeEncoding.{EncodesHeapType, HeapTypeFault, EncodesValType, ValTypeFault}
+use Rattle.wasm_below.proofs.DeterminedRefusals.{u32_determines, end_determines, count_determines}
+use Rattle.wasm_below.proofs.DeterminedTypeRefusals.{heap_determines, value_determines}
+use Rattle.wasm_below.proofs.PrefixCode.{byte_prefix_code, size_prefix_code}
+use Rattle.wasm_below.proofs.Steps.{number_prefix_code}
+use Rattle.wasm_below.proofs.TypePrefixCodes.{heap_prefix_code, value_prefix_code}
+use Rattle.wasm_grammars.specs.Grammar.{Grammar, part, done, bind, need, allocate}
+
+infixl 10 ◌>>=◌
+abbrev pub ◌>>=◌ : {X Y : Type 0} → Grammar X → (X → Grammar Y) → Grammar Y
+g >>= h = bind g h
+
+-- A statement that reads nothing: a condition, with the error otherwise; an allocation.
+pub data Guard : Type 0 where
+  require : Bool → Message → Guard
+  allocation : Guard
+
+infixl 10 ◌>>◌
+abbrev pub ◌>>◌ : {X : Type 0} → Guard → Grammar X → Grammar X
+(require b m) >> g = need b m g
+allocation >> g = allocate g
+
+-- The part does not allocate.
+abbrev pub never : Reader → Type 0
+never r = ⊥
+
+abbrev pub byte : Grammar ℕ
+byte = part IsByte EndFault never (record { code = byte_prefix_code; determines = end_determines })
+
+abbrev pub u32 : Grammar ℕ
+u32 = part (EncodesUnsigned 32) U32Fault never (record { code = number_prefix_code 32; determines = u32_determines })
+
+-- A u32 of at most `limit`.
+abbrev pub size : ℕ → SizeName → Grammar ℕ
+size limit name = part (EncodesSize limit) (CountFault name limit) never (record { code = size_prefix_code limit; determines = count_determines name limit })
+
+abbrev pub heap_type : Grammar HeapType
+heap_type = part EncodesHeapType HeapTypeFault never (record { code = heap_prefix_code; determines = heap_determines })
+
+abbrev pub val_type : Grammar ValType
+val_type = part EncodesValType ValTypeFault never (record { code = value_prefix_code; determines = value_determines })
+
+-- `xs`, followed by `n` more values.
+abbrev pub more : {X : Type 0} → ℕ → Grammar X → List X → Grammar (List X)
+more zero g xs = done xs
+more (suc n) g xs = bind g (λ x. more n g (xs ++ x ∷ []))
+
+-- A count of at most `limit`, and that many values. Allocation may fail after the count.
+abbrev pub counted : {X : Type 0} → ℕ → SizeName → Grammar X → Grammar (List X)
+counted limit name g = do
+  n ← size limit name
+  allocation
+  more n g []
