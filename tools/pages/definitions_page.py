@@ -9,6 +9,7 @@ READS = ("Reading", "Next", "MainTheorem", "Guarded", "Iterating")
 GROUPS = [
     ("Bytes and types", "wasm_below"),
     ("Immediates", "wasm_imm"),
+    ("Grammars", "wasm_grammars"),
     ("Trees", "wasm_grammar"),
     ("All operators", "wasm_instr_ops wasm_instr_simd wasm_instr wasm_visit_groups"),
     ("From the opcode to the visit", "wasm_decode_opcodes wasm_decode_groups wasm_decode"),

@@ -11,22 +11,27 @@ pub record IsPart {X : Type 0} (E : List ℕ → X → Type 0) (F : Message → 
   pub code : PrefixCode E
   pub determines : DeterminesRefusal F
 
--- `part E F M is`: the encoding E, its fault F; allocation may fail if M. `done x`: no bytes, the value x.
--- `fail m`: no value, the error m at the start of the thing. `bind g h`: a value x by g, then `h x`.
--- `need b m g`: g if b is true, else the error m at the start of the thing. `choose b g h`: g if b is
--- true, else h. `peek p g h`: g if the next byte passes the test p, else h; neither consumes it.
--- `within n m g`: g in exactly n bytes, or the error m at the first byte left over. `allocate g`:
--- allocation may fail, then g. `thing g`: g as a thing, at whose start its errors are.
+-- Which bytes encode a value, which error other bytes have, and where allocation may fail.
 pub data Grammar : Type 0 → Type 1 where
+  -- the encoding E, its fault F; allocation may fail if M
   part : {X : Type 0} → (E : List ℕ → X → Type 0) → (F : Message → Reader → ℕ → Type 0) → (M : Reader → Type 0) → IsPart E F → Grammar X
+  -- no bytes, and this value
   done : {X : Type 0} → X → Grammar X
+  -- no value, the error at the start of the thing
   fail : {X : Type 0} → Message → Grammar X
+  -- one after the other; the second may depend on the value of the first
   bind : {X Y : Type 0} → Grammar X → (X → Grammar Y) → Grammar Y
+  -- the grammar if the condition holds, else the error at the start of the thing
   need : {X : Type 0} → Bool → Message → Grammar X → Grammar X
+  -- the first if the condition holds, else the second
   choose : {X : Type 0} → Bool → Grammar X → Grammar X → Grammar X
+  -- the same by a test of the next byte, which stays
   peek : {X : Type 0} → (ℕ → Bool) → Grammar X → Grammar X → Grammar X
+  -- the grammar in exactly n bytes, or the error at the first byte left over
   within : {X : Type 0} → ℕ → Message → Grammar X → Grammar X
+  -- allocation may fail, then the grammar
   allocate : {X : Type 0} → Grammar X → Grammar X
+  -- the grammar as a thing, at whose start its errors are
   thing : {X : Type 0} → Grammar X → Grammar X
 
 abbrev pub pick : Bool → Type 0 → Type 0 → Type 0
