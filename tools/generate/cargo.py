@@ -1,6 +1,7 @@
 """Writes the lists of operators of the cargo crate (bindings/rust/src)."""
 
 from arities import REACHING
+from changes import rust_change, with_role
 from immediates import TYPES
 from plain import number
 from table import shared
@@ -126,8 +127,13 @@ def macros_source(ops):
     )
 
 
+def change_source(ops):
+    those = sorted(with_role(ops), key=number)
+    return filled_file("cargo/frame_change.rs", changes=[f"        0x{number(op):x} => {rust_change(op)}," for op in those])
+
+
 def cargo_files(ops):
     """Returns the files, over the operators whose immediates have values here."""
     ops = [op for op in ops if op.combination]
-    sources = {"operator": operator_source, "visit": visit_source, "macros": macros_source}
+    sources = {"operator": operator_source, "visit": visit_source, "macros": macros_source, "frame_change": change_source}
     return {f"bindings/rust/src/{name}.rs": source(ops) for name, source in sources.items()}

@@ -667,6 +667,7 @@ static RANKS: [u16; 256] = [
 ///
 /// Operators of one shape differ by a constant. As their ranks have no gaps, the compiler loads it from a table. A jump by
 /// the opcode would be mispredicted.
+#[inline]
 #[rustfmt::skip]
 pub(crate) fn operator_of<'a>(op: &PlainOperator, source: &Source<'a>) -> Operator<'a> {
     if let Some(&rank) = RANKS.get(op.opcode as usize) {
