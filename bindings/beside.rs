@@ -1,12 +1,13 @@
 //! Compares this crate with wasmparser over function bodies, and times both.
 //!
-//!     beside [--time ROUNDS] BODIES..
+//!     beside [--time ROUNDS] [BODIES..]
 //!
 //! In a file of BODIES, each body is a length in four bytes, little-endian, and its bytes. Both libraries list operators
 //! and locals, call visitors, and read values at the first positions. Values must have the same `Debug`, errors the same
-//! `Display`.
+//! `Display`. Without BODIES, the bodies are those of `rust/tests/changed`: two, cut and changed at every byte.
 //!
-//! `--time` prints the best of ROUNDS for each way, in nanoseconds per operator and as a ratio to wasmparser's list.
+//! `--time` prints the best of ROUNDS for each way, in nanoseconds per operator: the same calls in both crates with their
+//! ratio, then the calls that only this crate has.
 
 use std::cell::RefCell;
 use std::hint::black_box;
@@ -14,6 +15,9 @@ use std::process::ExitCode;
 use std::time::Instant;
 use wasm_operators as proved;
 use wasmparser as original;
+
+#[path = "rust/tests/changed/mod.rs"]
+mod changed;
 
 /// Returns the bodies of a file.
 fn bodies_of(path: &str) -> std::io::Result<Vec<Vec<u8>>> {
@@ -180,36 +184,76 @@ fn body_list(bytes: &[u8]) -> usize {
     black_box(&found).len()
 }
 
-const WAYS: [Way; 11] = [
-    ("wasmparser, into a list", original_ways::list),
-    ("wasmparser, read", original_ways::reads),
-    ("wasmparser, iterator", original_ways::iterator),
-    ("wasmparser, visits", original_ways::visits),
+/// The ways that both crates have: wasmparser's, then this crate's.
+const SAME: [(Way, Way); 4] = [
+    (
+        ("visits", original_ways::visits),
+        ("visits", proved_ways::visits),
+    ),
+    (("read", original_ways::reads), ("read", proved_ways::reads)),
+    (
+        ("into a list", original_ways::list),
+        ("into a list", proved_ways::list),
+    ),
+    (
+        ("iterator", original_ways::iterator),
+        ("iterator", proved_ways::iterator),
+    ),
+];
+
+/// The ways that only this crate has.
+const ADDED: [Way; 3] = [
     ("a body, into one array", plain),
     ("a body, by its iterator", body_iterator),
     ("a body, into a list", body_list),
-    ("into a list", proved_ways::list),
-    ("read", proved_ways::reads),
-    ("iterator", proved_ways::iterator),
-    ("visits", proved_ways::visits),
 ];
 
+/// Returns the nanoseconds per operator of a way, or an earlier result if it is less.
+fn time(bodies: &[Vec<u8>], (name, way): Way, earlier: f64) -> f64 {
+    let start = Instant::now();
+    let count: usize = bodies.iter().map(|body| way(body)).sum();
+    let each = start.elapsed().as_nanos() as f64 / count as f64;
+    assert!(count > 0, "{name}: no operators");
+    earlier.min(each)
+}
+
 /// Prints the best of this many rounds of each way.
-fn time(bodies: &[Vec<u8>], rounds: usize) {
-    let mut best = [f64::INFINITY; WAYS.len()];
+fn time_all(bodies: &[Vec<u8>], rounds: usize) {
+    let mut same = [(f64::INFINITY, f64::INFINITY); SAME.len()];
+    let mut added = [f64::INFINITY; ADDED.len()];
     for _ in 0..rounds {
-        for (best, (name, way)) in best.iter_mut().zip(WAYS) {
-            let start = Instant::now();
-            let count: usize = bodies.iter().map(|body| way(body)).sum();
-            let each = start.elapsed().as_nanos() as f64 / count as f64;
-            assert!(count > 0, "{name}: no operators");
-            *best = best.min(each);
+        for ((original, proved), best) in SAME.into_iter().zip(&mut same) {
+            *best = (time(bodies, original, best.0), time(bodies, proved, best.1));
+        }
+        for (way, best) in ADDED.into_iter().zip(&mut added) {
+            *best = time(bodies, way, *best);
         }
     }
-    for (each, (name, _)) in best.iter().zip(WAYS) {
-        let ratio = each / best[0];
-        println!("  {name:26} {each:6.2} ns an operator, {ratio:.2}");
+    println!("  ns per operator             wasmparser  this crate  ratio");
+    for ((original, proved), ((name, _), _)) in same.into_iter().zip(SAME) {
+        let ratio = proved / original;
+        println!("  {name:26}  {original:10.2}  {proved:10.2}  {ratio:5.2}");
     }
+    for (each, (name, _)) in added.into_iter().zip(ADDED) {
+        println!("  {name:26}              {each:10.2}");
+    }
+}
+
+/// Compares bodies, and returns how many differ.
+fn compare(name: &str, bodies: &[Vec<u8>]) -> usize {
+    let operators: usize = bodies.iter().map(|body| count(body)).sum();
+    let mut different = 0;
+    for (at, body) in bodies.iter().enumerate() {
+        if let Some(way) = difference(body) {
+            println!("{name}: body {at}: different {way}");
+            different += 1;
+        }
+    }
+    println!(
+        "{name}: {} bodies, {operators} operators, {different} bodies otherwise than wasmparser",
+        bodies.len()
+    );
+    different
 }
 
 fn main() -> ExitCode {
@@ -221,24 +265,18 @@ fn main() -> ExitCode {
             .and_then(|word| word.parse().ok())
             .expect("--time ROUNDS");
     }
+    let paths: Vec<String> = words.collect();
     let mut wrong = 0;
-    for path in words {
+    if paths.is_empty() {
+        let mut bodies = Vec::new();
+        changed::for_each(|body| bodies.push(body.to_vec()));
+        wrong += compare("changed bodies", &bodies);
+    }
+    for path in paths {
         let bodies = bodies_of(&path).expect("a file of bodies");
-        let operators: usize = bodies.iter().map(|body| count(body)).sum();
-        let mut different = 0;
-        for (at, body) in bodies.iter().enumerate() {
-            if let Some(way) = difference(body) {
-                println!("{path}: body {at}: different {way}");
-                different += 1;
-            }
-        }
-        println!(
-            "{path}: {} bodies, {operators} operators, {different} bodies otherwise than wasmparser",
-            bodies.len()
-        );
-        wrong += different;
+        wrong += compare(&path, &bodies);
         if rounds > 0 {
-            time(&bodies, rounds);
+            time_all(&bodies, rounds);
         }
     }
     ExitCode::from(u8::from(wrong > 0))

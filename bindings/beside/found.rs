@@ -21,8 +21,10 @@ pub fn operators(bytes: &[u8], features: WasmFeatures) -> Vec<String> {
         let mut operators = body.get_operators_reader()?;
         while !operators.eof() {
             let frame = operators.current_frame();
+            let rest = operators.get_binary_reader().remaining_range();
+            let is_last = operators.is_end_then_eof();
             let (operator, offset) = operators.read_with_offset()?;
-            out.push(format!("{offset} {frame:?} {operator:?}"));
+            out.push(format!("{offset} {frame:?} {rest:?} {is_last} {operator:?}"));
         }
         operators.finish()
     };

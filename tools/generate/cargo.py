@@ -1,6 +1,7 @@
 """Writes the lists of operators of the cargo crate (bindings/rust/src)."""
 
 from arities import REACHING
+from changes import rust_change, with_role
 from immediates import TYPES
 from plain import number
 from table import shared
@@ -22,24 +23,28 @@ def made(op):
     return f"Operator::{op.name}{f' {{ {fields} }}' if fields else ''}"
 
 
-# The shapes that most operators of a program have, which are converted by comparisons of few shapes: with more in one
-# `match`, the compiler jumps through a table, which is mispredicted more often.
-IN_TABLES = (0, 1, 3)
-# The next shapes, if each has one operator.
-OF_ONE = (6, 7)
-# The shape of blocks, after them.
+# The shapes that most operators of a program have. Those with at most one number of 32 bits, by what the number `value`
+# becomes, are converted by one table: a jump by their shape would be mispredicted.
+SMALL = {0: "", 1: "value", 6: "value as i32", 8: "Ieee32(value)"}
+MEMORY = 3
+# The next shape, if it has one operator.
+OF_ONE = (7,)
+# The shape of blocks, after it.
 BLOCKS = 17
+# The functions that convert by ranks, with the shapes, and how they find the value.
+BY_RANK = {
+    "small": (tuple(SMALL), "op.first | op.wide as u32"),
+    "memory": ((MEMORY,), "op.memory_argument()"),
+    "block": ((BLOCKS,), "op.block_type()"),
+}
 # The rank of an opcode that is in no table.
-NO_RANK = 255
+NO_RANK = 65535
 
 
 def in_tables(ops):
-    """Returns the operators in tables by shape."""
-    found = {shape: [] for shape in (*IN_TABLES, BLOCKS)}
-    for op in ops:
-        if not op.prefix and op.combination.number in found:
-            found[op.combination.number].append(op)
-    return found
+    """Returns the operators in tables by the function that converts them."""
+    one_byte = [op for op in ops if not op.prefix]
+    return {name: [op for op in one_byte if op.combination.number in shapes] for name, (shapes, _) in BY_RANK.items()}
 
 
 def of_one(ops):
@@ -48,45 +53,45 @@ def of_one(ops):
     return [those[0] for those in found if len(those) == 1]
 
 
-def ranks(by_shape):
-    """Returns the rows of the table from opcodes to positions among the operators of a shape."""
+def ranks(by_name):
+    """Returns the rows of the table from opcodes to positions among the operators of a function."""
     table = [NO_RANK] * 256
-    for those in by_shape.values():
+    for those in by_name.values():
         for at, op in enumerate(those):
             table[number(op)] = at
     rows = [table[at : at + 16] for at in range(0, 256, 16)]
-    return ["    " + ", ".join(map(str, row)) + "," for row in rows]
+    return ["    " + ", ".join("NONE" if it == NO_RANK else str(it) for it in row) + "," for row in rows]
 
 
-def by_rank(shape, ops):
-    """Returns a function that converts the operators of a shape, which have at most one field."""
-    (values,) = {op.combination.values for op in ops}
-    parameter = f"{'op' if values else '_'}: &PlainOperator"
+def by_rank(name, ops):
+    """Returns a function that converts the operators of some shapes, which have at most one field."""
 
     def converted(op):
-        return f"Operator::{op.name}" + "".join(f" {{ {field}: value }}" for field, _ in op.fields)
+        value = SMALL.get(op.combination.number, "value")
+        return f"Operator::{op.name}" + "".join(f" {{ {field}: {value} }}" for field, _ in op.fields)
 
     return filled(
         "cargo/by_rank.rs",
-        shape=shape,
-        parameter=parameter,
-        value=[f"    let value = {value};" for value in values],
+        name=name,
+        value=BY_RANK[name][1],
         arms=[f"        {at} => {converted(op)}," for at, op in enumerate(ops)],
     )
 
 
 def operator_source(ops):
-    by_shape = in_tables(ops)
+    by_name = in_tables(ops)
     single = of_one(ops)
-    frequent = {op.name for those in [*by_shape.values(), single] for op in those}
+    frequent = {op.name for those in [*by_name.values(), single] for op in those}
     first, _ = shared(ops)
     return filled_file(
         "cargo/operator.rs",
+        SMALL=" | ".join(map(str, SMALL)),
+        MEMORY=MEMORY,
         BLOCKS=BLOCKS,
+        NO_RANK=NO_RANK,
         variants=[variant(op) for op in ops],
-        ranks=ranks(by_shape),
-        frequent_shapes=[f"            {it} => if let Some(operator) = of_shape_{it}(op, rank) {{ return operator; }}," for it in IN_TABLES],
-        by_rank=[line for those in by_shape.items() for line in ["", *by_rank(*those)]],
+        ranks=ranks(by_name),
+        by_rank=[line for those in by_name.items() for line in ["", *by_rank(*those)]],
         next_shapes=[f"        {op.combination.number} => {made(op)}," for op in single],
         rare=[f"        {arm(op, first)} => {made(op)}," for op in ops if op.name not in frequent],
     )
@@ -126,8 +131,13 @@ def macros_source(ops):
     )
 
 
+def change_source(ops):
+    those = sorted(with_role(ops), key=number)
+    return filled_file("cargo/frame_change.rs", changes=[f"        0x{number(op):x} => {rust_change(op)}," for op in those])
+
+
 def cargo_files(ops):
     """Returns the files, over the operators whose immediates have values here."""
     ops = [op for op in ops if op.combination]
-    sources = {"operator": operator_source, "visit": visit_source, "macros": macros_source}
+    sources = {"operator": operator_source, "visit": visit_source, "macros": macros_source, "frame_change": change_source}
     return {f"bindings/rust/src/{name}.rs": source(ops) for name, source in sources.items()}

@@ -1,5 +1,6 @@
 //! The kinds of frames, and stacks of them.
 
+use crate::native::PlainOperator;
 use std::fmt;
 
 /// The kind of a frame.
@@ -105,6 +106,7 @@ impl ControlStack {
 /// The memory of an [`OperatorsReader`](crate::OperatorsReader), for another reader.
 #[derive(Default)]
 pub struct OperatorsReaderAllocations {
-    /// Its contents have no meaning.
+    // The contents of both have no meaning.
     pub(crate) frames: Vec<u8>,
+    pub(crate) operators: Vec<PlainOperator>,
 }

@@ -21,12 +21,14 @@
 #![deny(unsafe_code)]
 
 mod arity;
+mod batch;
 mod binary_reader;
 mod body;
 mod code;
 mod constant;
 mod error;
 mod features;
+mod frame_change;
 mod frames;
 mod from_reader;
 mod immediates;

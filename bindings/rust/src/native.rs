@@ -507,16 +507,20 @@ pub fn next_plain<'o>(
     next_by(wasm_next_plain, bytes, frames, reader, place)
 }
 
-/// Replaces the elements of `out` by operators, up to its capacity, the end or an error, which is returned.
+/// Replaces the elements of `out` by operators, at most `limit` and its capacity, up to the end or an error, which is
+/// returned.
 pub fn read(
     bytes: &[u8],
     frames: &mut [u8],
     reader: &mut PlainReader,
     out: &mut Vec<PlainOperator>,
+    limit: usize,
 ) -> Refusal {
+    out.clear();
+    let room = out.capacity().min(limit);
     let mut count = 0;
     let mut refusal = Refusal::default();
-    // SAFETY: see the head. `count` elements are written.
+    // SAFETY: see the head. The library writes the first `count` of `room` elements, which the list has memory for.
     unsafe {
         wasm_read(
             bytes.as_ptr(),
@@ -525,11 +529,11 @@ pub fn read(
             frames.len(),
             reader,
             out.as_mut_ptr(),
-            out.capacity(),
+            room,
             &mut count,
             &mut refusal,
         );
-        out.set_len(count.min(out.capacity()));
+        out.set_len(count.min(room));
     }
     refusal
 }

@@ -1,5 +1,6 @@
 //! Readers of operators, and iterators over operators.
 
+use crate::batch::Batch;
 use crate::frames::{FrameKind, FrameStack, OperatorsReaderAllocations};
 use crate::lists::Source;
 use crate::native::{self, Place, PlainOperator, PlainReader};
@@ -7,12 +8,15 @@ use crate::operator::{Operator, operator_of};
 use crate::visit::{visit_not_simd, visit_simd};
 use crate::{BinaryReader, Error, Result, VisitOperator, WasmFeatures};
 
-/// A reader of the operators of an expression. The library keeps the open frames.
+/// A reader of the operators of an expression. The library reads them in batches, and keeps the open frames.
 #[derive(Clone)]
 pub struct OperatorsReader<'a> {
     source: Source<'a>,
+    /// The library's reader, after the operators of the batch.
     reader: PlainReader,
+    /// The frames of that reader.
     frames: Vec<u8>,
+    batch: Batch,
 }
 
 impl<'a> OperatorsReader<'a> {
@@ -23,7 +27,10 @@ impl<'a> OperatorsReader<'a> {
 
     /// Creates a reader with the memory of an earlier reader.
     pub fn new_with_allocs(reader: BinaryReader<'a>, allocs: OperatorsReaderAllocations) -> Self {
-        let mut frames = allocs.frames;
+        let OperatorsReaderAllocations {
+            mut frames,
+            operators,
+        } = allocs;
         let bytes = reader.buffer();
         let opened = native::open(
             bytes,
@@ -34,11 +41,11 @@ impl<'a> OperatorsReader<'a> {
         );
         // The features are known, the end fits in 64 bits, and a frame fits.
         let opened = opened.unwrap_or_else(|refusal| panic!("no expression opens: {refusal:?}"));
-        OperatorsReader::of(bytes, opened, frames)
+        OperatorsReader::of(bytes, opened, frames, Batch::in_memory(operators))
     }
 
     /// Creates a reader of an expression that is open.
-    fn of(bytes: &'a [u8], reader: PlainReader, frames: Vec<u8>) -> Self {
+    fn of(bytes: &'a [u8], reader: PlainReader, frames: Vec<u8>, batch: Batch) -> Self {
         OperatorsReader {
             source: Source {
                 bytes,
@@ -47,6 +54,7 @@ impl<'a> OperatorsReader<'a> {
             },
             reader,
             frames,
+            batch,
         }
     }
 
@@ -58,24 +66,39 @@ impl<'a> OperatorsReader<'a> {
     ) -> Result<OperatorsReader<'a>> {
         let mut frames = Vec::new();
         let reader = native::open_body(bytes, offset, features.bits(), &mut frames)?;
-        Ok(OperatorsReader::of(bytes, reader, frames))
+        Ok(OperatorsReader::of(bytes, reader, frames, Batch::default()))
+    }
+
+    /// Returns the library's reader before the next operator, except its frames: one is open if any is.
+    #[inline]
+    fn here(&self) -> PlainReader {
+        match self.batch.first() {
+            // The library has read this operator inside a frame.
+            Some(op) => PlainReader {
+                position: op.offset - self.source.offset,
+                depth: 1,
+                ..self.reader
+            },
+            None => self.reader,
+        }
     }
 
     /// Returns a reader of the bytes at this position.
     pub fn get_binary_reader(&self) -> BinaryReader<'a> {
-        BinaryReader::at(self.source.bytes, &self.reader)
+        BinaryReader::at(self.source.bytes, &self.here())
     }
 
     /// Returns whether no byte is left.
     #[inline]
     pub fn eof(&self) -> bool {
-        self.reader.position == self.source.bytes.len() as u64
+        self.batch.is_empty() && self.reader.position == self.source.bytes.len() as u64
     }
 
     /// Returns the offset of the next byte.
     #[inline]
     pub fn original_position(&self) -> u64 {
-        self.reader.offset + self.reader.position
+        let reader = self.here();
+        reader.offset + reader.position
     }
 
     /// Returns whether the bytes that are left are one `end`.
@@ -83,34 +106,43 @@ impl<'a> OperatorsReader<'a> {
         self.get_binary_reader().is_end_then_eof()
     }
 
-    /// Returns the memory for frames, for another reader.
+    /// Returns the memory, for another reader.
     pub fn into_allocations(self) -> OperatorsReaderAllocations {
         OperatorsReaderAllocations {
             frames: self.frames,
+            operators: self.batch.into_memory(),
         }
     }
 
-    /// Reads the C struct of the next operator.
-    #[inline]
-    fn next_plain<'o>(&mut self, place: &'o mut Place) -> Result<&'o PlainOperator> {
+    /// Reads the next batch, whose first operator is the next one. On failure, nothing changes.
+    #[cold]
+    #[inline(never)]
+    fn fill(&mut self) -> Result<()> {
         let (frames, reader) = (&mut self.frames, &mut self.reader);
-        Ok(native::next(self.source.bytes, frames, reader, place)?)
+        Ok(self.batch.fill(self.source.bytes, frames, reader)?)
+    }
+
+    /// Takes the C struct of the next operator, and returns it with its source.
+    #[inline]
+    fn advance(&mut self) -> Result<(&PlainOperator, &Source<'a>)> {
+        if self.batch.is_empty() {
+            self.fill()?;
+        }
+        Ok((self.batch.take(), &self.source))
     }
 
     /// Reads the next operator.
     #[inline]
     pub fn read(&mut self) -> Result<Operator<'a>> {
-        let mut place = Place::uninit();
-        let op = self.next_plain(&mut place)?;
-        Ok(operator_of(op, &self.source))
+        let (op, source) = self.advance()?;
+        Ok(operator_of(op, source))
     }
 
     /// Reads the next operator, and returns it with its offset.
     #[inline]
     pub fn read_with_offset(&mut self) -> Result<(Operator<'a>, u64)> {
-        let mut place = Place::uninit();
-        let op = self.next_plain(&mut place)?;
-        Ok((operator_of(op, &self.source), op.offset))
+        let (op, source) = self.advance()?;
+        Ok((operator_of(op, source), op.offset))
     }
 
     /// Reads the next operator, and calls the visitor's method for it.
@@ -142,64 +174,71 @@ impl<'a> OperatorsReader<'a> {
     where
         T: VisitOperator<'a>,
     {
-        let start = self.reader.position;
-        let mut place = Place::uninit();
-        let op = match self.next_plain(&mut place) {
-            Ok(op) if !op.is_simd() => return Ok(visit_not_simd(visitor, op, &self.source)),
-            read => read,
-        };
-        if let Some(visitor) = visitor.simd_visitor() {
-            return Ok(visit_simd(visitor, op?));
+        if self.batch.is_empty() {
+            if let Err(error) = self.fill() {
+                return Err(match visitor.simd_visitor() {
+                    Some(_) => error,
+                    None => self.error_without_simd(),
+                });
+            }
         }
-        // A SIMD operator does not change the frames.
-        self.reader.position = start;
+        let op = self.batch.take();
+        if !op.is_simd() {
+            return Ok(visit_not_simd(visitor, op, &self.source));
+        }
+        if let Some(visitor) = visitor.simd_visitor() {
+            return Ok(visit_simd(visitor, op));
+        }
+        self.batch.put_back();
         Err(self.error_without_simd())
     }
 
     /// Returns the error of a visitor without SIMD at the next operator.
     #[cold]
     fn error_without_simd(&mut self) -> Error {
-        let (frames, reader) = (&mut self.frames, &mut self.reader);
+        let mut reader = self.here();
         let mut place = Place::uninit();
-        match native::next_plain(self.source.bytes, frames, reader, &mut place) {
+        match native::next_plain(self.source.bytes, &mut self.frames, &mut reader, &mut place) {
             Ok(op) => panic!("the library reads {op:?} for a visitor without SIMD"),
             Err(refusal) => Error::from(refusal),
         }
     }
 
-    /// Returns an iterator over the operators with their offsets. It reads in batches.
+    /// Returns an iterator over the operators with their offsets.
     pub fn into_iter_with_offsets(self) -> OperatorsIteratorWithOffsets<'a> {
         OperatorsIteratorWithOffsets {
             reader: self,
-            batch: Vec::new(),
-            next: 0,
-            end: None,
             is_over: false,
         }
     }
 
     /// Reads all operators with their offsets. Fails unless the expression ends after them.
-    pub fn read_all(self) -> Result<Vec<(Operator<'a>, u64)>> {
-        let mut operators = self.into_iter_with_offsets();
+    pub fn read_all(mut self) -> Result<Vec<(Operator<'a>, u64)>> {
         let mut found = Vec::new();
-        while let Some((op, source)) = operators.advance() {
-            found.push((operator_of(op, source), op.offset));
+        while !self.eof() {
+            if self.batch.is_empty() {
+                self.fill()?;
+            }
+            let source = &self.source;
+            let operators = self.batch.take_all().iter();
+            found.extend(operators.map(|op| (operator_of(op, source), op.offset)));
         }
-        match operators.error() {
-            Some(error) => Err(error),
-            None => operators.reader.finish().map(|()| found),
-        }
+        self.finish()?;
+        Ok(found)
     }
 
     /// Checks that no frame is open and no byte is left.
     pub fn finish(&self) -> Result<()> {
         let bytes = self.source.bytes;
-        Ok(native::finish(bytes, &self.frames, &self.reader)?)
+        Ok(native::finish(bytes, &self.frames, &self.here())?)
     }
 }
 
 impl FrameStack for OperatorsReader<'_> {
     fn current_frame(&self) -> Option<FrameKind> {
+        if !self.batch.is_empty() {
+            return Some(self.batch.innermost());
+        }
         let innermost = (self.reader.depth as usize).checked_sub(1)?;
         Some(FrameKind::of_byte(self.frames[innermost]))
     }
@@ -216,16 +255,13 @@ impl<'a> IntoIterator for OperatorsReader<'a> {
     }
 }
 
-/// The number of operators in a batch.
-const BATCH: usize = 64;
-
 /// An iterator over operators, which ends after an error.
 pub struct OperatorsIterator<'a> {
     operators: OperatorsIteratorWithOffsets<'a>,
 }
 
 impl OperatorsIterator<'_> {
-    /// Returns the memory for frames, for another reader.
+    /// Returns the memory, for another reader.
     pub fn into_allocations(self) -> OperatorsReaderAllocations {
         self.operators.into_allocations()
     }
@@ -237,8 +273,9 @@ impl<'a> Iterator for OperatorsIterator<'a> {
     #[inline]
     fn next(&mut self) -> Option<Self::Item> {
         match self.operators.advance() {
-            Some((op, source)) => Some(Ok(operator_of(op, source))),
-            None => self.operators.error().map(Err),
+            Ok(Some((op, source))) => Some(Ok(operator_of(op, source))),
+            Ok(None) => None,
+            Err(error) => Some(Err(error)),
         }
     }
 
@@ -252,56 +289,34 @@ impl<'a> Iterator for OperatorsIterator<'a> {
 /// An iterator over operators with their offsets, which ends after an error.
 pub struct OperatorsIteratorWithOffsets<'a> {
     reader: OperatorsReader<'a>,
-    batch: Vec<PlainOperator>,
-    next: usize,
-    end: Option<Error>,
     is_over: bool,
 }
 
 impl<'a> OperatorsIteratorWithOffsets<'a> {
-    /// Returns the memory for frames, for another reader.
+    /// Returns the memory, for another reader.
     pub fn into_allocations(self) -> OperatorsReaderAllocations {
         self.reader.into_allocations()
     }
 
-    /// Reads the next batch, after the error of the last one.
+    /// Reads the next batch. Returns whether there is one, and an error once.
     #[cold]
     #[inline(never)]
-    fn fill(&mut self) {
-        let OperatorsReader {
-            source,
-            reader,
-            frames,
-        } = &mut self.reader;
-        self.next = 0;
-        self.batch.clear();
-        if self.is_over || self.end.is_some() || reader.position == source.bytes.len() as u64 {
-            return;
+    fn fill(&mut self) -> Result<bool> {
+        if self.is_over || self.reader.eof() {
+            return Ok(false);
         }
-        self.batch.reserve(BATCH);
-        let refusal = native::read(source.bytes, frames, reader, &mut self.batch);
-        if refusal.number != 0 {
-            self.end = Some(Error::from(refusal));
-        }
+        let filled = self.reader.fill();
+        self.is_over = filled.is_err();
+        filled.map(|()| true)
     }
 
-    /// Returns the next operator that the library has read, and its source.
+    /// Takes the C struct of the next operator, if there is one, and returns it with its source.
     #[inline]
-    fn advance(&mut self) -> Option<(&PlainOperator, &Source<'a>)> {
-        if self.next >= self.batch.len() {
-            self.fill();
+    fn advance(&mut self) -> Result<Option<(&PlainOperator, &Source<'a>)>> {
+        if self.reader.batch.is_empty() && !self.fill()? {
+            return Ok(None);
         }
-        let op = self.batch.get(self.next)?;
-        self.next += 1;
-        Some((op, &self.reader.source))
-    }
-
-    /// Returns the error after the last operator, once.
-    #[cold]
-    fn error(&mut self) -> Option<Error> {
-        let end = self.end.take();
-        self.is_over |= end.is_some();
-        end
+        Ok(Some((self.reader.batch.take(), &self.reader.source)))
     }
 }
 
@@ -311,8 +326,9 @@ impl<'a> Iterator for OperatorsIteratorWithOffsets<'a> {
     #[inline]
     fn next(&mut self) -> Option<Self::Item> {
         match self.advance() {
-            Some((op, source)) => Some(Ok((operator_of(op, source), op.offset))),
-            None => self.error().map(Err),
+            Ok(Some((op, source))) => Some(Ok((operator_of(op, source), op.offset))),
+            Ok(None) => None,
+            Err(error) => Some(Err(error)),
         }
     }
 
@@ -321,18 +337,15 @@ impl<'a> Iterator for OperatorsIteratorWithOffsets<'a> {
     fn fold<B, F: FnMut(B, Self::Item) -> B>(mut self, init: B, mut f: F) -> B {
         let mut folded = init;
         loop {
-            for op in &self.batch[self.next..] {
+            for op in self.reader.batch.take_all() {
                 let operator = operator_of(op, &self.reader.source);
                 folded = f(folded, Ok((operator, op.offset)));
             }
-            self.fill();
-            if self.batch.is_empty() {
-                break;
+            match self.fill() {
+                Ok(true) => {}
+                Ok(false) => return folded,
+                Err(error) => return f(folded, Err(error)),
             }
-        }
-        match self.error() {
-            Some(error) => f(folded, Err(error)),
-            None => folded,
         }
     }
 }

@@ -139,6 +139,9 @@ implement_for!(Box<V>);
 
 /// A visitor with one method for all operators, which wasmparser does not have. [`EachVisit`] makes it a [`VisitOperator`].
 ///
+/// To pass an operator on to a [`VisitOperator`], call its [`visit_operator`](VisitOperator::visit_operator): it calls the
+/// operator's method. `visit_any` of a type that has both traits does not.
+///
 /// ```
 /// use wasm_operators::{BinaryReader, EachVisit, Operator, OperatorsReader, VisitAny};
 ///
