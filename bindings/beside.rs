@@ -4,7 +4,7 @@
 //!
 //! In a file of BODIES, each body is a length in four bytes, little-endian, and its bytes. Both libraries list operators
 //! and locals, call visitors, and read values at the first positions. Values must have the same `Debug`, errors the same
-//! `Display`. Without BODIES, the bodies are those of `rust/tests/changed`: two, cut and changed at every byte.
+//! `Display`. Without BODIES, it compares two bodies, cut and changed at every byte (`rust/tests/changed`).
 //!
 //! `--time` prints the best of ROUNDS for each way, in nanoseconds per operator: the same calls in both crates with their
 //! ratio, then the calls that only this crate has.

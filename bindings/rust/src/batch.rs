@@ -10,8 +10,7 @@ const LARGEST: usize = 64;
 
 /// A batch of operators that the library has read, and the place of the next one.
 ///
-/// The library's reader and frames are those after the whole batch. `eof`, `position` and `innermost` are those before
-/// the next operator.
+/// The library's reader and frames are those after the whole batch.
 #[derive(Clone, Default)]
 pub(crate) struct Batch {
     operators: Vec<PlainOperator>,

@@ -517,10 +517,10 @@ pub fn read(
     limit: usize,
 ) -> Refusal {
     out.clear();
-    let room = out.capacity().min(limit);
+    let length = out.capacity().min(limit);
     let mut count = 0;
     let mut refusal = Refusal::default();
-    // SAFETY: see the head. The library writes the first `count` of `room` elements, which the list has memory for.
+    // SAFETY: see the head. The library writes the first `count` of `length` elements, which the list has memory for.
     unsafe {
         wasm_read(
             bytes.as_ptr(),
@@ -529,11 +529,11 @@ pub fn read(
             frames.len(),
             reader,
             out.as_mut_ptr(),
-            room,
+            length,
             &mut count,
             &mut refusal,
         );
-        out.set_len(count.min(room));
+        out.set_len(count.min(length));
     }
     refusal
 }
