@@ -1,4 +1,4 @@
 pub mod Writing
-pub use Rattle.wasm_encode_numbers.specs as numbers
-pub use Rattle.wasm_encode_immediates.specs as immediates
-pub use Rattle.wasm_encode_operators.specs as operator
+pub use Rattle.wasm_encode_numbers.specs as number_specs
+pub use Rattle.wasm_encode_immediates.specs as immediate_specs
+pub use Rattle.wasm_encode_operators.specs as operator_specs
