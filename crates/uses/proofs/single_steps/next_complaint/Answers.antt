@@ -5,14 +5,13 @@ use Rattle.wasm_operators.specs.opcodes.Entry.{guarded_instruction, needed_frame
 use Rattle.wasm_operators.specs.Guarded.{NextLacksFeature, NextIsMisplaced}
 use Rattle.uses.proofs.single_steps.next_complaint.Goals as goal
 
-pub returns-in-None-clause-memory : goal.returns-in-None-clause-memory
-returns-in-None-clause-memory c = λ g next.
+pub returns-in_default-clause-memory : goal.returns-in_default-clause-memory
+returns-in_default-clause-memory c = λ g next.
     let s = c.args.operators.now in
     let t = c.next_refusal.new.operators in
-    let taken = c.in-None.ensures in
     absurd (elim next [
-      | inl lacks ↦ c.reads_lacking_feature.ensures.never_read taken.0 s t g taken.1 lacks
-      | inr misplaced ↦ c.reads_in_wrong_frame.ensures.never_read taken.0 s t g taken.1 misplaced
+      | inl lacks ↦ c.reads_lacking_feature.ensures.never_read c.in_default.ensures.0 s t g c.in_default.ensures.1 lacks
+      | inr misplaced ↦ c.reads_in_wrong_frame.ensures.never_read c.in_default.ensures.0 s t g c.in_default.ensures.1 misplaced
     ])
 
 pub returns-in-OutOfMemory-clause-memory : goal.returns-in-OutOfMemory-clause-memory
