@@ -54,9 +54,9 @@ FRAMES_CHANGE = [
     *["Block"] * 7, "If", "Else", "End", "Try", "Catch", "CatchAll", "End", "Try", "Delegate", "Loop", "End", "TryTable",
     *["End"] * 9,
 ]
-# The visitors that each operator gets to: by the route `Once`; by `Own` for some groups, and for the others; by `Once` by
-# reference, in a box, and by reference to the box.
-VISITORS = 6
+# The visitors that each operator gets to: by the routes `Once` and `Own`; by `Once` by reference, in a box, and by
+# reference to the box.
+VISITORS = 5
 
 
 class Task:

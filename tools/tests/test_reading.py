@@ -80,20 +80,20 @@ class Wanted(unittest.TestCase):
 
     def test_operator(self):
         line = self.line("fc0901", "DataDrop data_index=1", before="00", behind="0b")
-        self.assertEqual(line, "DataDrop data_index=1; at 4; factory the same; visit by Own; same 3 3 3 3 3 3; plain by Own; cut 1 2 3")
+        self.assertEqual(line, "DataDrop data_index=1; at 4; factory the same; visit by Own; same 3 3 3 3 3; plain by Own; cut 1 2 3")
 
     def test_blocks_are_short_where_they_begin(self):
         line = self.line("430000c07f", "F32Const value=2143289344")
         self.assertTrue(line.endswith("; cut 0 1 1 1 1"))
         line = self.line("0e02010200", "BrTable targets=[1,2]0")
-        self.assertTrue(line.endswith("; visit by Table; same 3 3 3 3 3 3; plain by Table; cut 0 1 2 3 4"))
+        self.assertTrue(line.endswith("; visit by Table; same 3 3 3 3 3; plain by Table; cut 0 1 2 3 4"))
 
     def test_plain_visitor(self):
         line = self.line("fd0e", "I8x16Swizzle", before="00")
-        self.assertIn("; visit by Own; same 4 4 4 4 4 4; plain E14 at 1: unexpected SIMD opcode: 0xfd; at 1; cut 1 2", line)
+        self.assertIn("; visit by Own; same 4 4 4 4 4; plain E14 at 1: unexpected SIMD opcode: 0xfd; at 1; cut 1 2", line)
         line = self.line("fd0e", "E8 at 0: no", frame="None")
         refused = "E8 at 0: no; at 0"
-        wanted = f"{refused}; factory the same; visit {refused}; same 1 1 1 1 1 1; plain {refused}; again the same; cut"
+        wanted = f"{refused}; factory the same; visit {refused}; same 1 1 1 1 1; plain {refused}; again the same; cut"
         self.assertEqual(line, wanted)
 
     def test_half_behind_a_subopcode_alone(self):

@@ -4,7 +4,7 @@ use crate::runs::{
     write_refusal,
 };
 use crate::task::Task;
-use crate::teller::{FirstTeller, OnceTeller, SecondTeller, Teller};
+use crate::teller::{OnceTeller, OwnTeller, Teller};
 use std::alloc::{AllocError, Global};
 use wasm_tests_texts::Written;
 
@@ -14,8 +14,7 @@ pub struct Texts {
     pub read: String,
     pub other: String,
     pub teller: OnceTeller,
-    pub first: FirstTeller,
-    pub second: SecondTeller,
+    pub own: OwnTeller,
     pub boxed: Box<OnceTeller>,
 }
 
@@ -26,8 +25,7 @@ impl Texts {
             read: String::new(alloc),
             other: String::new(alloc),
             teller: Teller::new(alloc),
-            first: Teller::new(alloc),
-            second: Teller::new(alloc),
+            own: Teller::new(alloc),
             boxed: Box::new(alloc, Teller::new(alloc))?,
         })
     }
@@ -37,8 +35,7 @@ impl Texts {
         self.read.clear();
         self.other.clear();
         self.teller.text.clear();
-        self.first.text.clear();
-        self.second.text.clear();
+        self.own.text.clear();
         self.boxed.text.clear();
     }
 }
@@ -130,9 +127,9 @@ fn compare_visit(texts: &mut Texts, reported: (Reported, usize), end: usize) -> 
     Ok(())
 }
 
-/// Writes in how many calls each visitor receives the `direct` visit, whose text is `other`: the
-/// visitors with the route `Once`, with `Own` for some groups, and with `Own` for the others; then
-/// `Once` by reference, in a `Box`, and by reference to the `Box`.
+/// Writes in how many calls each visitor receives the `direct` visit, whose text is `other`. The
+/// visitors have the routes `Once` and `Own`; then `Once` by reference, in a `Box`, and by reference
+/// to the `Box`.
 fn compare_visitors<'a>(
     alloc: Global,
     texts: &mut Texts,
@@ -143,8 +140,7 @@ fn compare_visitors<'a>(
         line,
         other,
         teller,
-        first,
-        second,
+        own,
         boxed,
         ..
     } = texts;
@@ -153,34 +149,12 @@ fn compare_visitors<'a>(
         text: other,
     };
     write_calls(alloc, line, teller, sample, direct)?;
-    write_first(alloc, line, first, sample, direct)?;
-    write_second(alloc, line, second, sample, direct)?;
+    write_calls(alloc, line, own, sample, direct)?;
     let mut borrowed = teller;
     write_calls(alloc, line, &mut borrowed, sample, direct)?;
     write_calls(alloc, line, boxed, sample, direct)?;
     let mut borrowed = boxed;
     write_calls(alloc, line, &mut borrowed, sample, direct)
-}
-
-// Apart, so that each compares the visits of one visitor.
-fn write_first<'a>(
-    alloc: Global,
-    line: &mut String,
-    teller: &mut FirstTeller,
-    sample: Sample<'_, 'a>,
-    direct: Direct<'_>,
-) -> Written {
-    write_calls(alloc, line, teller, sample, direct)
-}
-
-fn write_second<'a>(
-    alloc: Global,
-    line: &mut String,
-    teller: &mut SecondTeller,
-    sample: Sample<'_, 'a>,
-    direct: Direct<'_>,
-) -> Written {
-    write_calls(alloc, line, teller, sample, direct)
 }
 
 /// Writes `EndOfData`'s offset if reading and visiting cut data fail with it; otherwise both

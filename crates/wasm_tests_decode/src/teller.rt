@@ -41,16 +41,9 @@ pub type OnceTeller = Teller<
     OnceOneByte<OnceNumeric<OnceGc<OnceMisc<OnceAtomic<OnceSimdLow<OnceSimdHigh<ByAny>>>>>>>,
 >;
 
-/// Names `Own` for the operators with a one-byte opcode or with prefix 0xfe. A function that passes
-/// a visitor on compares the visits of all groups whose route is `Own`, so no visitor names it for
-/// all.
-pub type FirstTeller = Teller<
-    OwnOneByte<OwnNumeric<OnceGc<OnceMisc<OwnAtomic<OnceSimdLow<OnceSimdHigh<ByAny>>>>>>>,
->;
-
-/// Names `Own` for the other operators.
-pub type SecondTeller = Teller<
-    OnceOneByte<OnceNumeric<OwnGc<OwnMisc<OnceAtomic<OwnSimdLow<OwnSimdHigh<ByAny>>>>>>>,
+/// One function passes this visitor on.
+pub type OwnTeller = Teller<
+    OwnOneByte<OwnNumeric<OwnGc<OwnMisc<OwnAtomic<OwnSimdLow<OwnSimdHigh<ByAny>>>>>>>,
 >;
 
 impl<R> Teller<R> {
@@ -225,13 +218,7 @@ impl<'a> VisitOperator<'a> for OnceTeller {
     }
 }
 
-impl<'a> VisitOperator<'a> for FirstTeller {
-    fn visit_br_table(&mut self, targets: BrTable<'a>) -> Told {
-        self.written(&Operator::BrTable { targets }, Call::Table)
-    }
-}
-
-impl<'a> VisitOperator<'a> for SecondTeller {
+impl<'a> VisitOperator<'a> for OwnTeller {
     fn visit_br_table(&mut self, targets: BrTable<'a>) -> Told {
         self.written(&Operator::BrTable { targets }, Call::Table)
     }
