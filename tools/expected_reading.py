@@ -1,12 +1,11 @@
 #!/usr/bin/env python3
-"""Writes the input and the expected output of wasm_tests_decode and wasm_dump, from wasmparser's samples.
+"""Writes the input and the expected output of the program wasm_tests_decode, from wasmparser's samples.
 
-    tools/expected_reading.py            writes stdin and stdout in crates/wasm_tests_decode and crates/wasm_dump
+    tools/expected_reading.py            writes crates/wasm_tests_decode/stdin and stdout
     tools/expected_reading.py --check    fails if a file is not what the samples and rows give
 
-The README of wasm_tests_decode says what the program reads: nothing generated from the table. The tool adds each
-subopcode lengthened by a byte, unknown opcodes, the subopcodes next to known ones, and the operators that need a frame in
-each frame. wasm_dump reads one body with all operators.
+The README of the program says what it reads: nothing generated from the table. It adds each subopcode lengthened by a
+byte, unknown opcodes, the subopcodes next to known ones, and the operators that need a frame in each frame.
 """
 
 import csv
@@ -19,7 +18,6 @@ from original import FOLDER, GROUPS, originals
 
 TOP = Path(__file__).resolve().parent.parent
 CRATE = TOP / "crates" / "wasm_tests_decode"
-DUMP = TOP / "crates" / "wasm_dump"
 
 # In the order of their bits.
 FEATURES = [
@@ -47,16 +45,20 @@ FLAGS = [
 RESERVED = "E20 at 1: malformed memop: reserved flags bits set"
 # Immediates that are read as a block: if data is missing, EndOfData is at the start of the block.
 BLOCKS = {"float_32": 4, "float_64": 8, "vector": 16}
-# The operators that open, turn or close frames, in a body without locals that has each. The outermost frame needs no
-# capacity, and the first `Block` reserves it for eight more, so none is left at `Else`, `Catch`, `CatchAll`, `Delegate` and
-# the first `End`.
-FRAMES_CHANGE = [
-    *["Block"] * 7, "If", "Else", "End", "Try", "Catch", "CatchAll", "End", "Try", "Delegate", "Loop", "End", "TryTable",
-    *["End"] * 9,
-]
-# The visitors that each operator gets to: by the routes `Once` and `Own`; by `Once` by reference, in a box, and by
-# reference to the box.
-VISITORS = 5
+# The operators whose visits the program overrides.
+OWN = (
+    "Unreachable", "Nop", "LocalGet", "I32Const", "Switch",
+    "I32Eqz", "I64Extend32S",
+    "StructNew", "ArrayCopy", "RefI31",
+    "I32TruncSatF32S", "DataDrop", "MemoryCopy", "TableInit", "I64MulWideU",
+    "MemoryAtomicNotify", "AtomicFence", "Pause",
+    "V128Load", "I8x16Shuffle", "V128AnyTrue",
+    "I64x2Eq", "I32x4RelaxedDotI8x16I7x16AddS",
+)
+# The output for the visitor by reference, in a box, and by reference to the box.
+OTHERS = "others same same same"
+# The same for a direct call of `decode_simd_low` or `decode_simd_high`.
+HALF = "; half same same same same"
 
 
 class Task:
@@ -95,18 +97,12 @@ def plain_answer(task, otherwise):
     return otherwise
 
 
-def has_half(task):
-    """Returns whether `decode_simd_low` or `decode_simd_high` is called directly: a subopcode follows 0xfd in a frame."""
+def half(task):
+    """Returns the output of a direct call: a subopcode follows 0xfd in a frame."""
     number = (task.operator + task.behind)[1:6]
     size = next((at + 1 for at, byte in enumerate(number) if byte < 0x80), None)
     has_subopcode = size is not None and (size < 5 or number[4] < 0x10)
-    return task.operator[:1] == b"\xfd" and task.frame != "None" and has_subopcode
-
-
-def calls(task):
-    """Returns in how many calls each visitor receives the visit: from bytes, by the call for its half, and two as a value."""
-    number = 1 + has_half(task) + (0 if task.is_refused else 2)
-    return f"same {' '.join([str(number)] * VISITORS)}"
+    return HALF if task.operator[:1] == b"\xfd" and task.frame != "None" and has_subopcode else ""
 
 
 def wanted(task, kinds):
@@ -114,13 +110,14 @@ def wanted(task, kinds):
     if task.is_refused:
         answer = f"{task.answer}; at {task.start}"
         plain = plain_answer(task, answer)
-        return f"{answer}; factory the same; visit {answer}; {calls(task)}; plain {plain}; again the same; cut"
+        return f"{answer}; factory the same; visit {answer}; {OTHERS}{half(task)}; plain {plain}; again the same; cut"
     name = task.answer.split()[0]
-    call = "by Table" if name == "BrTable" else "by Own"
+    call = "by " + ("Table" if name == "BrTable" else "Own" if name in OWN else "Any")
     offsets = "".join(f" {offset}" for offset in cuts(task, kinds[name]))
     at = task.start + len(task.operator)
     plain = plain_answer(task, call)
-    return f"{task.answer}; at {at}; factory the same; visit {call}; {calls(task)}; plain {plain}; cut{offsets}"
+    visits = f"visit {call}; {OTHERS}{half(task)}; value same; plain {plain}"
+    return f"{task.answer}; at {at}; factory the same; {visits}; cut{offsets}"
 
 
 def samples():
@@ -198,25 +195,6 @@ def tasks():
     return [*found, *longer, *unknown(ops), *framed(), *flagged(), *written_by_hand()]
 
 
-def whole_body():
-    """Returns the names and bytes of a body with all operators.
-
-    Those that keep the frames precede the others, so no capacity for frames is left at any operator that opens none.
-    """
-    operators = {task.answer.split()[0]: task.operator for task in samples()}
-    names = [name for name in operators if name not in FRAMES_CHANGE] + FRAMES_CHANGE
-    return [(name, operators[name]) for name in names]
-
-
-def dumped():
-    """Returns the files of wasm_dump: the body, after a byte for no locals, and the line of each operator."""
-    body, lines = b"\x00", []
-    for name, operator in whole_body():
-        lines.append(f"{len(body)} {name}\n")
-        body += operator
-    return {"stdin": body, "stdout": "".join(lines)}
-
-
 def files():
     kinds = {op.name: op.immediates for op in originals()}
     asked = tasks()
@@ -232,16 +210,15 @@ def write_or_check(crate, wanted, doc):
     if sys.argv[1:] and not check:
         sys.exit(doc)
     for name, text in wanted.items():
-        path, data = crate / name, text.encode() if isinstance(text, str) else text
-        if path.exists() and path.read_bytes() == data:
+        path = crate / name
+        if path.exists() and path.read_bytes() == text.encode():
             continue
         if check:
             sys.exit(f"{path.relative_to(TOP)} is not what tools/original gives: run tools/{Path(sys.argv[0]).name}")
-        path.write_bytes(data)
+        path.write_bytes(text.encode())
         print(path.relative_to(TOP))
 
 
 if __name__ == "__main__":
     sys.dont_write_bytecode = True
     write_or_check(CRATE, files(), __doc__)
-    write_or_check(DUMP, dumped(), __doc__)

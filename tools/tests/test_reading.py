@@ -80,20 +80,21 @@ class Wanted(unittest.TestCase):
 
     def test_operator(self):
         line = self.line("fc0901", "DataDrop data_index=1", before="00", behind="0b")
-        self.assertEqual(line, "DataDrop data_index=1; at 4; factory the same; visit by Own; same 3 3 3 3 3; plain by Own; cut 1 2 3")
+        self.assertEqual(line, "DataDrop data_index=1; at 4; factory the same; visit by Own; others same same same; value same; plain by Own; cut 1 2 3")
 
     def test_blocks_are_short_where_they_begin(self):
         line = self.line("430000c07f", "F32Const value=2143289344")
         self.assertTrue(line.endswith("; cut 0 1 1 1 1"))
         line = self.line("0e02010200", "BrTable targets=[1,2]0")
-        self.assertTrue(line.endswith("; visit by Table; same 3 3 3 3 3; plain by Table; cut 0 1 2 3 4"))
+        self.assertTrue(line.endswith("; visit by Table; others same same same; value same; plain by Table; cut 0 1 2 3 4"))
 
     def test_plain_visitor(self):
         line = self.line("fd0e", "I8x16Swizzle", before="00")
-        self.assertIn("; visit by Own; same 4 4 4 4 4; plain E14 at 1: unexpected SIMD opcode: 0xfd; at 1; cut 1 2", line)
+        self.assertIn("; visit by Any; others same same same; half same same same same; value same; plain E14 at 1: unexpected SIMD opcode: 0xfd; at 1; cut 1 2", line)
         line = self.line("fd0e", "E8 at 0: no", frame="None")
         refused = "E8 at 0: no; at 0"
-        wanted = f"{refused}; factory the same; visit {refused}; same 1 1 1 1 1; plain {refused}; again the same; cut"
+        others = "others same same same"
+        wanted = f"{refused}; factory the same; visit {refused}; {others}; plain {refused}; again the same; cut"
         self.assertEqual(line, wanted)
 
     def test_half_behind_a_subopcode_alone(self):
@@ -102,31 +103,11 @@ class Wanted(unittest.TestCase):
             ("fdffffffff1f", "Block", False), ("fd808080808000", "Block", False), ("fd80", "Block", False),
             ("fd", "Block", False), ("fd0e", "None", False), ("fc0e", "Block", False),
         ]:
-            self.assertEqual(reading.has_half(reading.Task(operator, "", frame=frame)), wanted, operator)
+            self.assertEqual(reading.half(reading.Task(operator, "", frame=frame)) != "", wanted, operator)
 
     def test_asked(self):
         task = reading.Task("0701", "Catch tag_index=1", frame="LegacyTry", before="000640", behind="0b0b")
         self.assertEqual(task.line(), "63 LegacyTry 3 00064007010b0b")
-
-
-class Dumped(unittest.TestCase):
-    names = [name for name, _ in reading.whole_body()]
-
-    def test_each_operator(self):
-        self.assertEqual({op.name for op in ORIGINALS}, set(self.names))
-        self.assertEqual(reading.dumped()["stdin"][:3].hex(), "000001")
-
-    def test_no_capacity_is_left_where_no_frame_opens(self):
-        frames, capacity, full = 0, 0, set()
-        for name in self.names:
-            if name in ("Block", "Loop", "If", "Try", "TryTable"):
-                frames += 1
-                capacity = max(capacity, frames, 8)
-            elif frames == capacity:
-                full.add(name)
-            frames -= name in ("End", "Delegate")
-        self.assertEqual(frames, -1)
-        self.assertEqual({op.name for op in ORIGINALS} - full, {"Block", "Loop", "If", "Try", "TryTable"})
 
 
 class Printed(unittest.TestCase):

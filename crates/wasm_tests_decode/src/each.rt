@@ -1,21 +1,22 @@
-use crate::calls::{Direct, Sample, write_calls};
+use crate::half;
 use crate::runs::{
-    Reported, is_refused_again, run_factory, run_plain, run_read, run_visit, write_outcome,
-    write_refusal,
+    Reported, is_refused_again, run_borrowed, run_both, run_boxed, run_factory, run_plain,
+    run_read, run_simd, write_outcome, write_refusal,
 };
 use crate::task::Task;
-use crate::teller::{OnceTeller, OwnTeller, Teller};
+use crate::teller::Teller;
 use std::alloc::{AllocError, Global};
+use wasm_instr::Operator;
 use wasm_tests_texts::Written;
+use wasm_visit::visit_operator_with_simd;
 
 #[derive(Drop)]
 pub struct Texts {
     pub line: String,
     pub read: String,
     pub other: String,
-    pub teller: OnceTeller,
-    pub own: OwnTeller,
-    pub boxed: Box<OnceTeller>,
+    pub teller: Teller,
+    pub boxed: Box<Teller>,
 }
 
 impl Texts {
@@ -25,7 +26,6 @@ impl Texts {
             read: String::new(alloc),
             other: String::new(alloc),
             teller: Teller::new(alloc),
-            own: Teller::new(alloc),
             boxed: Box::new(alloc, Teller::new(alloc))?,
         })
     }
@@ -35,7 +35,6 @@ impl Texts {
         self.read.clear();
         self.other.clear();
         self.teller.text.clear();
-        self.own.text.clear();
         self.boxed.text.clear();
     }
 }
@@ -67,13 +66,18 @@ pub fn write_each(alloc: Global, texts: &mut Texts, task: Task, bytes: &[u8]) ->
     write!(texts.line, "{}; at {end}; factory ", texts.read)?;
     compare_factory(alloc, texts, task, bytes, end)?;
     texts.line.push_str("; visit ")?;
-    let reported = run_visit(alloc, &mut texts.teller, task, bytes);
+    let reported = run_simd(alloc, &mut texts.teller, task, bytes);
     texts.other.clear();
     texts.other.push_str(texts.teller.text.as_str())?;
     compare_visit(texts, reported, end)?;
-    texts.line.push_str("; same")?;
-    let op = outcome.as_ref().ok();
-    compare_visitors(alloc, texts, Sample { task, bytes, op }, reported)?;
+    texts.line.push_str("; others")?;
+    compare_ways(alloc, texts, task, bytes, reported)?;
+    if task.frame.is_some() {
+        compare_halves(texts, task, bytes, reported)?;
+    }
+    if let Ok(op) = &outcome {
+        compare_value(alloc, texts, op, reported)?;
+    }
     texts.line.push_str("; plain ")?;
     let reported = run_plain(alloc, &mut texts.teller, task, bytes);
     compare_visit(texts, reported, end)?;
@@ -127,41 +131,123 @@ fn compare_visit(texts: &mut Texts, reported: (Reported, usize), end: usize) -> 
     Ok(())
 }
 
-/// Writes in how many calls each visitor receives the `direct` visit, whose text is `other`. The
-/// visitors have the routes `Once` and `Own`; then `Once` by reference, in a `Box`, and by reference
-/// to the `Box`.
-fn compare_visitors<'a>(
+/// Writes whether a visitor receives the same visit by reference, in a `Box`, and by reference to
+/// the `Box`. `other` is the text of the direct visit.
+fn compare_ways(
     alloc: Global,
     texts: &mut Texts,
-    sample: Sample<'_, 'a>,
+    task: Task,
+    bytes: &[u8],
     direct: (Reported, usize),
 ) -> Written {
     let Texts {
         line,
         other,
         teller,
-        own,
         boxed,
         ..
     } = texts;
-    let direct = Direct {
-        visit: direct,
-        text: other,
+    let reported = run_borrowed(alloc, teller, task, bytes);
+    write_way(line, direct, reported, other, &mut teller.text)?;
+    let reported = run_boxed(alloc, boxed, task, bytes);
+    write_way(line, direct, reported, other, &mut boxed.text)?;
+    let reported = run_both(alloc, boxed, task, bytes);
+    write_way(line, direct, reported, other, &mut boxed.text)
+}
+
+/// Writes whether `decode_simd_low` or `decode_simd_high` makes the `direct` visit, also in the
+/// ways of `compare_ways`. Writes nothing without the prefix 0xfd.
+fn compare_halves(
+    texts: &mut Texts,
+    task: Task,
+    bytes: &[u8],
+    direct: (Reported, usize),
+) -> Written {
+    let Texts {
+        line,
+        other,
+        teller,
+        boxed,
+        ..
+    } = texts;
+    let reported = half::run_own(teller, task, bytes);
+    if reported.is_none() {
+        return Ok(());
+    }
+    line.push_str("; half")?;
+    write_half(line, direct, reported, other, &mut teller.text)?;
+    let reported = half::run_borrowed(teller, task, bytes);
+    write_half(line, direct, reported, other, &mut teller.text)?;
+    let reported = half::run_boxed(boxed, task, bytes);
+    write_half(line, direct, reported, other, &mut boxed.text)?;
+    let reported = half::run_both(boxed, task, bytes);
+    write_half(line, direct, reported, other, &mut boxed.text)
+}
+
+/// Writes whether the operator that was read has the `direct` visit.
+fn compare_value(
+    alloc: Global,
+    texts: &mut Texts,
+    op: &Operator<'_>,
+    direct: (Reported, usize),
+) -> Written {
+    let Texts {
+        line,
+        other,
+        teller,
+        ..
+    } = texts;
+    line.push_str("; value")?;
+    let outcome = visit_operator_with_simd(alloc, teller, op);
+    write_way(line, direct, (outcome, direct.1), other, &mut teller.text)
+}
+
+fn is_same_visit(a: (Reported, usize), b: (Reported, usize)) -> bool {
+    let is_same = match (a.0, b.0) {
+        (Ok(Ok(call)), Ok(Ok(other))) => call == other,
+        (Err(e), Err(other)) => e == other,
+        _ => false,
     };
-    write_calls(alloc, line, teller, sample, direct)?;
-    write_calls(alloc, line, own, sample, direct)?;
-    let mut borrowed = teller;
-    write_calls(alloc, line, &mut borrowed, sample, direct)?;
-    write_calls(alloc, line, boxed, sample, direct)?;
-    let mut borrowed = boxed;
-    write_calls(alloc, line, &mut borrowed, sample, direct)
+    is_same && a.1 == b.1
+}
+
+/// Writes whether a visit equals the direct visit, whose text is `other`; if not, the visit and the
+/// position. Clears the visit's text.
+fn write_way(
+    line: &mut String,
+    direct: (Reported, usize),
+    reported: (Reported, usize),
+    other: &String,
+    text: &mut String,
+) -> Written {
+    if is_same_visit(direct, reported) && *text == *other {
+        line.push_str(" same")?;
+    } else {
+        let position = reported.1;
+        write!(line, " ({text} at {position})")?;
+    }
+    text.clear();
+    Ok(())
+}
+
+fn write_half(
+    line: &mut String,
+    direct: (Reported, usize),
+    reported: Option<(Reported, usize)>,
+    other: &String,
+    text: &mut String,
+) -> Written {
+    let Some(reported) = reported else {
+        return Ok(());
+    };
+    write_way(line, direct, reported, other, text)
 }
 
 /// Writes `EndOfData`'s offset if reading and visiting cut data fail with it; otherwise both
 /// results.
 fn write_cut(alloc: Global, texts: &mut Texts, task: Task, bytes: &[u8]) -> Written {
     let (outcome, position) = run_read(alloc, task, bytes);
-    let reported = run_visit(alloc, &mut texts.teller, task, bytes);
+    let reported = run_simd(alloc, &mut texts.teller, task, bytes);
     match (&outcome, &reported.0) {
         (Err(e), Err(of_visit)) if *e == *of_visit && e.message().number() == 1 => {
             let offset = e.offset();

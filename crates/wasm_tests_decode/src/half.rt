@@ -3,19 +3,20 @@
 ghost use Rattle.std.specs.Prelude.{◌≡◌, Some, IfSome};
 ghost use Rattle.wasm_decode_opcodes.specs.Decoding.{IsAfterCode};
 
-use crate::runs::reader_at;
+use crate::runs::{Reported, reader_at};
 use crate::task::Task;
+use crate::teller::Teller;
 use wasm_below::{BinaryReader, Result};
 use wasm_visit::{GroupSimdHigh, GroupSimdLow};
+use wasm_visit_groups::Visitor;
 
-/// Returns the decoding call's result and the position; `None` without an open frame, the byte 0xfd
-/// and a subopcode.
-pub fn run_half<V: GroupSimdLow + GroupSimdHigh>(
+/// Returns the decoding call's result and the position; `None` without the byte 0xfd and a
+/// subopcode.
+fn run_half<V: GroupSimdLow + GroupSimdHigh>(
     v: &mut V,
     task: Task,
     bytes: &[u8],
 ) -> Option<(Result<V::Output>, usize)> {
-    task.frame?;
     let mut reader = reader_at(task, bytes);
     let start = reader.current_position();
     let code = read_simd_subopcode(&mut reader, start)?;
@@ -38,4 +39,22 @@ fn read_simd_subopcode(reader: &mut BinaryReader<'_>, start: usize) -> Option<u3
         },
         _ => None,
     }
+}
+
+pub fn run_own(teller: &mut Teller, task: Task, bytes: &[u8]) -> Option<(Reported, usize)> {
+    run_half(teller, task, bytes)
+}
+
+pub fn run_borrowed(teller: &mut Teller, task: Task, bytes: &[u8]) -> Option<(Reported, usize)> {
+    let mut borrowed = teller;
+    run_half(&mut borrowed, task, bytes)
+}
+
+pub fn run_boxed(boxed: &mut Box<Teller>, task: Task, bytes: &[u8]) -> Option<(Reported, usize)> {
+    run_half(boxed, task, bytes)
+}
+
+pub fn run_both(boxed: &mut Box<Teller>, task: Task, bytes: &[u8]) -> Option<(Reported, usize)> {
+    let mut borrowed = boxed;
+    run_half(&mut borrowed, task, bytes)
 }

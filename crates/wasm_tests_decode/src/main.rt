@@ -1,7 +1,6 @@
 //! Reads one operator for each line of its input, and prints the results of the reading calls.
 #![tactic(auto)]
 
-mod calls;
 mod each;
 mod half;
 mod own;

@@ -1,13 +1,14 @@
 //! One operator, read and visited. Each result has the position of the reader after it.
 
+use crate::own::Call;
 use crate::task::Task;
-use crate::teller::{OnceTeller, Told};
-use std::alloc::Global;
+use crate::teller::Teller;
+use std::alloc::{AllocError, Global};
 use wasm_below::{BinaryReader, Error, Result};
 use wasm_decode::{read_operator, visit_operator, visit_operator_simd};
 use wasm_instr::Operator;
 use wasm_tests_texts::{Written, write_operator};
-use wasm_visit::{OperatorFactory, VisitOperator};
+use wasm_visit::OperatorFactory;
 
 /// Creates a reader at a task's operator, or at the start of data that is too short.
 pub fn reader_at<'a>(task: Task, bytes: &'a [u8]) -> BinaryReader<'a> {
@@ -32,32 +33,61 @@ pub fn run_factory<'a>(
     (outcome, reader.current_position())
 }
 
-/// What a visitor returned, or the error.
-pub type Reported = Result<Told>;
+pub type Reported = Result<std::result::Result<Call, AllocError>>;
 
-pub fn run_visit<'a, V: VisitOperator<'a>>(
-    alloc: Global,
-    v: &mut V,
-    task: Task,
-    bytes: &'a [u8],
-) -> (Result<V::Output>, usize) {
+pub fn run_simd(alloc: Global, teller: &mut Teller, task: Task, bytes: &[u8]) -> (Reported, usize) {
     let mut reader = reader_at(task, bytes);
-    let outcome = visit_operator_simd(alloc, v, &mut reader, task.frame);
+    let outcome = visit_operator_simd(alloc, teller, &mut reader, task.frame);
     (outcome, reader.current_position())
 }
 
-pub fn run_plain<'a, V: VisitOperator<'a>>(
+pub fn run_plain(
     alloc: Global,
-    v: &mut V,
+    teller: &mut Teller,
     task: Task,
-    bytes: &'a [u8],
-) -> (Result<V::Output>, usize) {
+    bytes: &[u8],
+) -> (Reported, usize) {
     let mut reader = reader_at(task, bytes);
-    let outcome = visit_operator(alloc, v, &mut reader, task.frame);
+    let outcome = visit_operator(alloc, teller, &mut reader, task.frame);
     (outcome, reader.current_position())
 }
 
-pub fn is_refused_again(alloc: Global, teller: &mut OnceTeller, task: Task, bytes: &[u8]) -> bool {
+pub fn run_borrowed(
+    alloc: Global,
+    teller: &mut Teller,
+    task: Task,
+    bytes: &[u8],
+) -> (Reported, usize) {
+    let mut reader = reader_at(task, bytes);
+    let mut borrowed = teller;
+    let outcome = visit_operator_simd(alloc, &mut borrowed, &mut reader, task.frame);
+    (outcome, reader.current_position())
+}
+
+pub fn run_boxed(
+    alloc: Global,
+    boxed: &mut Box<Teller>,
+    task: Task,
+    bytes: &[u8],
+) -> (Reported, usize) {
+    let mut reader = reader_at(task, bytes);
+    let outcome = visit_operator_simd(alloc, boxed, &mut reader, task.frame);
+    (outcome, reader.current_position())
+}
+
+pub fn run_both(
+    alloc: Global,
+    boxed: &mut Box<Teller>,
+    task: Task,
+    bytes: &[u8],
+) -> (Reported, usize) {
+    let mut reader = reader_at(task, bytes);
+    let mut borrowed = boxed;
+    let outcome = visit_operator_simd(alloc, &mut borrowed, &mut reader, task.frame);
+    (outcome, reader.current_position())
+}
+
+pub fn is_refused_again(alloc: Global, teller: &mut Teller, task: Task, bytes: &[u8]) -> bool {
     let mut reader = reader_at(task, bytes);
     let read = read_operator(alloc, &mut reader, task.frame).err();
     let read_again = read_operator(alloc, &mut reader, task.frame).err();

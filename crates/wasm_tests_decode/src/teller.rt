@@ -1,5 +1,5 @@
+use crate::own::Call;
 use std::alloc::{AllocError, Global};
-use std::marker::PhantomData;
 use wasm_below::{BinaryReader, Result};
 use wasm_grammar::FrameKind;
 use wasm_imm::BrTable;
@@ -13,84 +13,40 @@ use wasm_visit::{
 };
 use wasm_visit_groups::{
     ByAny, OnceAtomic, OnceGc, OnceMisc, OnceNumeric, OnceOneByte, OnceSimdHigh, OnceSimdLow,
-    OwnAtomic, OwnGc, OwnMisc, OwnNumeric, OwnOneByte, OwnSimdHigh, OwnSimdLow, Routes, ToOwn,
     Visitor,
 };
 
-/// The visit that an operator received.
-#[derive(Clone, Copy, Debug, PartialEq, Eq)]
-pub enum Call {
-    Own,
-    Any,
-    Table,
-}
-
-/// The visit that an operator received, or that the text could not be stored.
-pub type Told = std::result::Result<Call, AllocError>;
-
-/// Writes the operators that it visits, and returns which visit it received. It overrides all
-/// visits. `R` names the routes to them.
+/// Writes the operators that it visits, and returns which call it received, or that the text could
+/// not be stored. It overrides all visits; ten functions pass it on, so its calls compare the visits
+/// once.
 #[derive(Drop)]
-pub struct Teller<R> {
+pub struct Teller {
     pub text: String,
-    routes: PhantomData<R>,
 }
 
-/// Ten functions pass this visitor on, so its calls compare the visits once.
-pub type OnceTeller = Teller<
-    OnceOneByte<OnceNumeric<OnceGc<OnceMisc<OnceAtomic<OnceSimdLow<OnceSimdHigh<ByAny>>>>>>>,
->;
-
-/// One function passes this visitor on.
-pub type OwnTeller = Teller<
-    OwnOneByte<OwnNumeric<OwnGc<OwnMisc<OwnAtomic<OwnSimdLow<OwnSimdHigh<ByAny>>>>>>>,
->;
-
-impl<R> Teller<R> {
-    pub fn new(alloc: Global) -> Teller<R> {
+impl Teller {
+    pub fn new(alloc: Global) -> Teller {
         Teller {
             text: String::new(alloc),
-            routes: PhantomData,
         }
     }
 
-    pub fn own(&mut self, op: Operator<'static>) -> Told {
+    pub fn own(&mut self, op: Operator<'static>) -> std::result::Result<Call, AllocError> {
         self.written(&op, Call::Own)
     }
 
-    fn written(&mut self, op: &Operator<'_>, call: Call) -> Told {
+    fn written(&mut self, op: &Operator<'_>, call: Call) -> std::result::Result<Call, AllocError> {
         write_operator(&mut self.text, op)?;
         Ok(call)
     }
 }
 
-/// A visitor that collects the texts of its visits.
-pub trait Tells {
-    fn text(&mut self) -> &mut String;
-}
+impl Visitor for Teller {
+    type Output = std::result::Result<Call, AllocError>;
 
-impl<R> Tells for Teller<R> {
-    fn text(&mut self) -> &mut String {
-        &mut self.text
-    }
-}
-
-impl<V: Tells> Tells for &mut V {
-    fn text(&mut self) -> &mut String {
-        (**self).text()
-    }
-}
-
-impl<V: Tells> Tells for Box<V> {
-    fn text(&mut self) -> &mut String {
-        (**self).text()
-    }
-}
-
-impl<R: Routes> Visitor for Teller<R> {
-    type Output = Told;
-
-    type Visits = R;
+    type Visits = OnceOneByte<
+        OnceNumeric<OnceGc<OnceMisc<OnceAtomic<OnceSimdLow<OnceSimdHigh<ByAny>>>>>>,
+    >;
 
     ghost visits = { λ before op outcome after. Unit {0} };
 
@@ -99,7 +55,7 @@ impl<R: Routes> Visitor for Teller<R> {
     }
 }
 
-impl<R: Routes<OneByte: ToOwn>> CallOneByte for Teller<R> {
+impl CallOneByte for Teller {
     fn dispatch_one_byte(&mut self, op: Operator<'_>) -> Self::Output {
         dispatch::one_byte(self, op)
     }
@@ -127,7 +83,7 @@ impl<R: Routes<OneByte: ToOwn>> CallOneByte for Teller<R> {
     }
 }
 
-impl<R: Routes<Numeric: ToOwn>> CallNumeric for Teller<R> {
+impl CallNumeric for Teller {
     fn dispatch_numeric(&mut self, op: NumericOperator) -> Self::Output {
         dispatch::numeric(self, op)
     }
@@ -137,7 +93,7 @@ impl<R: Routes<Numeric: ToOwn>> CallNumeric for Teller<R> {
     }
 }
 
-impl<R: Routes<Gc: ToOwn>> CallGc for Teller<R> {
+impl CallGc for Teller {
     fn dispatch_gc(&mut self, op: GcOperator) -> Self::Output {
         dispatch::gc(self, op)
     }
@@ -152,7 +108,7 @@ impl<R: Routes<Gc: ToOwn>> CallGc for Teller<R> {
     }
 }
 
-impl<R: Routes<Misc: ToOwn>> CallMisc for Teller<R> {
+impl CallMisc for Teller {
     fn dispatch_misc(&mut self, op: MiscOperator) -> Self::Output {
         dispatch::misc(self, op)
     }
@@ -167,7 +123,7 @@ impl<R: Routes<Misc: ToOwn>> CallMisc for Teller<R> {
     }
 }
 
-impl<R: Routes<Atomic: ToOwn>> CallAtomic for Teller<R> {
+impl CallAtomic for Teller {
     fn dispatch_atomic(&mut self, op: AtomicOperator) -> Self::Output {
         dispatch::atomic(self, op)
     }
@@ -182,7 +138,7 @@ impl<R: Routes<Atomic: ToOwn>> CallAtomic for Teller<R> {
     }
 }
 
-impl<R: Routes<SimdLow: ToOwn>> CallSimdLow for Teller<R> {
+impl CallSimdLow for Teller {
     fn dispatch_simd_low(&mut self, op: SimdOperator) -> Self::Output {
         dispatch::simd_low(self, op)
     }
@@ -197,7 +153,7 @@ impl<R: Routes<SimdLow: ToOwn>> CallSimdLow for Teller<R> {
     }
 }
 
-impl<R: Routes<SimdHigh: ToOwn>> CallSimdHigh for Teller<R> {
+impl CallSimdHigh for Teller {
     fn dispatch_simd_high(&mut self, op: SimdOperator) -> Self::Output {
         dispatch::simd_high(self, op)
     }
@@ -212,14 +168,8 @@ impl<R: Routes<SimdHigh: ToOwn>> CallSimdHigh for Teller<R> {
     }
 }
 
-impl<'a> VisitOperator<'a> for OnceTeller {
-    fn visit_br_table(&mut self, targets: BrTable<'a>) -> Told {
-        self.written(&Operator::BrTable { targets }, Call::Table)
-    }
-}
-
-impl<'a> VisitOperator<'a> for OwnTeller {
-    fn visit_br_table(&mut self, targets: BrTable<'a>) -> Told {
+impl<'a> VisitOperator<'a> for Teller {
+    fn visit_br_table(&mut self, targets: BrTable<'a>) -> Self::Output {
         self.written(&Operator::BrTable { targets }, Call::Table)
     }
 }
