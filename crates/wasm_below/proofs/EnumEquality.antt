@@ -1,6 +1,5 @@
 -- Derived equality of an enum is exact if the equality of its fields is.
 use Rattle.std.proofs.Common.{◌≡◌, Bool, true, false, List, [], ◌∷◌, inl, inr, refl, ap, ◌∙◌}
-use Rattle.std.specs.Bool.{Decides}
 use Rattle.std.proofs.lemmas.Bool.Decides.{Decides-and, Decides-like}
 use mathlib.Core.Bool.{◌&&◌}
 use denote.Struct.Field.{Field}

@@ -8,7 +8,7 @@ pub mod Ahead
 pub mod Blocks
 pub mod DeterminedRefusals
 pub mod Faults
-pub mod Groups
+pub mod Septets
 pub mod MessageTexts
 pub mod Numbers
 pub mod NumbersAt

@@ -3,15 +3,15 @@ use Rattle.std.specs.Prelude.{slice_index}
 use Rattle.std.proofs.lemmas.List.{get_or-drop, append-nil}
 use Rattle.std.proofs.Math.Nat.{pow-le-pow_right}
 use Rattle.std.proofs.lemmas.Bool.{cases_lt}
-use Rattle.wasm_below.specs.declared.long_numbers.Groups.{Groups}
+use Rattle.wasm_below.specs.declared.long_numbers.Septets.{Septets}
 use Rattle.wasm_below.specs.declared.long_numbers.NumberRefusal.{NumberRefusal}
 use Rattle.wasm_below.specs.declared.long_numbers.NumberRefusal.TheVariants as refusal
-use Rattle.wasm_below.specs.Leb128.{AllGoOn, low_bits, signed_value, OccursAt, IsGroups, RefusesGroups, NumberAt, NeverBegins, NoNumber}
+use Rattle.wasm_below.specs.Leb128.{AllGoOn, low_bits, signed_value, OccursAt, IsSeptets, RefusesSeptets, NumberAt, NeverBegins, NoNumber}
 use Rattle.wasm_below.specs.Number.{EncodesUnsigned, EncodesSigned, FitsWidth, last_value}
 use Rattle.wasm_below.specs.Source.{NoPrefix}
 use Rattle.wasm_below.proofs.Numbers.{wide_fits}
 use Rattle.wasm_below.proofs.SignedNumbers.{narrow, signed_large}
-use Rattle.wasm_below.proofs.Groups.{IsLeb128, joined, continued, none_after, unsigned_leb128, signed_leb128, unsigned_joined, signed_joined, low_below, occurs_more}
+use Rattle.wasm_below.proofs.Septets.{IsLeb128, joined, continued, none_after, unsigned_leb128, signed_leb128, unsigned_joined, signed_joined, low_below, occurs_more}
 
 byte_after : (bytes text after : List ℕ) (c : ℕ) → bytes ≡ text ++ c ∷ after → slice_index bytes (length text) ≡ c
 byte_after bytes [] after c e = ap (λ z. slice_index z 0) e
@@ -31,23 +31,23 @@ module _ {X : Type 0} (Encodes : ℕ → List ℕ → X → Type 0) (join : ℕ 
       let same : drop start buffer ++ more ≡ text ++ c ∷ (after ++ more) = ap (λ z. z ++ more) e ∙ append_assoc text (c ∷ after) more in
       subst (NoPrefix (Encodes width)) (sym same) (none_after Encodes join leb128 text (c ∷ (after ++ more)) width go (none (after ++ more)))
 
-  pub no_groups : (r : NumberRefusal) (width : ℕ) (buffer : List ℕ) (start : ℕ) → 0 < width → RefusesGroups r width buffer start →
+  pub no_septets : (r : NumberRefusal) (width : ℕ) (buffer : List ℕ) (start : ℕ) → 0 < width → RefusesSeptets r width buffer start →
       NoNumber (Encodes width) r width buffer start
-  no_groups refusal.EndOfData width buffer start some (go, few) = (
+  no_septets refusal.EndOfData width buffer start some (go, few) = (
     omega (arith, length-drop start buffer),
     subst (NoPrefix (Encodes width)) (append-nil (drop start buffer))
         (none_after Encodes join leb128 (drop start buffer) [] width go (leb128.empty (width - 7 * length (drop start buffer)))),
   )
-  no_groups refusal.TooLong width buffer start some (text, after, c, go, ge, many, e) =
+  no_septets refusal.TooLong width buffer start some (text, after, c, go, ge, many, e) =
       let last = last_byte buffer text after start c e in
       let at : slice_index buffer (start + (width - 1) / 7) ≡ c = ap (λ k. slice_index buffer (start + k)) (sym many) ∙ last.1 in (
         omega (arith, last.0),
         omega (arith, at),
         never buffer text after start c width e go (λ more. leb128.long (c ∷ more) more c (width - 7 * length text) refl ge (omega arith)),
       )
-  no_groups refusal.TooLarge width buffer start some h = absurd h
+  no_septets refusal.TooLarge width buffer start some h = absurd h
 
-  pub too_large : (width : ℕ) (buffer : List ℕ) (start : ℕ) (g : Groups) → IsGroups buffer start width g → width - g.shift ≤ 7 →
+  pub too_large : (width : ℕ) (buffer : List ℕ) (start : ℕ) (g : Septets) → IsSeptets buffer start width g → width - g.shift ≤ 7 →
       ((more : List ℕ) → NoPrefix (Encodes (width - g.shift)) (g.last ∷ more)) → NoNumber (Encodes width) refusal.TooLarge width buffer start
   too_large width buffer start g h narrow none =
       let e : drop start buffer ≡ h.text ++ g.last ∷ drop g.after buffer = h.occurs.parts ∙ append_assoc h.text (g.last ∷ []) (drop g.after buffer) in
@@ -60,7 +60,7 @@ module _ {X : Type 0} (Encodes : ℕ → List ℕ → X → Type 0) (join : ℕ 
             (λ more. subst (λ k. NoPrefix (Encodes (width - k)) (g.last ∷ more)) h.shift (none more)),
       )
 
-pub unsigned_found : (width : ℕ) (buffer : List ℕ) (start value : ℕ) (g : Groups) → IsGroups buffer start width g → g.last < 2 ^ (width - g.shift) →
+pub unsigned_found : (width : ℕ) (buffer : List ℕ) (start value : ℕ) (g : Septets) → IsSeptets buffer start width g → g.last < 2 ^ (width - g.shift) →
     value ≡ g.low + g.last * 2 ^ g.shift → NumberAt (EncodesUnsigned width) buffer start value g.after
 unsigned_found width buffer start value g h fits e =
     let room : g.last < 2 ^ (width - 7 * length h.text) = subst (λ k. g.last < 2 ^ (width - k)) h.shift fits in
@@ -76,7 +76,7 @@ unsigned_found width buffer start value g h fits e =
       h.occurs,
     )
 
-pub signed_found : (width : ℕ) (buffer : List ℕ) (start : ℕ) (value : ℤ) (g : Groups) → IsGroups buffer start width g →
+pub signed_found : (width : ℕ) (buffer : List ℕ) (start : ℕ) (value : ℤ) (g : Septets) → IsSeptets buffer start width g →
     FitsWidth (width - g.shift) (last_value g.last) → value ≡ signed_value g.low (2 ^ g.shift) g.last →
     NumberAt (EncodesSigned width) buffer start value g.after
 signed_found width buffer start value g h fits e =
@@ -93,10 +93,10 @@ signed_found width buffer start value g h fits e =
       h.occurs,
     )
 
-pub low_of_groups : (width : ℕ) (buffer : List ℕ) (start : ℕ) (g : Groups) → IsGroups buffer start width g → g.low < 2 ^ g.shift
-low_of_groups width buffer start g h = omega (arith, h.low, low_below h.text h.go_on, ap (λ k. 2 ^ k) h.shift)
+pub low_of_septets : (width : ℕ) (buffer : List ℕ) (start : ℕ) (g : Septets) → IsSeptets buffer start width g → g.low < 2 ^ g.shift
+low_of_septets width buffer start g h = omega (arith, h.low, low_below h.text h.go_on, ap (λ k. 2 ^ k) h.shift)
 
-pub last_within : (width : ℕ) (buffer : List ℕ) (start : ℕ) (g : Groups) → IsGroups buffer start width g → width ≤ 64 → g.last < 2 ^ (width - g.shift) →
+pub last_within : (width : ℕ) (buffer : List ℕ) (start : ℕ) (g : Septets) → IsSeptets buffer start width g → width ≤ 64 → g.last < 2 ^ (width - g.shift) →
     g.last < 2 ^ (64 - g.shift)
 last_within width buffer start g h wide lt =
     let le : width - g.shift ≤ 64 - g.shift = omega arith in

@@ -1,6 +1,6 @@
 -- LEB128 numbers as the code reads them: continuation bytes, and then a last byte.
 use Rattle.std.specs.Prelude.{◌≡◌, ℕ, ◌+◌, ◌-◌, ◌*◌, ◌/◌, ◌<◌, ◌≤◌, zero, suc, List, [], ◌∷◌, ◌++◌, length, drop, slice_index, ℤ, ltb}
-use Rattle.wasm_below.specs.declared.long_numbers.Groups.{Groups}
+use Rattle.wasm_below.specs.declared.long_numbers.Septets.{Septets}
 use Rattle.wasm_below.specs.declared.long_numbers.NumberRefusal.{NumberRefusal}
 use Rattle.wasm_below.specs.declared.long_numbers.NumberRefusal.TheVariants as refusal
 use Rattle.wasm_below.specs.declared.message.Message.{Message}
@@ -27,22 +27,22 @@ pub record OccursAt (buffer : List ℕ) (start after : ℕ) (text : List ℕ) : 
   pub parts : drop start buffer ≡ text ++ drop after buffer
   pub ends : after ≡ start + length text
 
--- Groups of seven bits at `start`, in at most as many bytes as `width` allows.
-pub record IsGroups (buffer : List ℕ) (start width : ℕ) (groups : Groups) : Type 0 where
+-- Septets, septets of seven bits, at `start`, in at most as many bytes as `width` allows.
+pub record IsSeptets (buffer : List ℕ) (start width : ℕ) (septets : Septets) : Type 0 where
   pub text : List ℕ
   pub go_on : AllGoOn text
-  pub low : groups.low ≡ low_bits text
-  pub shift : groups.shift ≡ 7 * length text
-  pub narrow : groups.shift < width
-  pub small : groups.last < 128
-  pub occurs : OccursAt buffer start groups.after (text ++ groups.last ∷ [])
+  pub low : septets.low ≡ low_bits text
+  pub shift : septets.shift ≡ 7 * length text
+  pub narrow : septets.shift < width
+  pub small : septets.last < 128
+  pub occurs : OccursAt buffer start septets.after (text ++ septets.last ∷ [])
 
--- Why there are no groups at `start`: the data ends in continuation bytes, or the last byte that
+-- Why there are no septets at `start`: the data ends in continuation bytes, or the last byte that
 -- the width allows is one.
-abbrev pub RefusesGroups : NumberRefusal → ℕ → List ℕ → ℕ → Type 0
-RefusesGroups refusal.EndOfData width buffer start = AllGoOn (drop start buffer) × (length (drop start buffer) ≤ (width - 1) / 7)
-RefusesGroups refusal.TooLong width buffer start = (text after : List ℕ) × (c : ℕ) × AllGoOn text × (128 ≤ c) × (length text ≡ (width - 1) / 7) × (drop start buffer ≡ text ++ c ∷ after)
-RefusesGroups refusal.TooLarge width buffer start = ⊥
+abbrev pub RefusesSeptets : NumberRefusal → ℕ → List ℕ → ℕ → Type 0
+RefusesSeptets refusal.EndOfData width buffer start = AllGoOn (drop start buffer) × (length (drop start buffer) ≤ (width - 1) / 7)
+RefusesSeptets refusal.TooLong width buffer start = (text after : List ℕ) × (c : ℕ) × AllGoOn text × (128 ≤ c) × (length text ≡ (width - 1) / 7) × (drop start buffer ≡ text ++ c ∷ after)
+RefusesSeptets refusal.TooLarge width buffer start = ⊥
 
 -- The bytes from `start` to `after` encode the number.
 abbrev pub NumberAt : {X : Type 0} → (List ℕ → X → Type 0) → List ℕ → ℕ → X → ℕ → Type 0

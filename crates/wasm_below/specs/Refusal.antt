@@ -34,6 +34,9 @@ number_of (message.InvalidLeadingByte _ _) = 22
 number_of message.TooManyLocals = 23
 number_of (message.InvalidType _) = 24
 number_of message.DataAfterSection = 25
+number_of (message.Malformed _) = 26
+number_of (message.BadMagic _) = 27
+number_of (message.UnknownVersion _) = 28
 
 abbrev pub kind_of : Message → ErrorKind
 kind_of message.EndOfData = kind.EndOfData
@@ -41,7 +44,7 @@ kind_of (message.FeatureRequired _) = kind.MissingFeature
 kind_of message.OutOfMemory = kind.OutOfMemory
 kind_of _ = kind.Other
 
--- A message about one value: any except E3, E8 to E11, E23 and E25.
+-- A message about one value: any except E3, E8 to E11, E23 and E25 to E28.
 abbrev pub IsReadFault : Message → Type 0
 IsReadFault message.OutOfMemory = ⊥
 IsReadFault message.OperatorsRemaining = ⊥
@@ -50,6 +53,9 @@ IsReadFault message.FramesRemainConst = ⊥
 IsReadFault message.UnexpectedData = ⊥
 IsReadFault message.TooManyLocals = ⊥
 IsReadFault message.DataAfterSection = ⊥
+IsReadFault (message.Malformed _) = ⊥
+IsReadFault (message.BadMagic _) = ⊥
+IsReadFault (message.UnknownVersion _) = ⊥
 IsReadFault _ = Unit {0}
 
 -- If the message is about an invalid number, it names this kind.

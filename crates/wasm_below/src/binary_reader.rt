@@ -106,7 +106,7 @@ impl<'a> BinaryReader<'a> {
         self.position
     }
 
-    /// Law: the next byte's offset is at most that of the end of the data.
+    /// Law: the next byte is within the data, or at its end.
     pub fn is_within(&self)
         ensures { offset_of self.now ≤ end_of self.now }
     {

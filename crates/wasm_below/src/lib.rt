@@ -13,6 +13,7 @@ mod error;
 mod features;
 mod from_reader;
 mod long_numbers;
+mod malformed;
 mod memory_use;
 mod message;
 mod packed_reads;
@@ -24,8 +25,10 @@ pub use binary_reader::BinaryReader;
 pub use error::{BinaryReaderError, Error, ErrorKind, Result};
 pub use features::WasmFeatures;
 pub use from_reader::{BinaryReaderIter, FromReader};
+pub use malformed::Malformed;
 pub use memory_use::{May, MemoryUse, Never, TakesMemory, UsesMemory};
 pub use message::{
     FrameName, InstructionName, LeadingByteName, Message, NumberName, SizeName, TypeName,
+    hexadecimal_indent,
 };
 pub use types::{AbstractHeapType, HeapType, RefType, ValType};

@@ -1,7 +1,7 @@
-//! LEB128 numbers of several bytes: groups of seven bits, the lowest first.
+//! LEB128 numbers of several bytes: septets (seven bits), the lowest first.
 ghost use Rattle.std.specs.Prelude.{◌≡◌, ◌+◌, ◌-◌, ◌*◌, ◌≤◌, ◌<◌, ◌^◌, ◌↔◌, IsTrue, IfOk, IfErr, IfSome};
 ghost use Rattle.wasm_below.specs.Number.{EncodesUnsigned, EncodesSigned, FitsWidth, last_value};
-ghost use Rattle.wasm_below.specs.Leb128.{IsGroups, RefusesGroups, NumberAt, NoNumber, HasPlace, refusal_message, refusal_offset, signed_value};
+ghost use Rattle.wasm_below.specs.Leb128.{IsSeptets, RefusesSeptets, NumberAt, NoNumber, HasPlace, refusal_message, refusal_offset, signed_value};
 
 use crate::error::Error;
 use crate::message::{Message, NumberName};
@@ -17,9 +17,9 @@ pub enum NumberRefusal {
     TooLarge,
 }
 
-/// The groups of a number: the last byte, and the bytes before it as one number of `shift` bits.
+/// The septets of a number: the last byte, and the bytes before it as one number of `shift` bits.
 #[derive(Clone, Copy)]
-pub struct Groups {
+pub struct Septets {
     pub low: u64,
     pub shift: u32,
     pub last: u8,
@@ -136,16 +136,16 @@ pub fn read_unsigned(buffer: &[u8], start: usize, bits: u32) -> Result<Unsigned,
     ensures within { IfOk result (λ n. n.value < 2 ^ bits) }
     ensures refused { IfErr result (λ r. NoNumber (EncodesUnsigned bits) r bits buffer.now start) }
 {
-    let groups = match read_groups(buffer, start, bits) {
-        Ok(groups) => groups,
+    let septets = match read_septets(buffer, start, bits) {
+        Ok(septets) => septets,
         Err(refusal) => return Err(refusal),
     };
-    if !fits_unsigned(groups.last, bits - groups.shift) {
+    if !fits_unsigned(septets.last, bits - septets.shift) {
         return Err(NumberRefusal::TooLarge);
     }
     Ok(Unsigned {
-        value: join_unsigned(groups.low, groups.shift, groups.last),
-        after: groups.after,
+        value: join_unsigned(septets.low, septets.shift, septets.last),
+        after: septets.after,
     })
 }
 
@@ -157,37 +157,37 @@ pub fn read_signed(buffer: &[u8], start: usize, bits: u32) -> Result<Signed, Num
     ensures within { IfOk result (λ n. FitsWidth bits n.value) }
     ensures refused { IfErr result (λ r. NoNumber (EncodesSigned bits) r bits buffer.now start) }
 {
-    let groups = match read_groups(buffer, start, bits) {
-        Ok(groups) => groups,
+    let septets = match read_septets(buffer, start, bits) {
+        Ok(septets) => septets,
         Err(refusal) => return Err(refusal),
     };
-    if !fits_signed(last_value(groups.last), bits - groups.shift) {
+    if !fits_signed(last_value(septets.last), bits - septets.shift) {
         return Err(NumberRefusal::TooLarge);
     }
     Ok(Signed {
-        value: join_signed(groups.low, groups.shift, groups.last),
-        after: groups.after,
+        value: join_signed(septets.low, septets.shift, septets.last),
+        after: septets.after,
     })
 }
 
 #[inline(always)]
-fn read_groups(buffer: &[u8], start: usize, bits: u32) -> Result<Groups, NumberRefusal>
+fn read_septets(buffer: &[u8], start: usize, bits: u32) -> Result<Septets, NumberRefusal>
     requires low { 0 < bits }
     requires high { bits ≤ 64 }
-    ensures groups { IfOk result (IsGroups buffer.now start bits) }
-    ensures refused { IfErr result (λ r. RefusesGroups r bits buffer.now start) }
+    ensures septets { IfOk result (IsSeptets buffer.now start bits) }
+    ensures refused { IfErr result (λ r. RefusesSeptets r bits buffer.now start) }
 {
     let mut low = 0;
     let mut shift = 0;
     let mut position = start;
-    for _group in 0..(bits - 1) / 7 {
+    for _septet in 0..(bits - 1) / 7 {
         if position >= buffer.len() {
             return Err(NumberRefusal::EndOfData);
         }
         let byte = buffer[position];
         position += 1;
         if byte < 128 {
-            return Ok(Groups {
+            return Ok(Septets {
                 low,
                 shift,
                 last: byte,
@@ -204,7 +204,7 @@ fn read_groups(buffer: &[u8], start: usize, bits: u32) -> Result<Groups, NumberR
     if last >= 128 {
         return Err(NumberRefusal::TooLong);
     }
-    Ok(Groups {
+    Ok(Septets {
         low,
         shift,
         last,

@@ -1,7 +1,8 @@
 ghost use Rattle.std.specs.Prelude.{◌≡◌, Some};
-ghost use Rattle.wasm_below.specs.MessageText.{frame_name_text, number_name_text, size_name_text, instruction_name_text, leading_byte_name_text, type_name_text, message_text};
+ghost use Rattle.wasm_below.specs.MessageText.{frame_name_text, number_name_text, size_name_text, instruction_name_text, leading_byte_name_text, type_name_text, hexadecimal_indent, message_text};
 ghost use Rattle.wasm_below.specs.Refusal.{number_of};
 
+use crate::malformed::Malformed;
 use std::fmt;
 
 #[derive(Clone, Copy, Debug, PartialEq, Eq)]
@@ -59,6 +60,11 @@ pub enum SizeName {
     SelectTypes,
     Catches,
     ResumeTable,
+    FunctionParams,
+    FunctionReturns,
+    StructFields,
+    SupertypeIndices,
+    RecGroupTypes,
 }
 
 impl SizeName {
@@ -70,6 +76,11 @@ impl SizeName {
             SizeName::SelectTypes => "select types",
             SizeName::Catches => "catches",
             SizeName::ResumeTable => "resume table",
+            SizeName::FunctionParams => "function params",
+            SizeName::FunctionReturns => "function returns",
+            SizeName::StructFields => "struct fields",
+            SizeName::SupertypeIndices => "supertype idxs",
+            SizeName::RecGroupTypes => "rec group types",
         }
     }
 }
@@ -119,6 +130,8 @@ impl fmt::Display for InstructionName {
 pub enum LeadingByteName {
     Catch,
     OnClause,
+    Type,
+    ExternalKind,
 }
 
 impl LeadingByteName {
@@ -128,6 +141,8 @@ impl LeadingByteName {
         match self {
             LeadingByteName::Catch => "catch",
             LeadingByteName::OnClause => "on clause",
+            LeadingByteName::Type => "type",
+            LeadingByteName::ExternalKind => "external kind",
         }
     }
 }
@@ -211,10 +226,16 @@ pub enum Message {
     InvalidType(TypeName),
     /// Data is left after the items of a section.
     DataAfterSection,
+    /// A part of a module is malformed.
+    Malformed(Malformed),
+    /// The first four bytes of a module, as a little-endian number, are not `\0asm`.
+    BadMagic(u32),
+    /// The version of a module is not 1.
+    UnknownVersion(u32),
 }
 
 impl Message {
-    /// Returns the number of the refusal, from 1 to 25.
+    /// Returns the number of the refusal, from 1 to 28.
     pub fn number(&self) -> u8
         ensures { result ≡ number_of self.now }
     {
@@ -244,6 +265,9 @@ impl Message {
             Message::TooManyLocals => 23,
             Message::InvalidType(_) => 24,
             Message::DataAfterSection => 25,
+            Message::Malformed(_) => 26,
+            Message::BadMagic(_) => 27,
+            Message::UnknownVersion(_) => 28,
         }
     }
 }
@@ -305,6 +329,45 @@ impl fmt::Display for Message {
             Message::DataAfterSection => {
                 f.write_str("unexpected data at the end of the section")
             }
+            Message::Malformed(what) => f.write_str(what.text()),
+            Message::BadMagic(word) => write!(
+                f,
+                "magic header not detected: bad magic number - expected=[\n    0x0,\n    0x61,\n    0x73,\n    0x6d,\n] actual=[\n    0x{:x},\n    0x{:x},\n    0x{:x},\n    0x{:x},\n]",
+                word % 256,
+                word / 256 % 256,
+                word / 65536 % 256,
+                word / 16777216
+            ),
+            Message::UnknownVersion(version) => {
+                write!(
+                    f,
+                    "unknown binary version: {}0x{version:x}",
+                    hexadecimal_indent(version)
+                )
+            }
         }
+    }
+}
+
+/// Returns a space for each digit that the number has fewer than eight in hexadecimal.
+pub fn hexadecimal_indent(number: u32) -> &'static str
+    ensures { result.now ≡ hexadecimal_indent number }
+{
+    if number < 0x10 {
+        "       "
+    } else if number < 0x100 {
+        "      "
+    } else if number < 0x1000 {
+        "     "
+    } else if number < 0x10000 {
+        "    "
+    } else if number < 0x100000 {
+        "   "
+    } else if number < 0x1000000 {
+        "  "
+    } else if number < 0x10000000 {
+        " "
+    } else {
+        ""
     }
 }

@@ -90,6 +90,7 @@ takes_inside follow bytes old new frames_old frames_new ahead kind op text chang
       room = omega (arith, opening, some, within, fits, most, same);
       memory = omega (arith, before, after, some, within, fits, same);
       kept = omega (arith, before, after, some, within, fits, same);
+      grows = inl (omega (arith, before, after, some, within, fits, same));
     }
 
 -- An operator that opens a frame without space for it.

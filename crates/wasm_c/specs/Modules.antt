@@ -11,7 +11,7 @@ use Rattle.wasm_module.specs.declared.body_fault.BodiesFault.TheVariants as faul
 use Rattle.wasm_module.specs.declared.body_fault.NoBody.{NoBody}
 use Rattle.wasm_module.specs.declared.body_fault.NoBody.TheVariants as no_body
 use Rattle.wasm_module.specs.declared.next.WasmBody.{WasmBody}
-use Rattle.wasm_module.specs.Bodies.{OpensBodies, RefusesBodies, TakesBody, StopsBodies, NamesFunction, RefusesName}
+use Rattle.wasm_module.specs.Bodies.{OpensBodies, FailsBodies, TakesBody, StopsBodies, NamesFunction, FailsName}
 use Rattle.wasm_c.specs.declared.refusal.WasmRefusal.{WasmRefusal}
 use Rattle.wasm_c.specs.OperatorTexts.{PlacesText, out_of_memory}
 use Rattle.wasm_c.specs.Members.{Unchanged}
@@ -48,7 +48,7 @@ refusal_of_next no_body.NotBodies = misuse 103 0
 -- `wasm_open_bodies` returns the place before the first body. On an error, nothing changes.
 abbrev pub ReturnsBodies : WasmRefusal → List ℕ → WasmBodies → WasmBodies → Type 0
 ReturnsBodies r bytes old new =
-    ((r ≡ no_refusal 0) × OpensBodies bytes new) ⊎ ((new ≡ old) × (f : BodiesFault) × (r ≡ refusal_of_bodies f) × RefusesBodies f bytes)
+    ((r ≡ no_refusal 0) × OpensBodies bytes new) ⊎ ((new ≡ old) × (f : BodiesFault) × (r ≡ refusal_of_bodies f) × FailsBodies f bytes)
 
 -- `wasm_next_body` returns the next body. Without one, it returns why, and nothing changes.
 abbrev pub ReturnsBody : WasmRefusal → List ℕ → WasmBodies → WasmBodies → WasmBody → WasmBody → Type 0
@@ -60,4 +60,4 @@ ReturnsBody r bytes old new body_old body_new =
 abbrev pub ReturnsName : WasmRefusal → List ℕ → ℕ → ℕ → ℕ → List ℕ → List ℕ → Type 0
 ReturnsName r bytes index count_old count_new old new =
     ((name : List ℕ) × NamesFunction bytes index name × PlacesText name 0 r count_new old new) ⊎
-    (((f : BodiesFault) × (r ≡ refusal_of_bodies f) × RefusesName f bytes index) × Unchanged count_old count_new old new)
+    (((f : BodiesFault) × (r ≡ refusal_of_bodies f) × FailsName f bytes index) × Unchanged count_old count_new old new)

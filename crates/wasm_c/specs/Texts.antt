@@ -9,6 +9,8 @@ use Rattle.wasm_operators.specs.below.declared.message.InstructionName.{Instruct
 use Rattle.wasm_operators.specs.below.declared.message.InstructionName.TheVariants as instruction_name
 use Rattle.wasm_operators.specs.below.declared.message.LeadingByteName.{LeadingByteName}
 use Rattle.wasm_operators.specs.below.declared.message.LeadingByteName.TheVariants as leading_name
+use Rattle.wasm_operators.specs.below.declared.malformed.Malformed.{Malformed}
+use Rattle.wasm_operators.specs.below.declared.malformed.Malformed.TheVariants as malformed
 use Rattle.wasm_operators.specs.below.declared.message.NumberName.{NumberName}
 use Rattle.wasm_operators.specs.below.declared.message.NumberName.TheVariants as number_name
 use Rattle.wasm_operators.specs.below.declared.message.SizeName.{SizeName}
@@ -44,16 +46,56 @@ size_numbered n =
     if n == 0 then Some size_name.BrTable else (
     if n == 1 then Some size_name.SelectTypes else (
     if n == 2 then Some size_name.Catches else (
-    if n == 3 then Some size_name.ResumeTable else None)))
+    if n == 3 then Some size_name.ResumeTable else (
+    if n == 4 then Some size_name.FunctionParams else (
+    if n == 5 then Some size_name.FunctionReturns else (
+    if n == 6 then Some size_name.StructFields else (
+    if n == 7 then Some size_name.SupertypeIndices else (
+    if n == 8 then Some size_name.RecGroupTypes else None))))))))
 
 abbrev pub leading_numbered : ℕ → Option LeadingByteName
-leading_numbered n = if n == 0 then Some leading_name.Catch else (if n == 1 then Some leading_name.OnClause else None)
+leading_numbered n =
+    if n == 0 then Some leading_name.Catch else (
+    if n == 1 then Some leading_name.OnClause else (
+    if n == 2 then Some leading_name.Type else (
+    if n == 3 then Some leading_name.ExternalKind else None)))
 
 abbrev pub type_numbered : ℕ → Option TypeName
 type_numbered n =
     if n == 0 then Some type_name.ValueType else (
     if n == 1 then Some type_name.ReferenceType else (
     if n == 2 then Some type_name.HeapType else None))
+
+-- The malformed part with this number.
+abbrev pub malformed_numbered : ℕ → Option Malformed
+malformed_numbered n =
+    if n == 0 then Some malformed.Utf8 else (
+    if n == 1 then Some malformed.StringSize else (
+    if n == 2 then Some malformed.FieldMutability else (
+    if n == 3 then Some malformed.ContinuationType else (
+    if n == 4 then Some malformed.TypeIndex else (
+    if n == 5 then Some malformed.TableEncoding else (
+    if n == 6 then Some malformed.TableFlags else (
+    if n == 7 then Some malformed.MemoryFlags else (
+    if n == 8 then Some malformed.PageSize else (
+    if n == 9 then Some malformed.GlobalFlags else (
+    if n == 10 then Some malformed.TagAttributes else (
+    if n == 11 then Some malformed.ElementFlags else (
+    if n == 12 then Some malformed.ElementKind else (
+    if n == 13 then Some malformed.DataFlags else (
+    if n == 14 then Some malformed.SectionId else (
+    if n == 15 then Some malformed.SecondModule else (
+    if n == 16 then Some malformed.SectionSize else (
+    if n == 17 then Some malformed.SectionOrder else (
+    if n == 18 then Some malformed.StartContent else (
+    if n == 19 then Some malformed.DataCountContent else (
+    if n == 20 then Some malformed.CodeContent else (
+    if n == 21 then Some malformed.NameContent else (
+    if n == 22 then Some malformed.FunctionCounts else (
+    if n == 23 then Some malformed.NoCode else (
+    if n == 24 then Some malformed.NoFunctions else (
+    if n == 25 then Some malformed.DataCounts else (
+    if n == 26 then Some malformed.NoData else None))))))))))))))))))))))))))
 
 -- The message for an integer that does not fit, by the number of its name: too long below 16, too large from 16 on.
 abbrev pub integer_numbered : ℕ → Option Message
@@ -100,7 +142,10 @@ message_numbered number name value =
     if number == 19 then ordering_numbered name value else (
     if number == 21 then Some (message.InvalidCastFlags value) else (
     if number == 22 then option_map (λ n. message.InvalidLeadingByte value n) (leading_numbered name) else (
-    if number == 24 then option_map message.InvalidType (type_numbered name) else bare_numbered number)))))))))
+    if number == 24 then option_map message.InvalidType (type_numbered name) else (
+    if number == 26 then option_map message.Malformed (malformed_numbered name) else (
+    if number == 27 then Some (message.BadMagic value) else (
+    if number == 28 then Some (message.UnknownVersion value) else bare_numbered number))))))))))))
 
 -- The text of the error in a C struct, if one has its numbers.
 abbrev pub text_of_refusal : WasmRefusal → Option (List ℕ)

@@ -1,11 +1,11 @@
 //! Errors as C structs.
 ghost use Rattle.std.specs.Prelude.{◌≡◌};
-ghost use Rattle.wasm_c.specs.Texts.{instruction_numbered, frame_numbered, number_name_numbered, size_numbered, leading_numbered, type_numbered};
-ghost use Rattle.wasm_c.specs.Refused.{reported, reported_name, reported_value, refusal_of, no_refusal, misuse, refusal_at, instruction_number, number_name_number, size_number, frame_number, leading_number, type_number};
+ghost use Rattle.wasm_c.specs.Texts.{instruction_numbered, frame_numbered, number_name_numbered, size_numbered, leading_numbered, type_numbered, malformed_numbered};
+ghost use Rattle.wasm_c.specs.Refused.{reported, reported_name, reported_value, refusal_of, no_refusal, misuse, refusal_at, instruction_number, number_name_number, size_number, frame_number, leading_number, type_number, malformed_number};
 
 use wasm_operators::{
-    Error, FrameName, InstructionName, LeadingByteName, Message, NumberName, Result, SizeName,
-    TypeName,
+    Error, FrameName, InstructionName, LeadingByteName, Malformed, Message, NumberName, Result,
+    SizeName, TypeName,
 };
 
 pub const UNKNOWN_FEATURES: u32 = 100;
@@ -26,7 +26,7 @@ pub const NO_VALUE_KIND: u32 = 105;
 pub struct WasmRefusal {
     /// The offset of the error, else of where the call ended.
     pub offset: u64,
-    /// 0 for no error, 1 to 25 for an error in the bytes or of allocation, 100 to 111 for an error
+    /// 0 for no error, 1 to 28 for an error in the bytes or of allocation, 100 to 111 for an error
     /// in the arguments or the module.
     pub number: u32,
     /// The number of the name in the error's text, plus 16 times the number of a second name.
@@ -106,6 +106,7 @@ fn reported_name(message: &Message) -> u32
         Message::InvalidOrdering { hex, .. } => { if hex { 1 } else { 0 } }
         Message::InvalidLeadingByte(_, name) => leading_number(name),
         Message::InvalidType(name) => type_number(name),
+        Message::Malformed(what) => malformed_number(what),
         _ => 0,
     }
 }
@@ -120,6 +121,8 @@ fn reported_value(message: &Message) -> u32
         Message::InvalidOrdering { byte, .. } => u32::from(byte),
         Message::InvalidCastFlags(flags) => u32::from(flags),
         Message::InvalidLeadingByte(byte, _) => u32::from(byte),
+        Message::BadMagic(word) => word,
+        Message::UnknownVersion(version) => version,
         _ => 0,
     }
 }
@@ -201,6 +204,11 @@ fn size_number(name: SizeName) -> u32
         SizeName::SelectTypes => 1,
         SizeName::Catches => 2,
         SizeName::ResumeTable => 3,
+        SizeName::FunctionParams => 4,
+        SizeName::FunctionReturns => 5,
+        SizeName::StructFields => 6,
+        SizeName::SupertypeIndices => 7,
+        SizeName::RecGroupTypes => 8,
     }
 }
 
@@ -212,6 +220,11 @@ pub fn size_name(number: u32) -> Option<SizeName>
         1 => Some(SizeName::SelectTypes),
         2 => Some(SizeName::Catches),
         3 => Some(SizeName::ResumeTable),
+        4 => Some(SizeName::FunctionParams),
+        5 => Some(SizeName::FunctionReturns),
+        6 => Some(SizeName::StructFields),
+        7 => Some(SizeName::SupertypeIndices),
+        8 => Some(SizeName::RecGroupTypes),
         _ => None,
     }
 }
@@ -222,6 +235,8 @@ fn leading_number(name: LeadingByteName) -> u32
     match name {
         LeadingByteName::Catch => 0,
         LeadingByteName::OnClause => 1,
+        LeadingByteName::Type => 2,
+        LeadingByteName::ExternalKind => 3,
     }
 }
 
@@ -231,6 +246,8 @@ pub fn leading_name(number: u32) -> Option<LeadingByteName>
     match number {
         0 => Some(LeadingByteName::Catch),
         1 => Some(LeadingByteName::OnClause),
+        2 => Some(LeadingByteName::Type),
+        3 => Some(LeadingByteName::ExternalKind),
         _ => None,
     }
 }
@@ -252,6 +269,75 @@ pub fn type_name(number: u32) -> Option<TypeName>
         0 => Some(TypeName::ValueType),
         1 => Some(TypeName::ReferenceType),
         2 => Some(TypeName::HeapType),
+        _ => None,
+    }
+}
+
+fn malformed_number(what: Malformed) -> u32
+    ensures { result ≡ malformed_number what }
+{
+    match what {
+        Malformed::Utf8 => 0,
+        Malformed::StringSize => 1,
+        Malformed::FieldMutability => 2,
+        Malformed::ContinuationType => 3,
+        Malformed::TypeIndex => 4,
+        Malformed::TableEncoding => 5,
+        Malformed::TableFlags => 6,
+        Malformed::MemoryFlags => 7,
+        Malformed::PageSize => 8,
+        Malformed::GlobalFlags => 9,
+        Malformed::TagAttributes => 10,
+        Malformed::ElementFlags => 11,
+        Malformed::ElementKind => 12,
+        Malformed::DataFlags => 13,
+        Malformed::SectionId => 14,
+        Malformed::SecondModule => 15,
+        Malformed::SectionSize => 16,
+        Malformed::SectionOrder => 17,
+        Malformed::StartContent => 18,
+        Malformed::DataCountContent => 19,
+        Malformed::CodeContent => 20,
+        Malformed::NameContent => 21,
+        Malformed::FunctionCounts => 22,
+        Malformed::NoCode => 23,
+        Malformed::NoFunctions => 24,
+        Malformed::DataCounts => 25,
+        Malformed::NoData => 26,
+    }
+}
+
+pub fn malformed(number: u32) -> Option<Malformed>
+    ensures { result ≡ malformed_numbered number }
+{
+    match number {
+        0 => Some(Malformed::Utf8),
+        1 => Some(Malformed::StringSize),
+        2 => Some(Malformed::FieldMutability),
+        3 => Some(Malformed::ContinuationType),
+        4 => Some(Malformed::TypeIndex),
+        5 => Some(Malformed::TableEncoding),
+        6 => Some(Malformed::TableFlags),
+        7 => Some(Malformed::MemoryFlags),
+        8 => Some(Malformed::PageSize),
+        9 => Some(Malformed::GlobalFlags),
+        10 => Some(Malformed::TagAttributes),
+        11 => Some(Malformed::ElementFlags),
+        12 => Some(Malformed::ElementKind),
+        13 => Some(Malformed::DataFlags),
+        14 => Some(Malformed::SectionId),
+        15 => Some(Malformed::SecondModule),
+        16 => Some(Malformed::SectionSize),
+        17 => Some(Malformed::SectionOrder),
+        18 => Some(Malformed::StartContent),
+        19 => Some(Malformed::DataCountContent),
+        20 => Some(Malformed::CodeContent),
+        21 => Some(Malformed::NameContent),
+        22 => Some(Malformed::FunctionCounts),
+        23 => Some(Malformed::NoCode),
+        24 => Some(Malformed::NoFunctions),
+        25 => Some(Malformed::DataCounts),
+        26 => Some(Malformed::NoData),
         _ => None,
     }
 }

@@ -4,11 +4,12 @@ ghost use Rattle.std.specs.Option.{option_map};
 ghost use Rattle.wasm_operators.specs.below.declared.message.Message.TheVariants as message;
 ghost use Rattle.std.specs.Fmt.{decimal, digit_glyph};
 ghost use Rattle.wasm_operators.specs.below.MessageText.{hexadecimal, eight_digits, message_text, frame_name_text};
-ghost use Rattle.wasm_c.specs.Texts.{instruction_numbered, integer_numbered, size_numbered, frames_numbered, ordering_numbered, leading_numbered, type_numbered, bare_numbered, message_numbered, ReturnsText, PutsPiece};
+ghost use Rattle.wasm_c.specs.Texts.{instruction_numbered, integer_numbered, size_numbered, frames_numbered, ordering_numbered, leading_numbered, type_numbered, malformed_numbered, bare_numbered, message_numbered, ReturnsText, PutsPiece};
 
 use crate::refusal::{
-    frame_name, instruction_name, leading_name, number_name, size_name, type_name,
+    frame_name, instruction_name, leading_name, malformed, number_name, size_name, type_name,
 };
+use wasm_below::hexadecimal_indent;
 use wasm_operators::FrameName;
 use wasm_view::laws::written_members;
 
@@ -278,6 +279,44 @@ fn write_type(name: u32, text: &mut [u8]) -> usize
     }
 }
 
+/// Writes the text for the malformed part with this number.
+fn write_malformed(name: u32, text: &mut [u8]) -> usize
+    ensures { ReturnsText (option_map message_text (option_map message.Malformed (malformed_numbered name))) text.old result text.new }
+{
+    match malformed(name) {
+        Some(what) => write_one(what.text(), text),
+        None => 0,
+    }
+}
+
+/// Writes the text for a module whose first four bytes are `word`, as a little-endian number.
+fn write_magic(word: u32, text: &mut [u8]) -> usize
+    ensures { ReturnsText (Some (message_text (message.BadMagic word))) text.old result text.new }
+{
+    let first = put(
+        "magic header not detected: bad magic number - expected=[\n    0x0,\n    0x61,\n    0x73,\n    0x6d,\n] actual=[\n    0x",
+        0,
+        text,
+    );
+    let second = put_hexadecimal(word % 256, first, text);
+    let third = put(",\n    0x", second, text);
+    let fourth = put_hexadecimal(word / 256 % 256, third, text);
+    let fifth = put(",\n    0x", fourth, text);
+    let sixth = put_hexadecimal(word / 65536 % 256, fifth, text);
+    let seventh = put(",\n    0x", sixth, text);
+    let eighth = put_hexadecimal(word / 16777216, seventh, text);
+    put(",\n]", eighth, text)
+}
+
+fn write_version(version: u32, text: &mut [u8]) -> usize
+    ensures { ReturnsText (Some (message_text (message.UnknownVersion version))) text.old result text.new }
+{
+    let first = put("unknown binary version: ", 0, text);
+    let second = put(hexadecimal_indent(version), first, text);
+    let third = put("0x", second, text);
+    put_hexadecimal(version, third, text)
+}
+
 /// Writes a text without a name or value.
 fn write_bare(number: u32, text: &mut [u8]) -> usize
     ensures { ReturnsText (option_map message_text (bare_numbered number)) text.old result text.new }
@@ -327,6 +366,9 @@ pub fn write_text(number: u32, name: u32, value: u32, text: &mut [u8]) -> usize
         21 => write_flags(value, text),
         22 => write_leading_byte(name, value, text),
         24 => write_type(name, text),
+        26 => write_malformed(name, text),
+        27 => write_magic(value, text),
+        28 => write_version(value, text),
         _ => write_bare(number, text),
     }
 }

@@ -5,23 +5,23 @@ use Rattle.std.proofs.lemmas.Bool.{cases_lt, le-ltb, lt-ltb}
 use Rattle.std.proofs.lemmas.Int.{ints}
 use Rattle.std.proofs.lemmas.Nat.{pow-add, div-add-mod', mod_below, div_below}
 use Rattle.wasm_below.specs.Number.{EncodesSigned, FitsWidth, last_value, with_sign}
-use Rattle.wasm_encode_numbers.specs.Shortest.{complemented, signed_groups, signed_number, signed_bytes}
+use Rattle.wasm_encode_numbers.specs.Shortest.{complemented, signed_septets, signed_number, signed_bytes}
 use Rattle.wasm_encode_numbers.proofs.Unsigned.{power_le}
 
--- Numbers below this fit in `more` groups and a last one.
+-- Numbers below this fit in `more` septets and a last one.
 abbrev pub half_limit : ℕ → ℕ
 half_limit zero = 64
 half_limit (suc more) = 128 * half_limit more
 
-pub last_signed : (negative : Bool) (more n : ℕ) → n < 64 → signed_groups negative more n ≡ complemented negative n ∷ []
+pub last_signed : (negative : Bool) (more n : ℕ) → n < 64 → signed_septets negative more n ≡ complemented negative n ∷ []
 last_signed negative zero n lt = refl
 last_signed negative (suc more) n lt =
-    ap (λ b. cond b (complemented negative n ∷ []) ((complemented negative (n % 128) + 128) ∷ signed_groups negative more (n / 128))) (lt-ltb n 64 lt)
+    ap (λ b. cond b (complemented negative n ∷ []) ((complemented negative (n % 128) + 128) ∷ signed_septets negative more (n / 128))) (lt-ltb n 64 lt)
 
 pub next_signed : (negative : Bool) (more n : ℕ) → 64 ≤ n →
-    signed_groups negative (suc more) n ≡ (complemented negative (n % 128) + 128) ∷ signed_groups negative more (n / 128)
+    signed_septets negative (suc more) n ≡ (complemented negative (n % 128) + 128) ∷ signed_septets negative more (n / 128)
 next_signed negative more n le =
-    ap (λ b. cond b (complemented negative n ∷ []) ((complemented negative (n % 128) + 128) ∷ signed_groups negative more (n / 128))) (le-ltb n 64 le)
+    ap (λ b. cond b (complemented negative n ∷ []) ((complemented negative (n % 128) + 128) ∷ signed_septets negative more (n / 128))) (le-ltb n 64 le)
 
 low_value : (c : ℕ) → c < 64 → last_value c ≡ pos c
 low_value c lt = ap (λ b. with_sign b c 128) (lt-ltb c 64 lt)
@@ -72,10 +72,10 @@ joins negative width n (d ∷ text) w p =
     let t = complemented_small negative (n % 128) m in
     (w, omega arith, omega (arith, t), signed_number negative (n / 128), splits negative n (n / 128) (n % 128) m e, p)
 
-pub groups_encode : (negative : Bool) (more width n : ℕ) → n < half_limit more → n < 2 ^ (width - 1) →
-    EncodesSigned width (signed_groups negative more n) (signed_number negative n)
-groups_encode negative zero width n small lt = (complemented_small negative n (omega arith), is_last negative n small, fits_half negative n (2 ^ (width - 1)) lt)
-groups_encode negative (suc more) width n small lt =
+pub septets_encode : (negative : Bool) (more width n : ℕ) → n < half_limit more → n < 2 ^ (width - 1) →
+    EncodesSigned width (signed_septets negative more n) (signed_number negative n)
+septets_encode negative zero width n small lt = (complemented_small negative n (omega arith), is_last negative n small, fits_half negative n (2 ^ (width - 1)) lt)
+septets_encode negative (suc more) width n small lt =
     elim (cases_lt n 64) [
       | inl one ↦ subst (λ text. EncodesSigned width text (signed_number negative n)) (sym (last_signed negative (suc more) n one))
           (complemented_small negative n (omega arith), is_last negative n one, fits_half negative n (2 ^ (width - 1)) lt)
@@ -83,8 +83,8 @@ groups_encode negative (suc more) width n small lt =
           let w = signed_wide width n le lt in
           let below : n / 128 < half_limit more = div_below n 128 (half_limit more) (omega arith) (omega (arith, small)) in
           subst (λ text. EncodesSigned width text (signed_number negative n)) (sym (next_signed negative more n le))
-          (joins negative width n (signed_groups negative more (n / 128)) w
-          (groups_encode negative more (width - 7) (n / 128) below (high_half width n w lt)))
+          (joins negative width n (signed_septets negative more (n / 128)) w
+          (septets_encode negative more (width - 7) (n / 128) below (high_half width n w lt)))
           )
     ]
 
@@ -105,14 +105,14 @@ one_split : (negative : Bool) (n q r c : ℕ) (high : ℤ) → r < 128 → q * 1
 one_split true n q r c high lt e le less p = omega (arith, ints, e, p)
 one_split false n q r c high lt e le less p = omega (arith, ints, e, p)
 
-pub groups_shortest : (negative : Bool) (text : List ℕ) (more width n : ℕ) → EncodesSigned width text (signed_number negative n) →
-    length (signed_groups negative more n) ≤ length text
-groups_shortest negative [] more width n p = absurd p
-groups_shortest negative (c ∷ text) zero width n p = omega arith
-groups_shortest negative (c ∷ []) (suc more) width n p =
+pub septets_shortest : (negative : Bool) (text : List ℕ) (more width n : ℕ) → EncodesSigned width text (signed_number negative n) →
+    length (signed_septets negative more n) ≤ length text
+septets_shortest negative [] more width n p = absurd p
+septets_shortest negative (c ∷ text) zero width n p = omega arith
+septets_shortest negative (c ∷ []) (suc more) width n p =
     let e = ap length (last_signed negative (suc more) n (last_is_small negative n c p.0 p.1)) in
     omega (arith, e)
-groups_shortest negative (c ∷ d ∷ text) (suc more) width n (w, le, lt, high, sum, p) =
+septets_shortest negative (c ∷ d ∷ text) (suc more) width n (w, le, lt, high, sum, p) =
     elim (cases_lt n 64) [
       | inl one ↦ (let e = ap length (last_signed negative (suc more) n one) in omega (arith, e))
       | inr big ↦ (
@@ -120,7 +120,7 @@ groups_shortest negative (c ∷ d ∷ text) (suc more) width n (w, le, lt, high,
           let m = mod_below n 128 (omega arith) in
           let a = div-add-mod' n 128 in
           let same = one_split negative n (n / 128) (n % 128) c high m a le lt sum in
-          let i = groups_shortest negative (d ∷ text) more (width - 7) (n / 128) (subst (EncodesSigned (width - 7) (d ∷ text)) same p) in
+          let i = septets_shortest negative (d ∷ text) more (width - 7) (n / 128) (subst (EncodesSigned (width - 7) (d ∷ text)) same p) in
           omega (arith, e, i)
           )
     ]
@@ -130,34 +130,34 @@ unfolding signed_bytes
 signed_encodes width (pos n) some le fits =
     let lt = below_half false n (2 ^ (width - 1)) fits in
     let p = power_le (width - 1) 63 (omega arith) in
-    groups_encode false 9 width n (omega (arith, p, lt)) lt
+    septets_encode false 9 width n (omega (arith, p, lt)) lt
 signed_encodes width (negsuc n) some le fits =
     let lt = below_half true n (2 ^ (width - 1)) fits in
     let p = power_le (width - 1) 63 (omega arith) in
-    groups_encode true 9 width n (omega (arith, p, lt)) lt
+    septets_encode true 9 width n (omega (arith, p, lt)) lt
 
 pub signed_shortest : (n : ℤ) (width : ℕ) (other : List ℕ) → EncodesSigned width other n → length (signed_bytes n) ≤ length other
 unfolding signed_bytes
-signed_shortest (pos n) width other p = groups_shortest false other 9 width n p
-signed_shortest (negsuc n) width other p = groups_shortest true other 9 width n p
+signed_shortest (pos n) width other p = septets_shortest false other 9 width n p
+signed_shortest (negsuc n) width other p = septets_shortest true other 9 width n p
 
-pub bytes_of_sign : (negative : Bool) (n : ℕ) (value : ℤ) → signed_number negative n ≡ value → signed_groups negative 9 n ≡ signed_bytes value
+pub bytes_of_sign : (negative : Bool) (n : ℕ) (value : ℤ) → signed_number negative n ≡ value → signed_septets negative 9 n ≡ signed_bytes value
 unfolding signed_bytes
-bytes_of_sign true n value e = subst (λ v. signed_groups true 9 n ≡ signed_bytes v) e refl
-bytes_of_sign false n value e = subst (λ v. signed_groups false 9 n ≡ signed_bytes v) e refl
+bytes_of_sign true n value e = subst (λ v. signed_septets true 9 n ≡ signed_bytes v) e refl
+bytes_of_sign false n value e = subst (λ v. signed_septets false 9 n ≡ signed_bytes v) e refl
 
 -- ---- the loop that writes them
 
-pub signed_end : (negative : Bool) (more rest : ℕ) (old now all : List ℕ) → rest < 64 → old ++ signed_groups negative more rest ≡ all →
+pub signed_end : (negative : Bool) (more rest : ℕ) (old now all : List ℕ) → rest < 64 → old ++ signed_septets negative more rest ≡ all →
     now ≡ old ++ complemented negative rest ∷ [] → now ≡ all
 signed_end negative more rest old now all lt h wrote = wrote ∙ ap (λ text. old ++ text) (sym (last_signed negative more rest lt)) ∙ h
 
-pub signed_step : (negative : Bool) (more fewer rest : ℕ) (old now all : List ℕ) → more ≡ suc fewer → 64 ≤ rest → old ++ signed_groups negative more rest ≡ all →
-    now ≡ old ++ (complemented negative (rest % 128) + 128) ∷ [] → now ++ signed_groups negative fewer (rest / 128) ≡ all
+pub signed_step : (negative : Bool) (more fewer rest : ℕ) (old now all : List ℕ) → more ≡ suc fewer → 64 ≤ rest → old ++ signed_septets negative more rest ≡ all →
+    now ≡ old ++ (complemented negative (rest % 128) + 128) ∷ [] → now ++ signed_septets negative fewer (rest / 128) ≡ all
 signed_step negative more fewer rest old now all is le h wrote =
-    ap (λ text. text ++ signed_groups negative fewer (rest / 128)) wrote ∙
-    append_assoc old ((complemented negative (rest % 128) + 128) ∷ []) (signed_groups negative fewer (rest / 128)) ∙
-    ap (λ text. old ++ text) (sym (next_signed negative fewer rest le)) ∙ ap (λ k. old ++ signed_groups negative k rest) (sym is) ∙ h
+    ap (λ text. text ++ signed_septets negative fewer (rest / 128)) wrote ∙
+    append_assoc old ((complemented negative (rest % 128) + 128) ∷ []) (signed_septets negative fewer (rest / 128)) ∙
+    ap (λ text. old ++ text) (sym (next_signed negative fewer rest le)) ∙ ap (λ k. old ++ signed_septets negative k rest) (sym is) ∙ h
 
 pub half_step : (more fewer rest : ℕ) → more ≡ suc fewer → rest < half_limit more → rest / 128 < half_limit fewer
 half_step more fewer rest is small =

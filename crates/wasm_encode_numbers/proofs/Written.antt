@@ -2,18 +2,18 @@
 use Rattle.std.proofs.Common.{◌≡◌, ℕ, ℤ, pos, ◌<◌, ◌≤◌, ◌^◌, List, [], ◌∷◌, ◌++◌, length, refl, arith, Bool, false}
 use Rattle.wasm_below.specs.Number.{EncodesUnsigned, EncodesSigned, FitsWidth}
 use Rattle.wasm_encode_numbers.specs.Appended.{Appends}
-use Rattle.wasm_encode_numbers.specs.Shortest.{unsigned_bytes, signed_bytes, signed_groups, complemented}
-use Rattle.wasm_encode_numbers.proofs.Unsigned.{encodes, shortest, last_group, power_le}
+use Rattle.wasm_encode_numbers.specs.Shortest.{unsigned_bytes, signed_bytes, signed_septets, complemented}
+use Rattle.wasm_encode_numbers.proofs.Unsigned.{encodes, shortest, last_septet, power_le}
 use Rattle.wasm_encode_numbers.proofs.Signed.{signed_encodes, signed_shortest, last_signed}
 
 pub short_unsigned : (n : ℕ) → n < 128 → unsigned_bytes n ≡ n ∷ []
 unfolding unsigned_bytes
-short_unsigned n lt = last_group 9 n lt
+short_unsigned n lt = last_septet 9 n lt
 
-pub short_signed : (negative : Bool) (n : ℕ) → n < 64 → signed_groups negative 9 n ≡ complemented negative n ∷ []
+pub short_signed : (negative : Bool) (n : ℕ) → n < 64 → signed_septets negative 9 n ≡ complemented negative n ∷ []
 short_signed negative n lt = last_signed negative 9 n lt
 
-pub index_bytes : (n : ℕ) → signed_groups false 9 n ≡ signed_bytes (pos n)
+pub index_bytes : (n : ℕ) → signed_septets false 9 n ≡ signed_bytes (pos n)
 unfolding signed_bytes
 index_bytes n = refl
 

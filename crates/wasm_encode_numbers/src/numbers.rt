@@ -2,7 +2,7 @@
 ghost use Rattle.std.specs.Prelude.{◌≡◌, ◌+◌, ◌<◌, ◌≤◌, ◌^◌, ◌++◌, length, pos, vec_len, vec_capacity};
 ghost use Rattle.wasm_below.specs.Number.{EncodesUnsigned, EncodesSigned};
 ghost use Rattle.wasm_encode_numbers.specs.Appended.{Appends};
-ghost use Rattle.wasm_encode_numbers.specs.Shortest.{unsigned_bytes, complemented, signed_groups, signed_bytes};
+ghost use Rattle.wasm_encode_numbers.specs.Shortest.{unsigned_bytes, complemented, signed_septets, signed_bytes};
 
 /// Appends the shortest encoding of an unsigned number of 64 bits: one to ten bytes.
 #[inline(always)]
@@ -28,7 +28,7 @@ fn write_unsigned(out: &mut Vec<u8>, value: u64)
     ensures capacity { vec_capacity out.old ≤ vec_capacity out.new }
 {
     let mut rest = value;
-    for _group in 0..9u32 {
+    for _septet in 0..9u32 {
         if rest < 128 {
             out.push_reserved(rest as u8);
             return;
@@ -65,7 +65,7 @@ fn complemented(negative: bool, low: u8) -> u8
 fn write_with_sign(out: &mut Vec<u8>, negative: bool, distance: u64)
     requires space { vec_len out.old + 10 ≤ vec_capacity out.old }
     requires fits { distance < 2 ^ 63 }
-    ensures bytes { out.new.items ≡ out.old.items ++ signed_groups negative 9 distance }
+    ensures bytes { out.new.items ≡ out.old.items ++ signed_septets negative 9 distance }
     ensures len { vec_len out.new ≤ vec_len out.old + 10 }
     ensures capacity { vec_capacity out.old ≤ vec_capacity out.new }
 {
@@ -73,20 +73,20 @@ fn write_with_sign(out: &mut Vec<u8>, negative: bool, distance: u64)
         out.push_reserved(complemented(negative, distance as u8));
         return;
     }
-    write_signed_groups(out, negative, distance);
+    write_signed_septets(out, negative, distance);
 }
 
 /// Appends like `write_with_sign`, which calls this for a number of several bytes.
 #[inline(never)]
-fn write_signed_groups(out: &mut Vec<u8>, negative: bool, distance: u64)
+fn write_signed_septets(out: &mut Vec<u8>, negative: bool, distance: u64)
     requires space { vec_len out.old + 10 ≤ vec_capacity out.old }
     requires fits { distance < 2 ^ 63 }
-    ensures bytes { out.new.items ≡ out.old.items ++ signed_groups negative 9 distance }
+    ensures bytes { out.new.items ≡ out.old.items ++ signed_septets negative 9 distance }
     ensures len { vec_len out.new ≤ vec_len out.old + 10 }
     ensures capacity { vec_capacity out.old ≤ vec_capacity out.new }
 {
     let mut rest = distance;
-    for _group in 0..9u32 {
+    for _septet in 0..9u32 {
         if rest < 64 {
             out.push_reserved(complemented(negative, rest as u8));
             return;

@@ -1,9 +1,10 @@
 use crate::failure::{Failure, Written};
 use wasm_below::{
-    Error, FrameName, InstructionName, LeadingByteName, Message, NumberName, SizeName, TypeName,
+    Error, FrameName, InstructionName, LeadingByteName, Malformed, Message, NumberName, SizeName,
+    TypeName,
 };
 
-const MESSAGES: [Message; 38] = [
+const MESSAGES: [Message; 75] = [
     Message::EndOfData,
     Message::FeatureRequired(InstructionName::Try),
     Message::FeatureRequired(InstructionName::CatchAll),
@@ -48,6 +49,43 @@ const MESSAGES: [Message; 38] = [
     Message::InvalidType(TypeName::ReferenceType),
     Message::InvalidType(TypeName::HeapType),
     Message::DataAfterSection,
+    Message::SizeOutOfBounds(SizeName::FunctionParams),
+    Message::SizeOutOfBounds(SizeName::FunctionReturns),
+    Message::SizeOutOfBounds(SizeName::StructFields),
+    Message::SizeOutOfBounds(SizeName::SupertypeIndices),
+    Message::SizeOutOfBounds(SizeName::RecGroupTypes),
+    Message::InvalidLeadingByte(0x61, LeadingByteName::Type),
+    Message::InvalidLeadingByte(0x61, LeadingByteName::ExternalKind),
+    Message::Malformed(Malformed::Utf8),
+    Message::Malformed(Malformed::StringSize),
+    Message::Malformed(Malformed::FieldMutability),
+    Message::Malformed(Malformed::ContinuationType),
+    Message::Malformed(Malformed::TypeIndex),
+    Message::Malformed(Malformed::TableEncoding),
+    Message::Malformed(Malformed::TableFlags),
+    Message::Malformed(Malformed::MemoryFlags),
+    Message::Malformed(Malformed::PageSize),
+    Message::Malformed(Malformed::GlobalFlags),
+    Message::Malformed(Malformed::TagAttributes),
+    Message::Malformed(Malformed::ElementFlags),
+    Message::Malformed(Malformed::ElementKind),
+    Message::Malformed(Malformed::DataFlags),
+    Message::Malformed(Malformed::SectionId),
+    Message::Malformed(Malformed::SecondModule),
+    Message::Malformed(Malformed::SectionSize),
+    Message::Malformed(Malformed::SectionOrder),
+    Message::Malformed(Malformed::StartContent),
+    Message::Malformed(Malformed::DataCountContent),
+    Message::Malformed(Malformed::CodeContent),
+    Message::Malformed(Malformed::NameContent),
+    Message::Malformed(Malformed::FunctionCounts),
+    Message::Malformed(Malformed::NoCode),
+    Message::Malformed(Malformed::NoFunctions),
+    Message::Malformed(Malformed::DataCounts),
+    Message::Malformed(Malformed::NoData),
+    Message::BadMagic(0x0d736101),
+    Message::UnknownVersion(2),
+    Message::UnknownVersion(0x1000d),
 ];
 
 /// Writes the number, offset, kind and text of an error at offset 26 with message `name`.

@@ -1,5 +1,5 @@
 use Rattle.std.proofs.Common.{◌*◌, ◌^◌, ap, arith}
-use Rattle.wasm_below.proofs.Groups.{unsigned_fits}
+use Rattle.wasm_below.proofs.Septets.{unsigned_fits}
 use Rattle.wasm_below.proofs.long_numbers.join_unsigned.Goals as goal
 
 pub overflow_add-result : goal.overflow_add-result

@@ -1,13 +1,13 @@
 use Rattle.std.proofs.Common.{◌≡◌, ◌++◌, ◌<◌, ◌-◌, ◌+◌, ◌≤◌}
 use Rattle.std.specs.Vec.{vec_len, vec_capacity}
-use Rattle.wasm_encode_numbers.specs.Shortest.{unsigned_groups, unsigned_bytes}
+use Rattle.wasm_encode_numbers.specs.Shortest.{unsigned_septets, unsigned_bytes}
 use Rattle.wasm_encode_numbers.proofs.Unsigned.{limit}
 use Rattle.wasm_encode_numbers.proofs.numbers.write_unsigned.Given as goal
 
-abbrev pub invariant-loop-group : goal.invariant-loop-group
-invariant-loop-group l = record {
-  written : l.out.items ++ unsigned_groups (9 - l._group) l.rest ≡ l.fn.out.items ++ unsigned_bytes l.value;
-  small : l.rest < limit (9 - l._group);
-  len : vec_len l.out ≤ vec_len l.fn.out + l._group;
+abbrev pub invariant-loop-septet : goal.invariant-loop-septet
+invariant-loop-septet l = record {
+  written : l.out.items ++ unsigned_septets (9 - l._septet) l.rest ≡ l.fn.out.items ++ unsigned_bytes l.value;
+  small : l.rest < limit (9 - l._septet);
+  len : vec_len l.out ≤ vec_len l.fn.out + l._septet;
   capacity : vec_capacity l.fn.out ≤ vec_capacity l.out;
 }

@@ -10,7 +10,7 @@ use Rattle.wasm_below.specs.Source.{NoPrefix}
 use Rattle.wasm_below.proofs.Numbers.{unsigned_rest, unsigned_long}
 use Rattle.wasm_below.proofs.SignedNumbers.{signed_rest, signed_long}
 
--- An encoding by groups of seven bits: how a low group joins the number after it, and which bytes
+-- An encoding by septets: how a low septet joins the number after it, and which bytes
 -- encode none.
 pub record IsLeb128 {X : Type 0} (Encodes : ℕ → List ℕ → X → Type 0) (join : ℕ → X → X) : Type 0 where
   pub more : (width b : ℕ) (text : List ℕ) (high : X) → 7 < width → 128 ≤ b → b < 256 → Encodes (width - 7) text high →
@@ -62,11 +62,11 @@ signed_empty width (c ∷ text) after x p e = cc e
 pub signed_leb128 : IsLeb128 EncodesSigned (λ low high. (pos 128 *ℤ high) +ℤ pos low)
 signed_leb128 = record { more = signed_joins; empty = signed_empty; after = signed_rest; long = signed_long }
 
-group_power : (n : ℕ) → 2 ^ (7 * n + 7) ≡ 128 * 2 ^ (7 * n)
-group_power n = let e : 7 * n + 7 ≡ 7 + 7 * n = omega arith in ap (λ k. 2 ^ k) e ∙ pow-add 2 7 (7 * n)
+septet_power : (n : ℕ) → 2 ^ (7 * n + 7) ≡ 128 * 2 ^ (7 * n)
+septet_power n = let e : 7 * n + 7 ≡ 7 + 7 * n = omega arith in ap (λ k. 2 ^ k) e ∙ pow-add 2 7 (7 * n)
 
 suc_power : (n k : ℕ) → k ≡ 7 * n + 7 → 2 ^ k ≡ 128 * 2 ^ (7 * n)
-suc_power n k e = ap (λ k. 2 ^ k) e ∙ group_power n
+suc_power n k e = ap (λ k. 2 ^ k) e ∙ septet_power n
 
 pub low_below : (text : List ℕ) → AllGoOn text → low_bits text < 2 ^ (7 * length text)
 low_below [] go = omega arith
@@ -97,7 +97,7 @@ signed_joined (c ∷ text) b =
     step_value b (low_bits text) (2 ^ (7 * length text)) (2 ^ (7 * length (c ∷ text))) (c - 128)
     (suc_power (length text) (7 * length (c ∷ text)) (omega arith))
 
--- The groups read from `start` up to `position`.
+-- The septets read from `start` up to `position`.
 pub record SoFar (buffer : List ℕ) (start position low shift count : ℕ) : Type 0 where
   pub text : List ℕ
   pub go_on : AllGoOn text
@@ -150,9 +150,9 @@ low_so_far buffer start position low shift count s =
 power_below : (shift : ℕ) → shift < 57 → 128 * 2 ^ shift < 2 ^ 64
 power_below shift lt = let b = pow_below (7 + shift) 64 (omega arith) in omega (arith, pow-add 2 7 shift, b)
 
-pub group_fits : (buffer : List ℕ) (start position low shift count width x : ℕ) → SoFar buffer start position low shift count → count < (width - 1) / 7 →
+pub septet_fits : (buffer : List ℕ) (start position low shift count width x : ℕ) → SoFar buffer start position low shift count → count < (width - 1) / 7 →
     width ≤ 64 → x < 128 → ((x * 2 ^ shift) % 2 ^ 64 ≡ x * 2 ^ shift) × (low + x * 2 ^ shift < 2 ^ 64)
-group_fits buffer start position low shift count width x s few wide small =
+septet_fits buffer start position low shift count width x s few wide small =
     let lt : shift < 57 = omega (arith, s.shift_is) in
     let below = low_so_far buffer start position low shift count s in
     let whole : x * 2 ^ shift ≤ 127 * 2 ^ shift = mul-le x (2 ^ shift) 127 (2 ^ shift) (omega arith) (omega arith) in

@@ -1,0 +1,13 @@
+use Rattle.std.proofs.Common.{◌≡◌, ◌++◌, ◌<◌, ◌-◌, ◌+◌, ◌≤◌}
+use Rattle.std.specs.Vec.{vec_len, vec_capacity}
+use Rattle.wasm_encode_numbers.specs.Shortest.{signed_septets}
+use Rattle.wasm_encode_numbers.proofs.Signed.{half_limit}
+use Rattle.wasm_encode_numbers.proofs.numbers.write_signed_septets.Given as goal
+
+abbrev pub invariant-loop-septet : goal.invariant-loop-septet
+invariant-loop-septet l = record {
+  written : l.out.items ++ signed_septets l.negative (9 - l._septet) l.rest ≡ l.fn.out.items ++ signed_septets l.negative 9 l.distance;
+  small : l.rest < half_limit (9 - l._septet);
+  len : vec_len l.out ≤ vec_len l.fn.out + l._septet;
+  capacity : vec_capacity l.fn.out ≤ vec_capacity l.out;
+}
