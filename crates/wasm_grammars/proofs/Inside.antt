@@ -1,12 +1,12 @@
 -- A thing that fills the next `n` bytes: `inside` is a reader of these, `after` follows them.
-use Rattle.std.proofs.Common.{◌≡◌, ◌≢◌, ℕ, ◌+◌, ◌≤◌, ◌⊎◌, inl, inr, List, [], ◌∷◌, ◌++◌, length, take, drop, refl, sym, subst, ap, ◌∙◌, append_assoc, length-append, length-drop, ◌-◌, ◌<◌, arith}
+use Rattle.std.proofs.Common.{◌≡◌, ◌≢◌, ℕ, ◌+◌, ◌≤◌, ◌⊎◌, inl, inr, List, [], ◌∷◌, ◌++◌, length, take, refl, sym, subst, ap, ◌∙◌, append_assoc, length-append, length-drop, ◌-◌, arith}
 use Rattle.std.proofs.lemmas.List.{append-nil, take_at}
 use Rattle.wasm_below.specs.declared.error.Error.{Error}
 use Rattle.wasm_below.specs.declared.message.Message.{Message}
 use Rattle.wasm_below.specs.declared.message.Message.TheVariants as message
-use Rattle.wasm_below.specs.Source.{Reader, reader_of, rest, offset_of, end_of, Takes, NoPrefix, MayFollow, Refuses, HasRead, IsShort}
+use Rattle.wasm_below.specs.Source.{Reader, reader_of, rest, offset_of, end_of, Takes, NoPrefix, MayFollow, Refuses, IsShort}
 use Rattle.wasm_below.proofs.Blocks.{short_refused}
-use Rattle.wasm_grammars.specs.Grammar.{Grammar, within, cut, Encodes, Fault, Memory}
+use Rattle.wasm_grammars.specs.Grammar.{Grammar, within, cut, Encodes, HasReadBy, Fault, Memory}
 use Rattle.wasm_grammars.specs.Reading.{Fails}
 use Rattle.wasm_grammars.proofs.Laws.{code}
 use Rattle.wasm_grammars.specs.BlockLaws.{same_front}
@@ -42,10 +42,10 @@ module _ {X : Type 0} {n : ℕ} (m : Message) (h : Grammar X) {now after inside 
       same_front text t (rest after ++ more) z (size ∙ sym len) (sym (append_assoc text (rest after) more) ∙ ap (λ w. w ++ more) (sym taken.parts) ∙ eq)
 
   -- The thing fills the bytes.
-  pub filled : (x : X) {end : Reader} → HasRead (Encodes h) x inside end → rest end ≡ [] → HasRead (Encodes (within n m h)) x now after
+  pub filled : (x : X) {end : Reader} → HasReadBy h x inside end → rest end ≡ [] → HasReadBy (within n m h) x now after
   filled x {end} (t, is, u) none =
       let all : text ≡ t = sym bytes ∙ u.parts ∙ ap (λ z. t ++ z) none ∙ append-nil t in
-      (text, (size, subst (λ z. Encodes h z x) (sym all) is), taken)
+      (text, (size, subst (λ z. Encodes h z text x) starts_at (subst (λ z. Encodes h (offset_of inside) z x) (sym all) is)), taken)
 
   -- The thing's error.
   pub inside_fails : {s : ℕ} {e : Error} → Fails h s e inside → Fails (within n m h) s e now
@@ -56,10 +56,10 @@ module _ {X : Type 0} {n : ℕ} (m : Message) (h : Grammar X) {now after inside 
         cause = causes f.cause;
       }
     where
-      none : (e.message ≡ message.OutOfMemory) ⊎ (e.message ≢ message.OutOfMemory) → Refuses (Encodes (within n m h)) (rest now) e.message
+      none : (e.message ≡ message.OutOfMemory) ⊎ (e.message ≢ message.OutOfMemory) → Refuses (Encodes (within n m h) (offset_of now)) (rest now) e.message
       none (inl is) = λ more follow. absurd (no_follow more (subst (λ k. MayFollow k more) is follow))
       none (inr k) = λ more follow t z x p eq. let same = same_text more t z p.0 eq in
-          f.refuses [] (ends_here e.message k) t [] x p.1 (append-nil (rest inside) ∙ bytes ∙ same ∙ sym (append-nil t))
+          f.refuses [] (ends_here e.message k) t [] x (subst (λ z. Encodes h z t x) (sym starts_at) p.1) (append-nil (rest inside) ∙ bytes ∙ same ∙ sym (append-nil t))
 
       causes : ((e.message ≡ message.OutOfMemory) × Memory h s inside e.offset) ⊎ ((e.message ≢ message.OutOfMemory) × Fault h s e.message inside e.offset) →
           ((e.message ≡ message.OutOfMemory) × Memory (within n m h) s now e.offset) ⊎ ((e.message ≢ message.OutOfMemory) × Fault (within n m h) s e.message now e.offset)
@@ -68,13 +68,13 @@ module _ {X : Type 0} {n : ℕ} (m : Message) (h : Grammar X) {now after inside 
         k,
         inr (
           fits,
-          inl (subst (λ r. NoPrefix (Encodes h) (rest r) × Fault h s e.message r e.offset) (sym whole)
-              (none_here (Encodes h) e.message (rest inside) k f.refuses, a)),
+          inl (subst (λ r. NoPrefix (Encodes h (offset_of r)) (rest r) × Fault h s e.message r e.offset) (sym whole)
+              (none_here (Encodes h (offset_of inside)) e.message (rest inside) k f.refuses, a)),
         ),
       )
 
   -- Bytes are left after the thing.
-  pub left_over : {s : ℕ} {e : Error} (x : X) {end : Reader} → s ≤ offset_of now → HasRead (Encodes h) x inside end → rest end ≢ [] → m ≢ message.OutOfMemory →
+  pub left_over : {s : ℕ} {e : Error} (x : X) {end : Reader} → s ≤ offset_of now → HasReadBy h x inside end → rest end ≢ [] → m ≢ message.OutOfMemory →
       e.message ≡ m → e.offset ≡ offset_of end → Fails (within n m h) s e now
   left_over {s} {e} x {end} start (a, is, u) some known same at_end =
       let parts : length text ≡ length a + length (rest end) = sym (ap length bytes) ∙ ap length u.parts ∙ length-append a (rest end) in
@@ -84,14 +84,14 @@ module _ {X : Type 0} {n : ℕ} (m : Message) (h : Grammar X) {now after inside 
       record {
         refuses = λ more follow t z y p eq. (
             let one = same_text more t z p.0 eq in
-            let front = (code h a t (rest end) [] x y is p.1 (sym u.parts ∙ bytes ∙ one ∙ sym (append-nil t))).0 in
+            let front = (code h (offset_of inside) a t (rest end) [] x y is (subst (λ z. Encodes h z t y) (sym starts_at) p.1) (sym u.parts ∙ bytes ∙ one ∙ sym (append-nil t))).0 in
             let long : length a ≡ length text = ap length (front ∙ sym one) in
             some (empty (rest end) (omega (arith, parts, long)))
             );
         ahead = (omega (arith, start, moved, first, at_end), omega (arith, moved, first, at_end, parts, size, room));
         cause = inr (
           subst (λ k. k ≢ message.OutOfMemory) (sym same) known,
-          inr (fits, inr (x, end, subst (λ r. HasRead (Encodes h) x r end) (sym whole) (a, is, u), same, at_end)),
+          inr (fits, inr (x, end, subst (λ r. HasReadBy h x r end) (sym whole) (a, is, u), same, at_end)),
         );
       }
 
@@ -99,7 +99,7 @@ module _ {X : Type 0} {n : ℕ} (m : Message) (h : Grammar X) {now after inside 
 pub short : {X : Type 0} {n : ℕ} {m : Message} (h : Grammar X) {s : ℕ} {e : Error} {now : Reader} → offset_of now ≤ end_of now → s ≤ offset_of now → IsShort n e now →
     Fails (within n m h) s e now
 short {X} {n} {m} h {s} {e} {now} le start f =
-    let r = short_refused (Encodes (within n m h)) n e now (λ text x p. p.0) (omega (arith, le)) f in
+    let r = short_refused (Encodes (within n m h) (offset_of now)) n e now (λ text x p. p.0) (omega (arith, le)) f in
     record {
       refuses = r.refuses;
       ahead = (let low = r.ahead.0 in omega (arith, low, start), r.ahead.1);

@@ -4,7 +4,7 @@ use Rattle.wasm_below.specs.declared.error.Error.{Error}
 use Rattle.wasm_below.specs.Number.{EncodesSize}
 use Rattle.wasm_below.specs.Source.{Reader, offset_of, end_of, HasRead}
 use Rattle.wasm_below.proofs.Steps.{unsigned_some}
-use Rattle.wasm_grammars.specs.Grammar.{Grammar, Encodes}
+use Rattle.wasm_grammars.specs.Grammar.{Grammar, HasReadBy}
 use Rattle.wasm_grammars.specs.Parts.{more}
 use Rattle.wasm_grammars.specs.Reading.{Fails}
 use Rattle.wasm_grammars.proofs.Steps.{Comes, then, fails_first, ends_as, within, kept}
@@ -22,13 +22,13 @@ module _ {X : Type 0} (h : Grammar X) {s : ℕ} {g : Grammar (List X)} {old now 
   again : i < n → Comes s g old (more (suc (n - (i + 1))) h xs) now
   again few = subst (λ k. Comes s g old (more k h xs) now) (left few) c
 
-  pub member : i < n → (x : X) {mid : Reader} {ys : List X} → ys ≡ xs ++ x ∷ [] → HasRead (Encodes h) x now mid → Comes s g old (more (n - (i + 1)) h ys) mid
+  pub member : i < n → (x : X) {mid : Reader} {ys : List X} → ys ≡ xs ++ x ∷ [] → HasReadBy h x now mid → Comes s g old (more (n - (i + 1)) h ys) mid
   member few x {mid} {ys} pushed k = subst (λ z. Comes s g old (more (n - (i + 1)) h z) mid) (sym pushed) (then (again few) k)
 
   pub member_fails : i < n → {e : Error} → Fails h s e now → Fails g s e old
   member_fails few k = fails_first (again few) k
 
-  pub list_ends : i ≡ n → (ys : List X) → ys ≡ xs → HasRead (Encodes g) ys old now
+  pub list_ends : i ≡ n → (ys : List X) → ys ≡ xs → HasReadBy g ys old now
   list_ends all ys same = ends_as (subst (λ k. Comes s g old (more k h xs) now) (let none : n - i ≡ 0 = omega arith in none) c) (sym same)
 
 -- A count was read.

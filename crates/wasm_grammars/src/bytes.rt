@@ -1,5 +1,6 @@
 ghost use Rattle.std.specs.Prelude.{◌≡◌};
-ghost use Rattle.wasm_grammars.specs.Blocks.{sized};
+ghost use Rattle.wasm_grammars.specs.Blocks.{sized, contents, sized_contents};
+ghost use Rattle.wasm_grammars.specs.Reading.{Reads};
 
 use crate::read::Read;
 use std::alloc::Global;
@@ -29,7 +30,7 @@ impl<'a> Bytes<'a> {
 }
 
 impl<'a> Read<'a> for Bytes<'a> {
-    ghost grammar = { sized };
+    ghost grammar = { λ features. sized };
 
     fn read_from(_alloc: Global, reader: &mut BinaryReader<'a>) -> Result<Bytes<'a>> {
         let mut ahead = reader.clone();
@@ -37,5 +38,31 @@ impl<'a> Read<'a> for Bytes<'a> {
         let bytes = ahead.read_bytes(size as usize)?;
         *reader = ahead;
         Ok(Bytes { bytes })
+    }
+}
+
+/// Reads the next `size` bytes as a reader with the same features and offsets.
+///
+/// Fails with `EndOfData` at the offset of the first byte.
+pub fn read_contents<'a>(reader: &mut BinaryReader<'a>, size: usize) -> Result<BinaryReader<'a>>
+    ensures { Reads (contents reader.old.features size) result reader.old reader.new }
+{
+    reader.is_within();
+    let mut ahead = reader.clone();
+    let bytes = ahead.read_bytes(size)?;
+    let contents = reader.part(bytes, reader.original_position());
+    *reader = ahead;
+    Ok(contents)
+}
+
+impl<'a> Read<'a> for BinaryReader<'a> {
+    ghost grammar = { λ features. sized_contents features };
+
+    fn read_from(_alloc: Global, reader: &mut BinaryReader<'a>) -> Result<BinaryReader<'a>> {
+        let mut ahead = reader.clone();
+        let size = ahead.read_var_u32()?;
+        let contents = read_contents(&mut ahead, size as usize)?;
+        *reader = ahead;
+        Ok(contents)
     }
 }

@@ -10,7 +10,8 @@ mod parts;
 mod read;
 mod within;
 
-pub use bytes::Bytes;
+pub use bytes::{Bytes, read_contents};
 pub use lists::{read_counted, read_list};
+pub use parts::read_u32_up_to;
 pub use read::{Read, grammar_laws};
 pub use within::read_within;

@@ -18,7 +18,7 @@ pub fn read_counted<'a, T: Read<'a>>(
     desc: SizeName,
 ) -> Result<Members<T>>
     requires { start ≤ offset_of reader.old }
-    ensures { ReadsFrom (counted limit desc (thing T.grammar)) start result reader.old reader.new }
+    ensures { ReadsFrom (counted limit desc (thing (T.grammar reader.old.features))) start result reader.old reader.new }
 {
     let mut ahead = reader.clone();
     let count = ahead.read_size(limit, desc)?;
@@ -41,7 +41,7 @@ pub fn read_list<'a, T: Read<'a>>(
     limit: usize,
     desc: SizeName,
 ) -> Result<Members<T>>
-    ensures { Reads (counted limit desc (thing T.grammar)) result reader.old reader.new }
+    ensures { Reads (counted limit desc (thing (T.grammar reader.old.features))) result reader.old reader.new }
 {
     let start = reader.original_position();
     read_counted(alloc, reader, start, limit, desc)

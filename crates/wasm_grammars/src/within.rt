@@ -18,7 +18,7 @@ pub fn read_within<'a, T: Read<'a>>(
     left_over: Message,
 ) -> Result<T>
     requires { left_over ≢ message.OutOfMemory }
-    ensures { Reads (within size left_over T.grammar) result reader.old reader.new }
+    ensures { Reads (within size left_over (T.grammar reader.old.features)) result reader.old reader.new }
 {
     reader.is_within();
     let mut ahead = reader.clone();
