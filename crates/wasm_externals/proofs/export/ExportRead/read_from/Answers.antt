@@ -1,0 +1,19 @@
+use Rattle.wasm_externals.specs.Externals.{export}
+use Rattle.wasm_grammars.proofs.Steps.{begins, then, fails_at, fails_in, ends, stays}
+use Rattle.wasm_externals.proofs.export.ExportRead.read_from.Goals as goal
+
+pub returns-in_err-name : goal.returns-in_err-name
+returns-in_err-name c = stays _ c.from_residual.ensures.1 (fails_in (begins export c.clone-ahead.ensures) c.in_err-name.ensures.1)
+
+pub returns-in_err-kind : goal.returns-in_err-kind
+returns-in_err-kind c =
+    let name = then (begins export c.clone-ahead.ensures) c.in_ok-name.ensures in
+    stays _ c.from_residual-in_err-kind.ensures.1 (fails_in name c.in_err-kind.ensures.1)
+
+pub returns-in_err-index : goal.returns-in_err-index
+returns-in_err-index c =
+    let kind = then (then (begins export c.clone-ahead.ensures) c.in_ok-name.ensures) c.in_ok-kind.ensures in
+    stays _ c.from_residual-in_err-index.ensures.1 (fails_at kind c.in_err-index.ensures)
+
+pub returns : goal.returns
+returns c = ends (then (then (then (begins export c.clone-ahead.ensures) c.in_ok-name.ensures) c.in_ok-kind.ensures) c.in_ok-index.ensures)

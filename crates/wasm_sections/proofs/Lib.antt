@@ -1,0 +1,4 @@
+pub mod Within
+pub mod Framing
+pub mod Found
+pub mod AllItems

@@ -1,0 +1,66 @@
+use crate::failure::{Failure, Written};
+use crate::row::{Input, Row};
+use crate::segments::{write_data, write_element};
+use crate::tables::{write_global, write_table};
+use std::alloc::Global;
+use std::io::{self, Print};
+
+#[derive(Clone, Copy)]
+struct Rows {
+    rows: u32,
+    differ: u32,
+    out_of_memory: u32,
+}
+
+pub fn print_rows<R: Print>(rt: &R, alloc: Global, table: &str) -> io::Result<()> {
+    let mut counts = Rows {
+        rows: 0,
+        differ: 0,
+        out_of_memory: 0,
+    };
+    for line in table.lines() {
+        if !line.is_empty() && !line.starts_with('#') {
+            counts.compare(rt, alloc, line)?;
+        }
+    }
+    print!(rt; "{} rows, {} differ", counts.rows, counts.differ)?;
+    if counts.out_of_memory > 0 {
+        print!(rt; ", {} out of memory", counts.out_of_memory)?;
+    }
+    println!(rt;)
+}
+
+impl Rows {
+    fn compare<R: Print>(&mut self, rt: &R, alloc: Global, line: &str) -> io::Result<()> {
+        self.rows = self.rows.saturating_add(1);
+        let mut text = String::new(alloc);
+        let ended = match Row::of(line) {
+            None => Err(Failure::Malformed),
+            Some(row) => match evaluate(alloc, &row, &mut text) {
+                Ok(()) if text.as_str() == row.expected => return Ok(()),
+                Err(Failure::OutOfMemory) => {
+                    self.out_of_memory = self.out_of_memory.saturating_add(1);
+                    return Ok(());
+                }
+                ended => ended,
+            },
+        };
+        self.differ = self.differ.saturating_add(1);
+        match ended {
+            Ok(()) => println!(rt; "differs: {line}\n  gives: {text}"),
+            Err(failure) => println!(rt; "differs: {line}\n  gives: {failure:?}"),
+        }
+    }
+}
+
+fn evaluate(alloc: Global, row: &Row<'_>, text: &mut String) -> Written {
+    let input = Input::parse(alloc, row.input)?;
+    let mut reader = input.reader()?;
+    match row.call {
+        "data" => write_data(alloc, text, &mut reader),
+        "element" => write_element(alloc, text, &mut reader),
+        "global" => write_global(alloc, text, &mut reader),
+        "table" => write_table(alloc, text, &mut reader),
+        _ => Err(Failure::Malformed),
+    }
+}
