@@ -81,6 +81,12 @@ def originals():
     return [Original(row, arities[row["name"]]) for row in rows]
 
 
+def signatures():
+    """Returns the rows of the given table of types. Its head describes them."""
+    with open(FOLDER / "signatures.tsv", encoding="utf-8", newline="") as lines:
+        return list(csv.DictReader((line for line in lines if not line.startswith("#")), delimiter="\t"))
+
+
 def proposals():
     return {row["proposal"]: int(row["operators"]) for row in lines_of("proposals.tsv")}
 

@@ -1,18 +1,39 @@
-"""Writes overridden visits of a group, for the program that compares visitors."""
+"""Writes overridden visits, for the programs that compare visitors."""
 
-from source import inner, rust_binding
+from source import inner, rust_binding, uses
+from table import held
 from templates import filled_file
-from visits import GROUPS, type_name
+from visits import GROUPS, made, type_name
 
-FILE = "crates/wasm_tests_operators/src/own_misc.rt"
+# A visitor that counts the visits of one group, and one that reports the visits of all groups.
+COUNTED = "crates/wasm_tests_operators/src/own_misc.rt"
+TOLD = "crates/wasm_tests_decode/src/own"
 
 
-def own_visit(group, op):
+def own_visit(op, value, result=""):
     given = ", ".join(["&mut self", *([inner(op)] if op.fields else [])])
-    return ["", f"fn {op.visit}({given}) {{", f"self.own({rust_binding(op, type_name(group))})", "}"]
+    return ["", f"fn {op.visit}({given}){result} {{", f"self.own({value})", "}"]
+
+
+def counted_visits(ops):
+    group = next(it for it in GROUPS if it.module == "misc")
+    lines = [line for op in group.of(ops) for line in own_visit(op, rust_binding(op, type_name(group)))]
+    return filled_file("own_visits/counted.rt", type=type_name(group), trait=group.trait, visits=lines[1:])
+
+
+def told_visits(ops, group):
+    those = group.of(ops)
+    lines = [line for op in those for line in own_visit(op, made(op), " -> Self::Output")]
+    named = [("wasm_instr", "Operator"), *((it.crate, it.type) for it in held() if it.group == group.enum)]
+    named += [("wasm_visit_groups", name) for name in (group.trait, "Visitor")]
+    return filled_file(
+        "own_visits/told.rt",
+        short=group.short,
+        uses=uses(those, named),
+        trait=group.trait,
+        visits=lines[1:],
+    )
 
 
 def own_visit_files(ops):
-    group = next(it for it in GROUPS if it.module == "misc")
-    lines = [line for op in group.of(ops) for line in own_visit(group, op)]
-    return {FILE: filled_file("own_visits.rt", type=type_name(group), trait=group.trait, visits=lines[1:])}
+    return {COUNTED: counted_visits(ops), **{f"{TOLD}/{group.module}.rt": told_visits(ops, group) for group in GROUPS}}

@@ -1,7 +1,7 @@
 """Writes the conversion of operators to a C struct (crates/wasm_view)."""
 
 from immediates import COMBINATIONS, TYPES
-from table import ENUMS, held, shared
+from table import held, shared
 from templates import filled, filled_file
 
 # The names of a shape's fields in patterns.
@@ -17,23 +17,9 @@ def number(op):
     return op.code + (int(op.prefix, 16) << 16 if op.prefix else 0)
 
 
-def opcode_arms(ops, ty):
-    return [f"{ty}::{op.name}{' { .. }' if op.fields else ''} => 0x{number(op):x}," for op in ops]
-
-
-def opcodes_source(ops):
-    own = [op for op in ops if op.group == "Own"]
-    lines = filled(
-        "plain/opcodes.rt",
-        enum_uses=[f"ghost use Rattle.{enum.crate}.specs.{enum.group}.{{{enum.opcode}}};" for enum in ENUMS],
-        types=", ".join(sorted(enum.type for enum in ENUMS)),
-        arms=opcode_arms(own, "Operator") + [f"Operator::{enum.group}(op) => {enum.opcode}(*op)," for enum in held()],
-    )
-    for enum in held():
-        number = f"opcode_number (Some 0x{enum.prefix}) ({enum.opcode} op)" if enum.prefix else f"{enum.opcode} op"
-        arms = opcode_arms([op for op in ops if op.group == enum.group], enum.type)
-        lines += ["", *filled("plain/enum_opcode.rt", opcode=enum.opcode, type=enum.type, number=number, arms=arms)]
-    return "\n".join(lines) + "\n"
+def opcodes_source():
+    arms = [f"Operator::{enum.group}(op) => 0x{enum.prefix}0000 + op.code()," for enum in held() if enum.prefix]
+    return filled_file("plain/opcodes.rt", arms=arms)
 
 
 def bound(op):
@@ -129,7 +115,7 @@ def plain_files(ops):
     return {
         "crates/wasm_view/src/names.rt": names_source(ops),
         "crates/wasm_view/specs/Names.antt": names_spec(ops),
-        "crates/wasm_view/src/opcodes.rt": opcodes_source(ops),
+        "crates/wasm_view/src/opcodes.rt": opcodes_source(),
         "crates/wasm_view/src/common.rt": common_source(ops),
         "crates/wasm_view/src/views.rt": views_source(ops),
     }

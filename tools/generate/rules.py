@@ -2,8 +2,8 @@
 
 import re
 
-from arities import REACHING
 from immediates import KINDS, LARGEST_ALIGN, MEMORY_SORTS, OWNING, ROW_WORDS, TYPES, VALUE_WORDS, WRITERS
+from signature import signature_faults
 from table import COLUMNS, FEATURES, INLINE, PREFIXES, PROPOSALS, ROLES, TABLE, Operator, held, named, rows_of
 
 # Keywords of Rust, and names in the generated definitions.
@@ -59,7 +59,7 @@ def cell_faults(cells):
     for field in filter(None, row["fields"].split(", ")):
         if not re.fullmatch(r"[a-z][a-z0-9_]*: \S.*", field):
             out.append(f"the field {field!r} is not a name and a type")
-    return out
+    return out + signature_faults(row["signature"])
 
 
 def row_faults(op):
@@ -152,18 +152,19 @@ def is_memory(words):
 
 
 def arity_faults(op):
-    if "by rule" in (op.takes, op.leaves):
-        return [] if op.takes == op.leaves else ["it takes and leaves by rule, or neither"]
     out = []
-    takes = op.takes.removesuffix(REACHING)
-    for word, number in (("takes", takes), ("leaves", op.leaves)):
-        if not re.fullmatch(r"[0-9]", number):
-            out.append(f"{word} {number!r}, and not a digit")
-    if op.takes != takes and [ty for _, ty in op.fields].count("MemArg") != 1:
-        out.append("it takes an array, and does not have exactly one memory argument")
-    if not out and op.takes != takes and int(takes) > MOST_TAKEN:
-        out.append(f"it takes more than {MOST_TAKEN} operands besides the array")
+    if op.may_reach_array and op.kinds.count("memory") != 1:
+        out.append("an access has exactly one memory argument")
+    if op.may_reach_array and len(op.signature.params or []) > MOST_TAKEN:
+        out.append(f"an access takes at most {MOST_TAKEN} operands besides the array")
+    if "addr" in fixed_types(op) and not any("mem" in name for name, _ in op.fields):
+        out.append("it has an address, and no field for its memory")
     return out
+
+
+def fixed_types(op):
+    it = op.signature
+    return [*it.params, *it.results] if it.is_fixed else []
 
 
 def shared_faults(ops):

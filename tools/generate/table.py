@@ -5,6 +5,7 @@ import textwrap
 from pathlib import Path
 
 from immediates import BORROWING, COMBINATIONS, HOLDING, KINDS, OWNING
+from signature import Signature
 
 TOP = Path(__file__).resolve().parent.parent.parent
 TABLE = TOP / "tools" / "operators.tsv"
@@ -12,7 +13,7 @@ HEAD = "Written by tools/lists.py from tools/operators.tsv."
 WIDTH = 100
 COLUMNS = [
     "proposal", "name", "text", "visit", "prefix", "code", "fields", "immediates", "writer", "role", "feature", "inline",
-    "takes", "leaves",
+    "signature",
 ]
 PREFIXES = {"fb": "Gc", "fc": "Misc", "fd": "Simd", "fe": "Atomic"}
 # The opcodes of the numeric operators, and the first subopcode of the second half of the SIMD operators.
@@ -47,8 +48,7 @@ class Operator:
         self.role = row["role"]
         self.feature = row["feature"]
         self.inline = [i for i in row["inline"].split(", ") if i]
-        self.takes = row["takes"]
-        self.leaves = row["leaves"]
+        self.signature = Signature(row["signature"])
         self.place = f"{place}: {self.name}"
 
     @property
@@ -76,8 +76,24 @@ class Operator:
         return COMBINATIONS.get(self.kinds)
 
     @property
+    def takes(self):
+        """Returns the number of operands, as the original annotates it."""
+        if not self.signature.is_counted:
+            return "by rule"
+        return f"{len(self.signature.params)}{' and an array' if self.may_reach_array else ''}"
+
+    @property
+    def leaves(self):
+        return str(len(self.signature.results)) if self.signature.is_counted else "by rule"
+
+    @property
+    def may_reach_array(self):
+        """Returns whether an array may be the target: of an access that is not atomic."""
+        return "memory" in self.kinds and PREFIXES.get(self.prefix) != "Atomic"
+
+    @property
     def is_by_rule(self):
-        return self.takes == "by rule"
+        return not self.signature.is_counted
 
     @property
     def holds_list(self):

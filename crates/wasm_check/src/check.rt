@@ -1,0 +1,72 @@
+ghost use Rattle.std.specs.Prelude.{◌≡◌, OnOk, IfErr};
+ghost use Rattle.wasm_operators.specs.below.Source.{reader_of};
+ghost use Rattle.wasm_operators.specs.Expression.{Placed};
+ghost use Rattle.wasm_check_operators.specs.Language.{rules_of};
+ghost use Rattle.wasm_check.specs.Typed.{IsTypedExpression, EncodesTyped, Explains, input};
+
+use crate::error::{CheckError, decoding};
+use crate::visitor::TypeChecker;
+use std::alloc::Global;
+use wasm_check_control::{Control, FrameKind, ModuleContext};
+use wasm_check_operators::Checker;
+use wasm_operators::{
+    BinaryReader, Operator, OperatorsReader, WasmFeatures, expression_laws, run_laws,
+};
+use wasm_typing::laws;
+
+/// Checks that the bytes encode an expression that is typed: it leaves the results of the function.
+/// Specification: Validation, Expressions.
+pub fn check_expression<M: ModuleContext>(
+    alloc: Global,
+    context: &M,
+    features: WasmFeatures,
+    bytes: &[u8],
+) -> Result<(), CheckError>
+    // On `Ok`, the bytes encode an expression, and the rules type its only tree.
+    ensures typed { OnOk result (IsTypedExpression (rules_of (M.environment context.now)) (M.environment context.now).results (input features bytes.now)) }
+    // For a typed expression, only allocation can fail.
+    ensures whole { (placed : Placed) → EncodesTyped (rules_of (M.environment context.now)) (M.environment context.now).results (input features bytes.now) placed
+        → IfErr result (λ e. e ≡ CheckError.Memory) }
+    ensures error { IfErr result (λ e. Explains (rules_of (M.environment context.now)) (M.environment context.now).results (reader_of features 0 bytes.now) e) }
+{
+    laws::accepts_what_is_typed::<Operator<'_>>();
+    laws::refuses_at_once::<Operator<'_>>();
+    laws::same_frames::<Operator<'_>>();
+    laws::steps_on::<Operator<'_>>();
+    run_laws::single_reads();
+    run_laws::read_to_the_end();
+    expression_laws::one_layout(features);
+    expression_laws::layouts(features);
+    expression_laws::whole_is_longest();
+    expression_laws::flat_beginnings();
+    context.is_well_formed();
+    let mut control = Control::new(alloc);
+    if control
+        .enter(FrameKind::Block, &[], None, context.results())
+        .is_err()
+    {
+        return Err(CheckError::Memory);
+    }
+    let mut visitor = TypeChecker {
+        checker: Checker { context, control },
+    };
+    let mut reader = OperatorsReader::new(alloc, BinaryReader::new_features(bytes, 0, features));
+    while !reader.eof() {
+        let offset = reader.original_position();
+        match reader.visit_operator_simd(&mut visitor) {
+            Ok(Ok(true)) => {}
+            Ok(Ok(false)) => {
+                return Err(CheckError::Untyped {
+                    offset,
+                    mismatch: visitor.checker.control.mismatch(),
+                });
+            }
+            Ok(Err(_)) => return Err(CheckError::Memory),
+            Err(error) => return Err(decoding(error)),
+        }
+    }
+    match reader.finish() {
+        Ok(()) => Ok(()),
+        Err(error) => Err(decoding(error)),
+    }
+}

@@ -1,0 +1,14 @@
+//! The type checker of expressions, from bytes.
+#![tactic(auto)]
+
+mod check;
+mod error;
+mod visitor;
+
+pub use check::check_expression;
+pub use error::CheckError;
+pub use visitor::TypeChecker;
+pub use wasm_check_control::{
+    CompositeKind, FieldType, FuncType, GlobalType, Mismatch, ModuleContext, StorageType,
+    StructType, TableType,
+};

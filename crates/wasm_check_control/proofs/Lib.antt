@@ -1,0 +1,9 @@
+pub mod SegmentLemmas
+pub mod Taking
+pub mod Labels
+pub mod Selects
+pub mod Steps
+pub mod Tops
+pub mod OnTop
+pub mod Many
+pub mod SwitchRules

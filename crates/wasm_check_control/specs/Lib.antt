@@ -1,0 +1,5 @@
+pub mod Environment
+pub mod Segments
+pub mod Selects
+pub mod State
+pub mod Switches

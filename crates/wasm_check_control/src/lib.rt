@@ -1,0 +1,24 @@
+//! The operand stack and the control frames of the validation algorithm, and what a module must say
+//! to it.
+#![tactic(auto)]
+
+mod context;
+mod control;
+mod frame;
+mod matching;
+mod operands;
+mod peeks;
+mod references;
+mod rules;
+mod value_matches;
+
+pub use context::{
+    CompositeKind, FieldType, FuncType, GlobalType, ModuleContext, StorageType, StructType,
+    TableType,
+};
+pub use control::{Control, Mismatch};
+pub use frame::{Frame, FrameKind, ResultTypes};
+pub use matching::heap_type_matches;
+pub use operands::Operands;
+pub use peeks::{all_match, count_of};
+pub use value_matches::{matches, select_type};

@@ -1,0 +1,4 @@
+pub mod Defaults
+pub mod Lanes
+pub mod Others
+pub mod Targets

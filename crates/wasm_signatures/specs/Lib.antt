@@ -1,0 +1,9 @@
+pub mod Types
+pub mod Numeric
+pub mod Gc
+pub mod Misc
+pub mod Simd
+pub mod Atomic
+pub mod Own
+pub mod Rows
+pub mod Premises

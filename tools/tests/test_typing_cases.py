@@ -1,0 +1,76 @@
+import json
+import tempfile
+import unittest
+from collections import Counter
+from pathlib import Path
+
+import typing_cases as typing
+from typing_cases import Case
+
+HEAD = bytes.fromhex("0061736d01000000")
+CASES = [
+    Case("Nop", "ok", "valid", "", "", HEAD + b"\x01\x02\x03"),
+    Case("Nop", "more", "invalid", "0x9", "type mismatch: a", HEAD + b"\x01\x02\x04\x03"),
+    Case("Drop", "more", "invalid", "0x9", "type mismatch: b", HEAD),
+    Case("Try", "ok", "unsupported", "0x8", "not enabled", HEAD + b"\x01"),
+]
+
+
+def program(folder, text):
+    path = Path(folder) / "program"
+    path.write_text(f"#!/usr/bin/env python3\nimport sys\n{text}", encoding="utf-8")
+    path.chmod(0o755)
+    return str(path)
+
+
+class Table(unittest.TestCase):
+    def test_rows_are_read_back(self):
+        with tempfile.TemporaryDirectory() as folder:
+            path = Path(folder) / "cases.tsv"
+            path.write_text(typing.text_of(CASES), encoding="utf-8")
+            self.assertEqual(typing.cases_of(path), CASES)
+
+    def test_packed(self):
+        self.assertEqual(typing.packed(b"abxcd", b"abycd"), "2,2,78")
+        self.assertEqual(typing.packed(b"aa", b"a"), "1,0,61")
+        self.assertEqual(typing.unpacked("2,2,78", b"abycd"), b"abxcd")
+        self.assertEqual(typing.unpacked("1,0,61", b"a"), b"aa")
+
+    def test_the_cases(self):
+        cases = typing.cases_of()
+        self.assertEqual(Counter(it.verdict for it in cases), {"invalid": 5835, "valid": 1421, "unsupported": 68})
+        for it in cases:
+            self.assertTrue(it.module.startswith(HEAD))
+            self.assertFalse(it.verdict == "valid" and it.offset)
+            self.assertFalse(it.verdict == "invalid" and not it.message)
+
+
+class Compared(unittest.TestCase):
+    def test_same_and_different(self):
+        says = {"00001.wasm": "0x9 (function 0): type mismatch: a", "00002.wasm": "0x8: type mismatch: b", "00003.wasm": "0x8: not enabled"}
+        with tempfile.TemporaryDirectory() as folder:
+            text = f"says = {says}\nfor it in sys.argv[1:]:\n    if it in says: print(f'{{it}}: error at {{says[it]}}')\nsys.exit(1)\n"
+            path = program(folder, text)
+            self.assertEqual(typing.compared(path, CASES, False), [])
+            (found,) = typing.compared(path, CASES, True)
+            self.assertIn("Drop, more: invalid (0x9 type mismatch: b), and 0x8 type mismatch: b by the program", found)
+
+    def test_a_wrong_verdict(self):
+        with tempfile.TemporaryDirectory() as folder:
+            found = typing.compared(program(folder, ""), CASES, False)
+            self.assertEqual([it.split(":")[0] for it in found], ["Nop, more", "Drop, more", "Try, ok"])
+
+
+class Written(unittest.TestCase):
+    def test_from_a_folder(self):
+        with tempfile.TemporaryDirectory() as folder:
+            for name in typing.FILES:
+                rows = [[name, "ok", True, CASES[0].module.hex()]] if name in ("fixed", "unsup") else []
+                (Path(folder) / f"{name}.json").write_text(json.dumps(rows), encoding="utf-8")
+            text = "*_, it = sys.argv[1:]\nprint(f'{it} 0x8 default' if '--default' in sys.argv else f'{it} ok')\n"
+            found = typing.written(folder, program(folder, text))
+            self.assertEqual([(it.verdict, it.message) for it in found], [("valid", ""), ("unsupported", "default")])
+
+
+if __name__ == "__main__":
+    unittest.main()

@@ -1,0 +1,329 @@
+#!/usr/bin/env python3
+"""Writes cases of `tools/original/typing_cases.tsv` as rows of the program wasm_tests_check.
+
+    tools/typing_rows.py            prints the rows of all cases that have the form of a row
+    tools/typing_rows.py --left     prints the cases without a row, each with the reason
+    tools/typing_rows.py --write    writes crates/wasm_tests_check/stdin
+
+A row has cells, separated by tabs: the name of the case, then what the module says, by index: types, type indices of
+functions, globals, tables, memories, types of element segments, the number of data segments, and for each function 1 if it
+is declared as a reference, else 0; then the locals and the results of the function, its expression in hexadecimal, and the
+verdict.
+
+A function type has `>` between parameters and results. A structure is `struct` and its fields, an array is `array` and its
+elements. What is mutable has `mut:` before it. A reference type is `?` (nullable) or `!` and its heap type, which is a name
+or an index after `#`.
+
+A valid case has a row for each function body. An invalid one has a row for the body in which wasmparser reports the error.
+There is no row for a module with groups of types, subtypes, two equal types, tags, or locals without a default value.
+"""
+
+import re
+import sys
+from pathlib import Path
+
+sys.path.insert(0, str(Path(__file__).resolve().parent))
+import typing_cases
+
+ROWS = typing_cases.TOP / "crates" / "wasm_tests_check" / "stdin"
+VALUES = {0x7F: "i32", 0x7E: "i64", 0x7D: "f32", 0x7C: "f64", 0x7B: "v128"}
+HEAPS = {
+    0x70: "func", 0x6F: "extern", 0x6E: "any", 0x6D: "eq", 0x6C: "i31", 0x6B: "struct", 0x6A: "array",
+    0x69: "exn", 0x71: "none", 0x72: "noextern", 0x73: "nofunc", 0x74: "noexn",
+}
+# The reader rejects these before a type is checked.
+GRAMMAR = {("else", "without if")}
+PACKED = {0x78: "i8", 0x77: "i16"}
+VERDICTS = {"valid": "valid", "invalid": "invalid", "unsupported": "invalid"}
+
+
+class NoRow(Exception):
+    """The module does not have the form of a row."""
+
+
+class Bytes:
+    def __init__(self, data, at=0, end=None):
+        self.data, self.at, self.end = data, at, len(data) if end is None else end
+
+    def byte(self):
+        self.at += 1
+        return self.data[self.at - 1]
+
+    def number(self):
+        out = shift = 0
+        while True:
+            byte = self.byte()
+            out |= (byte & 127) << shift
+            shift += 7
+            if byte < 128:
+                return out
+
+    def signed(self):
+        start = self.at
+        out = self.number()
+        bits = 7 * (self.at - start)
+        return out - (1 << bits) if out >> (bits - 1) else out
+
+    def skip(self, count):
+        self.at += count
+
+    def many(self, read):
+        return [read() for _ in range(self.number())]
+
+    def heap(self):
+        if self.data[self.at] in HEAPS:
+            return HEAPS[self.byte()]
+        index = self.signed()
+        if index < 0:
+            raise NoRow("heap type")
+        return f"#{index}"
+
+    def reference(self):
+        byte = self.byte()
+        if byte in HEAPS:
+            return f"?{HEAPS[byte]}"
+        if byte not in (0x63, 0x64):
+            raise NoRow("reference type")
+        return ("?" if byte == 0x63 else "!") + self.heap()
+
+    def value(self):
+        if self.data[self.at] in VALUES:
+            return VALUES[self.byte()]
+        return self.reference()
+
+    def field(self):
+        if self.data[self.at] in PACKED:
+            ty = PACKED[self.byte()]
+        else:
+            ty = self.value()
+        return ("mut:" if self.byte() & 1 else "") + ty
+
+    def composite(self):
+        match self.byte():
+            case 0x60:
+                return f"{' '.join(self.many(self.value))}>{' '.join(self.many(self.value))}"
+            case 0x5F:
+                return " ".join(["struct", *self.many(self.field)])
+            case 0x5E:
+                return f"array {self.field()}"
+        raise NoRow("a group of types or a declared supertype")
+
+    def limits(self):
+        flags = self.byte()
+        if flags & ~7:
+            raise NoRow("custom page size")
+        self.number()
+        if flags & 1:
+            self.number()
+        return "i64" if flags & 4 else "i32"
+
+    def table(self):
+        has_start = self.data[self.at] == 0x40
+        if has_start:
+            self.skip(2)
+        element = self.reference()
+        address = self.limits()
+        return address, element, self.constant() if has_start else []
+
+    def constant(self):
+        """Skips a constant expression, and returns the functions that it declares."""
+        declared = []
+        while True:
+            code = self.byte()
+            if code == 0x0B:
+                return declared
+            if code == 0xD2:
+                declared.append(self.number())
+            elif code == 0xD0:
+                self.heap()
+            elif code in (0x41, 0x42):
+                self.signed()
+            elif code == 0x43:
+                self.skip(4)
+            elif code == 0x44:
+                self.skip(8)
+            elif code == 0x23:
+                self.number()
+            elif code == 0xFD and self.number() == 12:
+                self.skip(16)
+            elif code not in (0x6A, 0x6B, 0x6C, 0x7C, 0x7D, 0x7E):
+                raise NoRow("constant expression")
+
+
+class Module:
+    def __init__(self, data):
+        self.types, self.functions, self.globals, self.tables, self.memories = [], [], [], [], []
+        self.elements, self.data_count, self.declared, self.bodies, self.imported = [], 0, set(), [], 0
+        it = Bytes(data, 8)
+        while it.at < len(data):
+            kind, size = it.byte(), it.number()
+            section = Bytes(data, it.at, it.at + size)
+            it.skip(size)
+            read = getattr(self, f"section_{kind}", None)
+            if read is None:
+                raise NoRow(f"section {kind}")
+            read(section)
+
+    def section_0(self, it):
+        pass
+
+    def section_1(self, it):
+        self.types = []
+        for _ in range(it.number()):
+            self.types.append(it.composite())
+        if len(set(self.types)) != len(self.types):
+            raise NoRow("two equal types")
+        if any(f"#{index}" in re.split(r"[^#0-9]", ty) for index, ty in enumerate(self.types)):
+            raise NoRow("a recursive type")
+
+    def section_2(self, it):
+        def one():
+            for _ in range(2):
+                it.skip(it.number())
+            match it.byte():
+                case 0:
+                    self.functions.append(it.number())
+                    self.imported += 1
+                case 1:
+                    address, element, _ = it.table()
+                    self.tables.append(f"{address}:{element}")
+                case 2:
+                    self.memories.append(it.limits())
+                case 3:
+                    self.globals.append(self.a_global(it))
+                case _:
+                    raise NoRow("import of a tag")
+
+        it.many(one)
+
+    def a_global(self, it):
+        ty = it.value()
+        return ("mut:" if it.byte() & 1 else "") + ty
+
+    def section_3(self, it):
+        self.functions += it.many(it.number)
+
+    def section_4(self, it):
+        for address, element, declared in it.many(it.table):
+            self.tables.append(f"{address}:{element}")
+            self.declared |= set(declared)
+
+    def section_5(self, it):
+        self.memories += it.many(it.limits)
+
+    def section_6(self, it):
+        def one():
+            self.globals.append(self.a_global(it))
+            self.declared |= set(it.constant())
+
+        it.many(one)
+
+    def section_7(self, it):
+        def one():
+            it.skip(it.number())
+            kind, index = it.byte(), it.number()
+            if kind == 0:
+                self.declared.add(index)
+
+        it.many(one)
+
+    def section_8(self, it):
+        pass
+
+    def section_9(self, it):
+        def one():
+            flags = it.number()
+            if not flags & 1:
+                if flags & 2:
+                    it.number()
+                it.constant()
+            element = "!func" if not flags & 4 else "?func"
+            if flags & 3:
+                if flags & 4:
+                    element = it.reference()
+                elif it.byte() != 0:
+                    raise NoRow("element kind")
+            if flags & 4:
+                self.declared |= {index for found in it.many(it.constant) for index in found}
+            else:
+                self.declared |= set(it.many(it.number))
+            self.elements.append(element)
+
+        it.many(one)
+
+    def section_10(self, it):
+        def one():
+            size = it.number()
+            end = it.at + size
+            runs = it.many(lambda: (it.number(), it.value()))
+            if sum(count for count, _ in runs) > 200:
+                raise NoRow("many locals")
+            self.bodies.append((it.at, end, [ty for count, ty in runs for _ in range(count)]))
+            it.at = end
+
+        it.many(one)
+
+    def section_11(self, it):
+        self.data_count = it.number()
+
+    def section_12(self, it):
+        self.data_count = it.number()
+
+    def row(self, name, number, data, verdict):
+        start, end, local_types = self.bodies[number]
+        if any(ty.startswith("!") for ty in local_types):
+            raise NoRow("a local without a default value")
+        params, results = self.types[self.functions[self.imported + number]].split(">")
+        declared = ["1" if index in self.declared else "0" for index in range(len(self.functions))]
+        lists = [self.globals, self.tables, self.memories, self.elements]
+        cells = [name, ";".join(self.types), " ".join(map(str, self.functions)), *map(" ".join, lists), str(self.data_count)]
+        cells += [" ".join(declared), " ".join([*params.split(), *local_types]), results]
+        return "\t".join([*cells, data[start:end].hex(), VERDICTS[verdict]])
+
+
+def rows_of(case):
+    if (case.name, case.label) in GRAMMAR:
+        raise NoRow("not in the grammar")
+    module = Module(case.module)
+    name = f"{case.name}, {case.label}"
+    if case.is_valid:
+        numbers = range(len(module.bodies))
+    elif case.offset == "":
+        raise NoRow("no offset")
+    else:
+        offset = int(case.offset, 16)
+        numbers = [number for number, (start, end, _) in enumerate(module.bodies) if start <= offset <= end]
+    if not numbers:
+        raise NoRow("nothing in a function body decides the verdict")
+    return [module.row(name, number, case.module, case.verdict) for number in numbers]
+
+
+def all_rows():
+    """Returns the rows of all cases, and a line for each case without one."""
+    rows, left = [], []
+    for case in typing_cases.cases_of():
+        try:
+            rows += rows_of(case)
+        except NoRow as reason:
+            left.append(f"{case.name}, {case.label}: {reason}")
+        except IndexError:
+            left.append(f"{case.name}, {case.label}: malformed")
+    return rows, left
+
+
+def main(words):
+    rows, left = all_rows()
+    match words:
+        case []:
+            print("\n".join(rows))
+        case ["--write"]:
+            ROWS.write_text("\n".join(rows) + "\n", encoding="utf-8")
+        case ["--left"]:
+            print("\n".join(left))
+        case _:
+            print(__doc__)
+            sys.exit(words not in (["--help"], ["-h"]))
+
+
+if __name__ == "__main__":
+    main(sys.argv[1:])
