@@ -34,7 +34,7 @@ from testing.built import built, missing, program_of
 TOP = Path(__file__).resolve().parent.parent
 SECONDS = 60
 # A test or a program with more should be smaller.
-MOST = 1000
+MOST = 1500
 AS_EVER = "as ever\n"
 FIRST = re.compile(r"first (\d+)\n")
 # For `rows`: the line that counts them, and the start of the line if they cannot be read.

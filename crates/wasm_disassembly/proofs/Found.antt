@@ -2,10 +2,10 @@ use Rattle.std.proofs.Common.{◌≡◌, ◌&&◌, ℕ, ◌+◌, ◌-◌, ◌^�
 use Rattle.wasm_operators.specs.below.declared.features.WasmFeatures.{WasmFeatures}
 use Rattle.wasm_operators.specs.below.Source.{Reader, reader_of}
 use Rattle.wasm_module.specs.Sections.{IsSection}
-use Rattle.wasm_module.specs.ModuleFunctions.{ModuleFunctions, DescribesFunctions, IsOwn, index_of}
+use Rattle.wasm_module.specs.ModuleFunctions.{ModuleFunctions, DescribesFunctions, IsDefined, index_of}
 use Rattle.wasm_disassembly.specs.declared.listing_fault.Fault.{Fault}
 use Rattle.wasm_disassembly.specs.declared.listing_fault.Fault.TheVariants as fault
-use Rattle.wasm_disassembly.specs.Listing.{is_asked, WhereAsked, AreAsked, HasAsked, IsModuleOf, OpensModule, RefusesModule, IsThere, IsOutside}
+use Rattle.wasm_disassembly.specs.Listing.{is_asked, WhereAsked, AreAsked, HasAsked, IsModuleOf, OpensModule, FailsModule, IsThere, IsOutside}
 
 pub both_true : (a b : Bool) → a ≡ true → b ≡ true → (a && b) ≡ true
 both_true true true p q = refl
@@ -34,7 +34,7 @@ same_found : (Is : Reader → Type 0) (t u : ModuleFunctions) (only : Option ℕ
 same_found Is t u only None same h = tt
 same_found Is t u only (Some contents) same (bodies, is, asked) = (bodies, is, same_asked Is t u only 0 bodies same asked)
 
-same_own : (t u : ModuleFunctions) (index : ℕ) → t.imported ≡ u.imported → t.types ≡ u.types → IsOwn t index → IsOwn u index
+same_own : (t u : ModuleFunctions) (index : ℕ) → t.imported ≡ u.imported → t.types ≡ u.types → IsDefined t index → IsDefined u index
 same_own t u index imported types (from, to) = let l = ap length types in (omega (arith, imported, from), omega (arith, imported, l, to))
 
 abbrev OneSection : Type 0
@@ -53,11 +53,11 @@ asked_there one_section same_functions Is features only bytes t code o h =
     subst (λ c. HasAsked Is t only c) found (same_found Is h.functions t only h.code same.0 h.bodies)
 
 pub refused_outside : SameFunctions → (Is : Reader → Type 0) (features : WasmFeatures) (only : Option ℕ) (bytes : List ℕ) (f : Fault) →
-    RefusesModule features only bytes f → IsModuleOf Is features only bytes → IsOutside f
+    FailsModule features only bytes f → IsModuleOf Is features only bytes → IsOutside f
 refused_outside same_functions Is features only bytes (fault.Module f) refuses h = refuses.1 h.functions h.opens.described
 refused_outside same_functions Is features only bytes (fault.NoFunction missing) (is, lacks) h =
     let same = same_functions (reader_of features 0 bytes) h.functions lacks.functions h.opens.described lacks.described in
-    let own : IsOwn h.functions missing.index = subst (λ o. IsThere h.functions o) is h.opens.is_there in
+    let own : IsDefined h.functions missing.index = subst (λ o. IsThere h.functions o) is h.opens.is_there in
     absurd (lacks.is_not (same_own h.functions lacks.functions missing.index same.0 same.1 own))
 refused_outside same_functions Is features only bytes (fault.Section e) refuses h = absurd refuses
 refused_outside same_functions Is features only bytes (fault.Code e) refuses h = absurd refuses

@@ -7,7 +7,7 @@ use Rattle.wasm_module.specs.ModuleFunctions.{ModuleFunctions, NamesModule}
 use Rattle.wasm_disassembly.specs.declared.counts.ModuleCounts.{ModuleCounts}
 use Rattle.wasm_disassembly.specs.declared.listing_fault.Fault.{Fault}
 use Rattle.wasm_disassembly.specs.declared.listing_fault.Fault.TheVariants as fault
-use Rattle.wasm_disassembly.specs.Listing.{OpensModule, RefusesModule, ListsCode, ListsModule, heading_of, code_heading, IsLater}
+use Rattle.wasm_disassembly.specs.Listing.{OpensModule, FailsModule, ListsCode, ListsModule, heading_of, code_heading, IsLater}
 use Rattle.wasm_disassembly.specs.ModuleCensus.{CountsCode, CountsModule}
 use Rattle.wasm_disassembly.proofs.Bodies.{keeps_same}
 
@@ -46,7 +46,7 @@ counts_module reports features only bytes t contents (Err fault.Writing) before 
 counts_module reports features only bytes t contents (Err fault.Memory) before after opens counts later = tt
 
 pub lists_refused : {S : Type 0} (reports : S → ℕ → Error → S → Type 0) (features : WasmFeatures) (only : Option ℕ) (file : Option (List ℕ)) (bytes : List ℕ) (f : Fault) (s : S)
-    (written : Option (List ℕ)) → RefusesModule features only bytes f → ListsModule reports features only file bytes (Err f) s s written written
+    (written : Option (List ℕ)) → FailsModule features only bytes f → ListsModule reports features only file bytes (Err f) s s written written
 lists_refused reports features only file bytes (fault.Module f) s written refuses = (refuses, refl)
 lists_refused reports features only file bytes (fault.NoFunction i) s written refuses = (refuses, refl)
 lists_refused reports features only file bytes (fault.Section e) s written refuses = absurd refuses
@@ -55,7 +55,7 @@ lists_refused reports features only file bytes fault.Writing s written refuses =
 lists_refused reports features only file bytes fault.Memory s written refuses = tt
 
 pub counts_refused : {S : Type 0} (reports : S → ℕ → Error → S → Type 0) (features : WasmFeatures) (only : Option ℕ) (bytes : List ℕ) (f : Fault) (s : S) →
-    RefusesModule features only bytes f → CountsModule reports features only bytes (Err f) s s
+    FailsModule features only bytes f → CountsModule reports features only bytes (Err f) s s
 counts_refused reports features only bytes (fault.Module f) s refuses = (refuses, refl)
 counts_refused reports features only bytes (fault.NoFunction i) s refuses = (refuses, refl)
 counts_refused reports features only bytes (fault.Section e) s refuses = absurd refuses

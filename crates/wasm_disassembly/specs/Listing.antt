@@ -15,7 +15,7 @@ use Rattle.wasm_disassembly.specs.Disassembly.{Heading, IsText}
 use Rattle.wasm_disassembly.specs.LocalLines.{locals_in}
 use Rattle.wasm_module.specs.Refusals.{ModuleFunctionsFault, IsRefusedAs}
 use Rattle.wasm_module.specs.Sections.{IsSection}
-use Rattle.wasm_module.specs.ModuleFunctions.{ModuleFunctions, DescribesFunctions, IsOwn, index_of, parameters_at, NamesModule}
+use Rattle.wasm_module.specs.ModuleFunctions.{ModuleFunctions, DescribesFunctions, IsDefined, index_of, parameters_at, NamesModule}
 use Rattle.wasm_module.specs.declared.fault.ModuleFault.TheVariants as whole_fault
 use Rattle.wasm_disassembly.specs.Escapes.{escaped, all_escaped}
 use Rattle.wasm_disassembly.specs.declared.fault.DisassemblyFault.{DisassemblyFault}
@@ -155,7 +155,7 @@ code_heading = codes "\nCode Disassembly:\n\n"
 -- All functions are requested, or one that the module defines.
 abbrev pub IsThere : ModuleFunctions → Option ℕ → Type 0
 IsThere t None = Unit {0}
-IsThere t (Some index) = IsOwn t index
+IsThere t (Some index) = IsDefined t index
 
 -- The bytes are a module with these functions and this code section. It defines the requested
 -- function.
@@ -168,17 +168,17 @@ pub record OpensModule (features : WasmFeatures) (only : Option ℕ) (bytes : Li
 pub record LacksFunction (features : WasmFeatures) (bytes : List ℕ) (missing : MissingFunction) : Type 0 where
   pub functions : ModuleFunctions
   pub described : DescribesFunctions (reader_of features 0 bytes) functions
-  pub is_not : IsOwn functions missing.index → ⊥
+  pub is_not : IsDefined functions missing.index → ⊥
   pub imported : missing.imported ≡ functions.imported
   pub defined : missing.defined ≡ length functions.types
 
 -- The functions of the bytes are not known, with this fault, or the module does not define the
 -- requested function.
-abbrev pub RefusesModule : WasmFeatures → Option ℕ → List ℕ → Fault → Type 0
-RefusesModule features only bytes (fault.Module f) =
+abbrev pub FailsModule : WasmFeatures → Option ℕ → List ℕ → Fault → Type 0
+FailsModule features only bytes (fault.Module f) =
     ModuleFunctionsFault f (reader_of features 0 bytes) × ((functions : ModuleFunctions) → DescribesFunctions (reader_of features 0 bytes) functions → f ≡ whole_fault.Memory)
-RefusesModule features only bytes (fault.NoFunction missing) = (only ≡ Some missing.index) × LacksFunction features bytes missing
-RefusesModule features only bytes _ = ⊥
+FailsModule features only bytes (fault.NoFunction missing) = (only ≡ Some missing.index) × LacksFunction features bytes missing
+FailsModule features only bytes _ = ⊥
 
 -- A heading is written, and the functions of the code section.
 pub record WritesModule {S : Type 0} (reports : S → ℕ → Error → S → Type 0) (features : WasmFeatures) (only : Option ℕ) (file : Option (List ℕ)) (bytes : List ℕ)
@@ -201,7 +201,7 @@ ListsModule reports features only file bytes (Err (fault.Code e)) before after o
     WritesModule reports features only file bytes (Err (fault.Code e)) before after old new
 ListsModule reports features only file bytes (Err fault.Writing) before after old new = Unit {0}
 ListsModule reports features only file bytes (Err fault.Memory) before after old new = Unit {0}
-ListsModule reports features only file bytes (Err f) before after old new = RefusesModule features only bytes f × (after ≡ before)
+ListsModule reports features only file bytes (Err f) before after old new = FailsModule features only bytes f × (after ≡ before)
 
 -- The bytes are a body, with no more locals than the limit.
 abbrev pub IsFunction : Reader → Type 0

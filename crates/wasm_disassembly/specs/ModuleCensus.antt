@@ -13,7 +13,7 @@ use Rattle.wasm_disassembly.specs.CountTable.{Row, IsTable, table_text}
 use Rattle.wasm_disassembly.specs.declared.counts.ModuleCounts.{ModuleCounts}
 use Rattle.wasm_disassembly.specs.declared.listing_fault.Fault.{Fault}
 use Rattle.wasm_disassembly.specs.declared.listing_fault.Fault.TheVariants as fault
-use Rattle.wasm_disassembly.specs.Listing.{Refusals, Reported, are_none, is_asked, WhereAsked, IsCode, RefusesCode, OpensModule, RefusesModule, IsOutside}
+use Rattle.wasm_disassembly.specs.Listing.{Refusals, Reported, are_none, is_asked, WhereAsked, IsCode, RefusesCode, OpensModule, FailsModule, IsOutside}
 
 -- The sums of counts, each at most the greatest u64.
 abbrev pub add_counts : List ℕ → List ℕ → List ℕ
@@ -85,7 +85,7 @@ CountsModule reports features only bytes (Ok found) before after = CountsOf repo
 CountsModule reports features only bytes (Err (fault.Code e)) before after = CountsOf reports features only bytes (Err (fault.Code e)) before after
 CountsModule reports features only bytes (Err fault.Writing) before after = Unit {0}
 CountsModule reports features only bytes (Err fault.Memory) before after = Unit {0}
-CountsModule reports features only bytes (Err f) before after = RefusesModule features only bytes f × (after ≡ before)
+CountsModule reports features only bytes (Err f) before after = FailsModule features only bytes f × (after ≡ before)
 
 -- The bytes are a body whose operators can be counted.
 abbrev pub IsCounted : WasmFeatures → Reader → Type 0
@@ -105,4 +105,4 @@ TabulatesModule reports features only bytes (Ok whole) before after old new =
 TabulatesModule reports features only bytes (Err (fault.Code e)) before after old new = CountsOf reports features only bytes (Err (fault.Code e)) before after × (new ≡ old)
 TabulatesModule reports features only bytes (Err fault.Writing) before after old new = Unit {0}
 TabulatesModule reports features only bytes (Err fault.Memory) before after old new = Unit {0}
-TabulatesModule reports features only bytes (Err f) before after old new = RefusesModule features only bytes f × (after ≡ before) × (new ≡ old)
+TabulatesModule reports features only bytes (Err f) before after old new = FailsModule features only bytes f × (after ≡ before) × (new ≡ old)

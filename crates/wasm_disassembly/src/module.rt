@@ -97,7 +97,7 @@ fn list_part<W: FlushedWrite, C: Complaints>(
     ensures nothing { IfErr result (λ fault. WritesNothing fault → writer.new ≡ writer.old) }
 {
     function_laws::sections();
-    function_laws::own_functions();
+    function_laws::defined_functions();
     let (functions, code) = open_module(alloc, features, only, bytes)?;
     write_heading(
         alloc,
@@ -186,7 +186,7 @@ pub fn count_module<C: Complaints>(
     ensures whole { IsModuleOf (IsCounted features) features only bytes.now → CountsAll result }
 {
     function_laws::sections();
-    function_laws::own_functions();
+    function_laws::defined_functions();
     let (functions, code) = open_module(alloc, features, only, bytes)?;
     match code {
         Some(code) => count_code(alloc, features, &functions, code, only, complaints),

@@ -1,6 +1,6 @@
 ghost use Rattle.std.specs.Prelude.{◌≡◌, Some, MatchOption, IfOk, IfErr, length};
-ghost use Rattle.wasm_module.specs.ModuleFunctions.{IsOwn};
-ghost use Rattle.wasm_disassembly.specs.Listing.{IsThere, OpensModule, RefusesModule};
+ghost use Rattle.wasm_module.specs.ModuleFunctions.{IsDefined};
+ghost use Rattle.wasm_disassembly.specs.Listing.{IsThere, OpensModule, FailsModule};
 
 use crate::listing_fault::{Fault, MissingFunction};
 use std::alloc::Global;
@@ -12,7 +12,7 @@ const CODE: u8 = 10;
 /// Returns the requested function if the module does not define it.
 fn lacking(functions: &Functions<'_>, only: Option<u32>) -> Option<MissingFunction>
     ensures { MatchOption result (IsThere functions.now only)
-        (λ missing. (only ≡ Some missing.index) × (IsOwn functions.now missing.index → ⊥)
+        (λ missing. (only ≡ Some missing.index) × (IsDefined functions.now missing.index → ⊥)
         × (missing.imported ≡ functions.now.imported) × (missing.defined ≡ length functions.now.types)) }
 {
     match only {
@@ -42,7 +42,7 @@ pub fn open_module<'a>(
     bytes: &'a [u8],
 ) -> Result<(Functions<'a>, Option<BinaryReader<'a>>), Fault>
     ensures opens { IfOk result (λ opened. OpensModule features only bytes.now opened.0 opened.1) }
-    ensures refuses { IfErr result (λ fault. RefusesModule features only bytes.now fault) }
+    ensures refuses { IfErr result (λ fault. FailsModule features only bytes.now fault) }
 {
     let functions = match Functions::new(alloc, features, bytes) {
         Ok(functions) => functions,

@@ -7,14 +7,14 @@ use Rattle.wasm_below.specs.Number.{EncodesUnsigned}
 use Rattle.wasm_below.specs.Sequence.{PrefixCode}
 use Rattle.wasm_below.specs.Source.{Reader, U32Fault, IsRefusal, HasRead}
 use Rattle.wasm_module.specs.Items.{ItemsOccur, IsList}
-use Rattle.wasm_module.specs.Refusals.{RefusedWith, HasItemsTo, ListFault}
+use Rattle.wasm_module.specs.Refusals.{FailsWith, HasItemsTo, ListFault}
 use Rattle.wasm_module.specs.declared.fault.ModuleFault.{ModuleFault}
 use Rattle.wasm_module.specs.declared.fault.ModuleFault.TheVariants as fault
 use Rattle.wasm_module.proofs.NamedFunctions.{not_both}
 use Rattle.wasm_module.proofs.NextItems.{all_at, one_read, same_items, more_items, next_item}
 use Rattle.wasm_module.proofs.OneFault.{one_error}
 
-pub one_refusal : (P : Error → Type 0) → ((e f : Error) → P e → P f → e ≡ f) → (f g : ModuleFault) → RefusedWith P f → RefusedWith P g → f ≡ g
+pub one_refusal : (P : Error → Type 0) → ((e f : Error) → P e → P f → e ≡ f) → (f g : ModuleFault) → FailsWith P f → FailsWith P g → f ≡ g
 one_refusal P one (fault.Refused e) (fault.Refused f) p q = ap (λ x. fault.Refused x) (one e f p q)
 one_refusal P one (fault.Refused e) (fault.NotModule said) p q = absurd q
 one_refusal P one (fault.Refused e) (fault.ImportKind byte offset) p q = absurd q
@@ -25,7 +25,7 @@ one_refusal P one (fault.ImportKind byte offset) g p q = absurd p
 one_refusal P one (fault.TypeKind byte offset) g p q = absurd p
 one_refusal P one fault.Memory g p q = absurd p
 
-pub no_refusal : (P : Error → Type 0) → ((e : Error) → P e → ⊥) → (f : ModuleFault) → RefusedWith P f → ⊥
+pub no_refusal : (P : Error → Type 0) → ((e : Error) → P e → ⊥) → (f : ModuleFault) → FailsWith P f → ⊥
 no_refusal P none (fault.Refused e) p = none e p
 no_refusal P none (fault.NotModule said) p = p
 no_refusal P none (fault.ImportKind byte offset) p = p

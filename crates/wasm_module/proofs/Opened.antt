@@ -2,7 +2,7 @@ use Rattle.std.proofs.Common.{ℕ, ◌<◌, length, Option, Some, None, refl, in
 use Rattle.wasm_below.specs.declared.error.Error.{Error}
 use Rattle.wasm_below.specs.Source.{Reader}
 use Rattle.wasm_module.specs.declared.fault.ModuleFault.TheVariants as fault
-use Rattle.wasm_module.specs.ModuleFunctions.{ModuleFunctions, DescribesFunctions, IsOwn}
+use Rattle.wasm_module.specs.ModuleFunctions.{ModuleFunctions, DescribesFunctions, IsDefined}
 use Rattle.wasm_module.specs.Refusals.{ModuleFunctionsFault, HasTypes, HasImports, HasFunctions}
 use Rattle.wasm_module.specs.Sections.{IsSection}
 use Rattle.wasm_module.specs.Bodies.{RefusesCount}
@@ -17,7 +17,7 @@ count_refused whole t (Some contents) e d is h =
     inr (inr (inl (types, imports, inr (contents, is, inl h))))
 
 -- Allocation for the name of a function may fail.
-pub memory_fault : (whole : Reader) (t : ModuleFunctions) (index : ℕ) → DescribesFunctions whole t → IsOwn t index → ModuleFunctionsFault fault.Memory whole
+pub memory_fault : (whole : Reader) (t : ModuleFunctions) (index : ℕ) → DescribesFunctions whole t → IsDefined t index → ModuleFunctionsFault fault.Memory whole
 memory_fault whole t index d (from, to) =
     let types : HasTypes whole = (d.signatures, t.parameters, d.section_of_types, d.parameters) in
     let imports : HasImports whole = (d.imports, t.imported, d.section_of_imports, d.imported) in

@@ -8,7 +8,7 @@ use Rattle.wasm_below.specs.FromReader.{EncodesReader, ReaderFault}
 use Rattle.wasm_below.specs.Number.{EncodesUnsigned}
 use Rattle.wasm_below.specs.Source.{Reader, HasRead, U32Fault, rest, offset_of, end_of, reader_of, at_position}
 use Rattle.wasm_module.specs.Items.{ItemsOccur}
-use Rattle.wasm_module.specs.ModuleFunctions.{ModuleFunctions, DescribesFunctions, IsOwn, index_of}
+use Rattle.wasm_module.specs.ModuleFunctions.{ModuleFunctions, DescribesFunctions, IsDefined, index_of}
 use Rattle.wasm_module.specs.Refusals.{ModuleFunctionsFault, IsRefusedAs}
 use Rattle.wasm_module.specs.Sections.{IsSection}
 use Rattle.wasm_module.specs.declared.bodies.WasmBodies.{WasmBodies}
@@ -64,11 +64,11 @@ abbrev pub CountsDiffer : List ℕ → Type 0
 CountsDiffer bytes = (functions bodies types code : ℕ) × DeclaresIn bytes 3 functions types × DeclaresIn bytes 10 bodies code × (bodies ≢ functions)
 
 -- Why the bodies of a module can't be read.
-abbrev pub RefusesBodies : BodiesFault → List ℕ → Type 0
-RefusesBodies (fault.Functions f) bytes = ModuleFunctionsFault f (module_of bytes)
-RefusesBodies (fault.Code e) bytes = Describes bytes × (contents : Option Reader) × IsSection (module_of bytes) 10 contents × RefusesCount e contents
-RefusesBodies fault.Counts bytes = Describes bytes × CountsDiffer bytes
-RefusesBodies fault.NoFunction bytes = ⊥
+abbrev pub FailsBodies : BodiesFault → List ℕ → Type 0
+FailsBodies (fault.Functions f) bytes = ModuleFunctionsFault f (module_of bytes)
+FailsBodies (fault.Code e) bytes = Describes bytes × (contents : Option Reader) × IsSection (module_of bytes) 10 contents × RefusesCount e contents
+FailsBodies fault.Counts bytes = Describes bytes × CountsDiffer bytes
+FailsBodies fault.NoFunction bytes = ⊥
 
 -- Between offsets `old` and `new`, the function section's contents are a type index.
 abbrev pub TakesType : List ℕ → ℕ → ℕ → ℕ → Type 0
@@ -165,10 +165,10 @@ name_at t index = text_of_name (slice_index_or t.names index [])
 -- The name, as text, of a defined function; empty if it has none.
 abbrev pub NamesFunction : List ℕ → ℕ → List ℕ → Type 0
 NamesFunction bytes index name =
-    (t : ModuleFunctions) × DescribesFunctions (module_of bytes) t × IsOwn t index × (name ≡ name_at t index)
+    (t : ModuleFunctions) × DescribesFunctions (module_of bytes) t × IsDefined t index × (name ≡ name_at t index)
 
 -- The functions can't be read, or the module does not define the function.
-abbrev pub RefusesName : BodiesFault → List ℕ → ℕ → Type 0
-RefusesName (fault.Functions f) bytes index = ModuleFunctionsFault f (module_of bytes)
-RefusesName fault.NoFunction bytes index = (t : ModuleFunctions) × DescribesFunctions (module_of bytes) t × (IsOwn t index → ⊥)
-RefusesName _ bytes index = ⊥
+abbrev pub FailsName : BodiesFault → List ℕ → ℕ → Type 0
+FailsName (fault.Functions f) bytes index = ModuleFunctionsFault f (module_of bytes)
+FailsName fault.NoFunction bytes index = (t : ModuleFunctions) × DescribesFunctions (module_of bytes) t × (IsDefined t index → ⊥)
+FailsName _ bytes index = ⊥

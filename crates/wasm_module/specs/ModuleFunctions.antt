@@ -69,8 +69,8 @@ abbrev pub index_of : ModuleFunctions → ℕ → ℕ
 index_of t ordinal = min (t.imported + ordinal) (2 ^ 32 - 1)
 
 -- The module defines the function with this index.
-abbrev pub IsOwn : ModuleFunctions → ℕ → Type 0
-IsOwn t index = (t.imported ≤ index) × (index < t.imported + length t.types)
+abbrev pub IsDefined : ModuleFunctions → ℕ → Type 0
+IsDefined t index = (t.imported ≤ index) × (index < t.imported + length t.types)
 
 -- A type's number of parameters, or 0 if the type is not known.
 abbrev pub parameters_of_type : List ℕ → Option ℕ → ℕ

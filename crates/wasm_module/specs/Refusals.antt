@@ -26,9 +26,9 @@ abbrev pub IsRefusedAs : {X : Type 0} → (List ℕ → X → Type 0) → (Messa
 IsRefusedAs Encodes Fault e r = IsRefusal Encodes e r × Fault e.message r e.offset
 
 -- The fault is an error of the bytes, for which this holds.
-abbrev pub RefusedWith : (Error → Type 0) → ModuleFault → Type 0
-RefusedWith Holds (fault.Refused e) = Holds e
-RefusedWith Holds _ = ⊥
+abbrev pub FailsWith : (Error → Type 0) → ModuleFault → Type 0
+FailsWith Holds (fault.Refused e) = Holds e
+FailsWith Holds _ = ⊥
 
 -- The preamble identifies this kind of binary.
 abbrev pub BeginsAs : PreambleKind → Reader → Type 0
@@ -88,7 +88,7 @@ FunctionsFault fault.Memory contents = HasItemWith (EncodesUnsigned 32) IsAny Is
 FunctionsFault _ contents = ⊥
 
 abbrev pub ExportsFault : ModuleFault → Reader → Type 0
-ExportsFault f contents = RefusedWith (λ e. ListFault EncodesExport ExportFault IsAny e contents) f
+ExportsFault f contents = FailsWith (λ e. ListFault EncodesExport ExportFault IsAny e contents) f
 
 -- Between the two readers are fewer than `n` sub types, all known.
 pub record HasSubTypesTo (n : ℕ) (r next : Reader) : Type 0 where
@@ -107,7 +107,7 @@ SubTypesFault fault.Memory n r = (next : Reader) × HasSubTypesTo n r next × (t
 SubTypesFault _ n r = ⊥
 
 abbrev pub AnnouncedFault : ModuleFault → Reader → Type 0
-AnnouncedFault f r = RefusedWith (λ e. BeginsWith 0x4e (rest r) × IsRefusedAs EncodesRecTypeLength RecTypeLengthFault e r) f
+AnnouncedFault f r = FailsWith (λ e. BeginsWith 0x4e (rest r) × IsRefusedAs EncodesRecTypeLength RecTypeLengthFault e r) f
 
 -- The number of sub types of a recursive type is in error, or one of them is.
 abbrev pub RecTypeFault : ModuleFault → Reader → Type 0
@@ -125,7 +125,7 @@ pub record HasTypesTo (contents next : Reader) : Type 0 where
   pub known : All AreKnownTypes rec_types
 
 abbrev pub TypesLengthFault : ModuleFault → Reader → Type 0
-TypesLengthFault f contents = RefusedWith (λ e. IsRefusedAs (EncodesUnsigned 32) U32Fault e contents) f
+TypesLengthFault f contents = FailsWith (λ e. IsRefusedAs (EncodesUnsigned 32) U32Fault e contents) f
 
 -- The number of recursive types is in error, or the next recursive type.
 abbrev pub TypesFault : ModuleFault → Reader → Type 0

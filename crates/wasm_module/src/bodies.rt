@@ -1,5 +1,5 @@
 ghost use Rattle.std.specs.Prelude.{IfOk, IfErr};
-ghost use Rattle.wasm_module.specs.Bodies.{OpensBodies, RefusesBodies};
+ghost use Rattle.wasm_module.specs.Bodies.{OpensBodies, FailsBodies};
 
 use crate::body_fault::BodiesFault;
 use crate::body_sections::{CODE, FUNCTIONS, read_count};
@@ -28,7 +28,7 @@ pub struct WasmBodies {
 /// Returns the place before the first body of a module. Fails with any fault except `NoFunction`.
 pub fn open_bodies(alloc: Global, bytes: &[u8]) -> Result<WasmBodies, BodiesFault>
     ensures opens { IfOk result (λ bodies. OpensBodies bytes.now bodies) }
-    ensures fault { IfErr result (λ fault. RefusesBodies fault bytes.now) }
+    ensures fault { IfErr result (λ fault. FailsBodies fault bytes.now) }
 {
     let features = WasmFeatures::all();
     let functions = match Functions::new(alloc, features, bytes) {

@@ -1,6 +1,6 @@
 ghost use Rattle.std.specs.Prelude.{◌≡◌, [], IfOk, IfErr, slice_index_or, string_bytes};
 ghost use Rattle.wasm_module.specs.FunctionNames.{name_bytes, bytes_of};
-ghost use Rattle.wasm_module.specs.Bodies.{text_of_name, NamesFunction, RefusesName};
+ghost use Rattle.wasm_module.specs.Bodies.{text_of_name, NamesFunction, FailsName};
 
 use crate::body_fault::BodiesFault;
 use crate::{FunctionName, Functions, ModuleFault};
@@ -51,7 +51,7 @@ fn copy_at(alloc: Global, names: &[FunctionName<'_>], index: u32) -> Result<Stri
 /// name is not UTF-8. Fails with `Functions` or `NoFunction`.
 pub fn function_name(alloc: Global, bytes: &[u8], index: u32) -> Result<String, BodiesFault>
     ensures names { IfOk result (λ name. NamesFunction bytes.now index (string_bytes name)) }
-    ensures fault { IfErr result (λ fault. RefusesName fault bytes.now index) }
+    ensures fault { IfErr result (λ fault. FailsName fault bytes.now index) }
 {
     let functions = match Functions::new(alloc, WasmFeatures::all(), bytes) {
         Ok(functions) => functions,

@@ -38,7 +38,7 @@ pub fn refusals()
 
 /// States that bytes determine the number of imported functions, and the type indices of the
 /// functions that the module defines.
-pub fn own_functions()
+pub fn defined_functions()
     ensures { (whole : Reader) → (t u : ModuleFunctions) → DescribesFunctions whole t → DescribesFunctions whole u → (t.imported ≡ u.imported) × (t.types ≡ u.types) }
 {
     unsigned_numbers();

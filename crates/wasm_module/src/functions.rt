@@ -4,7 +4,7 @@ ghost use Rattle.wasm_module.specs.Module.{SectionParts};
 ghost use Rattle.wasm_module.specs.FunctionNames.{bytes_of};
 ghost use Rattle.wasm_module.specs.Refusals.{ModuleFunctionsFault};
 ghost use Rattle.wasm_module.specs.Sections.{IsModule};
-ghost use Rattle.wasm_module.specs.ModuleFunctions.{ModuleFunctions, DescribesFunctions, IsOwn, index_of, parameters_at, NamesModule};
+ghost use Rattle.wasm_module.specs.ModuleFunctions.{ModuleFunctions, DescribesFunctions, IsDefined, index_of, parameters_at, NamesModule};
 
 use crate::fault::ModuleFault;
 use crate::found::{find_function_names, find_imported, find_parameters, find_types};
@@ -92,7 +92,7 @@ impl<'a> Functions<'a> {
 
     /// Returns whether the module defines the function with this index.
     pub fn has(&self, index: u32) -> bool
-        ensures { IsTrue result ↔ IsOwn self.now index }
+        ensures { IsTrue result ↔ IsDefined self.now index }
     {
         index >= self.imported && ((index - self.imported) as usize) < self.types.len()
     }

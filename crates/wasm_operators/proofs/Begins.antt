@@ -42,8 +42,9 @@ pub begun_without_room : (Encodes : Taking) (Fault : Refusing) (old mid new : Re
 begun_without_room Encodes Fault old mid new s t kind code start c e open_frame reads same changes opens none stays went is at =
     let b = back_to old mid code start reads same in
     let begin : mid.start ≡ old.start = ap (λ (r : Reader). r.start) b.1 in
+    let still : frame_memory t.frames t.room ≡ frame_memory s.frames s.room = ap (λ (x : OpenFrames). frame_memory x.frames x.room) stays in
     let room : s.room ≤ t.room = subst (λ (x : OpenFrames). s.room ≤ x.room) (sym stays) (omega arith) in
     room_refused Encodes Fault (state_of old s) (state_of new t) kind code e open_frame (went ∙ b.1) (ap (λ (x : OpenFrames). x.frames) stays) room
     (as_little (frame_memory s.frames s.room) (length s.frames) 10 (frame_memory s.frames s.room) (frame_memory t.frames t.room)
-    (memory_stays (frame_memory s.frames s.room) (length s.frames) 10) (ap (λ (x : OpenFrames). frame_memory x.frames x.room) stays)) b.2
+    (memory_stays (frame_memory s.frames s.room) (length s.frames) 10) still) (inl still) b.2
     (subst OpensFrame changes opens) (ap (λ (x : OpenFrames). x.room) stays ∙ none) is (omega (arith, at, begin, same))

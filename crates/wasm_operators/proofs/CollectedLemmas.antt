@@ -1,7 +1,7 @@
-use Rattle.std.proofs.Common.{◌≡◌, ℕ, List, [], ◌∷◌, ◌++◌, Result, refl, ap, ◌∙◌, append_assoc}
+use Rattle.std.proofs.Common.{◌≡◌, ℕ, ◌≤◌, List, [], ◌∷◌, ◌++◌, Result, refl, ap, ◌∙◌, append_assoc, inl, inr, arith}
 use Rattle.wasm_instr.specs.declared.operator.Operator.{Operator}
 use Rattle.wasm_operators.specs.Expression.{Placed}
-use Rattle.wasm_operators.specs.Collecting.{CollectsOne, AreMade, Collects}
+use Rattle.wasm_operators.specs.Collecting.{CollectsOne, AreMade, Collects, GrowsAsFilled}
 use Rattle.wasm_below.specs.declared.error.Error.{Error}
 use Rattle.wasm_operators.specs.Reading.{State, Adds, RunsToEnd, Decoder}
 
@@ -30,3 +30,13 @@ collected_adds old new placed (items, are, same) = same ∙ ap (λ (x : Placed).
 pub collected_runs : {X : Type 0} (decoder : Decoder) (result : Result X Error) (start end : State) (old new : Placed) →
     RunsToEnd decoder (Collects (λ op made. made ≡ op) old new) result start end → RunsToEnd decoder (Adds old new) result start end
 collected_runs decoder result start end old new (placed, collects, takes, ends) = (placed, collected_adds old new placed collects, takes, ends)
+
+-- Capacity grows twice at one number of items, and then items are added.
+pub filled_further : (before mid next now l m : ℕ) → GrowsAsFilled before l mid → GrowsAsFilled mid l next → l ≤ m → now ≡ next → GrowsAsFilled before m now
+filled_further before mid next now l m (inl same) (inl still) more is = inl (is ∙ still ∙ same)
+filled_further before mid next now l m (inl same) (inr (full, twice, few)) more is =
+    inr (omega (arith, same, full, more), omega (arith, same, twice, is), omega (arith, few, more, is))
+filled_further before mid next now l m (inr (full, twice, few)) (inl still) more is =
+    inr (omega (arith, full, more), omega (arith, twice, still, is), omega (arith, few, still, more, is))
+filled_further before mid next now l m (inr (full, twice, few)) (inr (full2, twice2, few2)) more is =
+    inr (omega (arith, full, more), omega (arith, twice, twice2, is), omega (arith, few2, more, is))

@@ -1,11 +1,13 @@
 -- The memory of the frames stays within the bound, in one read and in several.
-use Rattle.std.proofs.Common.{◌≡◌, ℕ, ◌+◌, ◌*◌, ◌≤◌, List, [], ◌∷◌, ◌++◌, length, Option, Some, None, refl, subst, sym, ap, arith}
+use Rattle.std.proofs.Common.{◌≡◌, ℕ, ◌+◌, ◌*◌, ◌<◌, ◌≤◌, List, [], ◌∷◌, ◌++◌, length, Option, Some, None, inl, inr, refl, subst, sym, ap, ◌∙◌, arith}
 use Rattle.std.specs.Option.{option_and_then}
 use Rattle.wasm_below.specs.declared.features.WasmFeatures.{WasmFeatures}
 use Rattle.wasm_grammar.specs.declared.frame_kind.FrameKind.{FrameKind}
-use Rattle.wasm_grammar.specs.Frames.{frames_after, frames_along}
+use Rattle.wasm_grammar.specs.Frames.{frames_after, frames_along, innermost}
+use Rattle.wasm_grammar.proofs.Innermost.{innermost_not_empty}
 use Rattle.wasm_instr.specs.Roles.{role_of, roles_of}
-use Rattle.wasm_operators.specs.Stack.{IsLittleMemory}
+use Rattle.wasm_operators.specs.Reading.{State, KeepsMemory, FrameMayAllocate, GrowsForFrame, GrowsForFrames}
+use Rattle.wasm_operators.specs.Stack.{IsLittleMemory, frame_memory}
 use Rattle.wasm_operators.specs.Expression.{Placed, operators, LaidOut}
 use Rattle.wasm_operators.specs.Openings.{opened_along, most_open}
 use Rattle.wasm_operators.proofs.OpeningLemmas.{twice_opened_along, along_length, after_length}
@@ -65,3 +67,48 @@ twice_most_open f offset placed text frames laid =
     let most = most_after frames placed (Some frames) 0 (λ next e. let same : next ≡ frames = cc e in let n = ap length same in omega (arith, n)) in
     let twice = twice_opened_along f offset placed text laid in
     omega (arith, most, twice)
+
+most_first : (q : Option (List FrameKind)) (first second : Placed) → most_open q first ≤ most_open q (first ++ second)
+most_first None first second = omega arith
+most_first (Some frames) [] second = most_least frames second
+most_first (Some frames) (p ∷ ps) second = let others = most_first (frames_after frames (role_of p.0)) ps second in omega (arith, others)
+
+most_second : (q : Option (List FrameKind)) (first second : Placed) (mid : List FrameKind) →
+    option_and_then (λ frames. frames_along frames (roles_of (operators first))) q ≡ Some mid → most_open (Some mid) second ≤ most_open q (first ++ second)
+most_second None first second mid along = absurd (cc along)
+most_second (Some frames) [] second mid along =
+    let same : mid ≡ frames = cc along in
+    subst (λ (x : List FrameKind). most_open (Some x) second ≤ most_open (Some frames) second) (sym same) (omega arith)
+most_second (Some frames) (p ∷ ps) second mid along =
+    let others = most_second (frames_after frames (role_of p.0)) ps second mid along in
+    omega (arith, others)
+
+some_open : (frames : List FrameKind) (kind : FrameKind) → innermost frames ≡ Some kind → 0 < length frames
+some_open [] kind open_frame = absurd (innermost_not_empty [] kind open_frame refl)
+some_open (f ∷ fs) kind open_frame = omega arith
+
+-- the memory that a frame needs is used up
+memory_full : (s : State) (placed : Placed) → FrameMayAllocate s → frame_memory s.frames s.room < most_open (Some s.frames) placed
+memory_full s placed (kind, open_frame, byte, begins, opens, none) =
+    let some = some_open s.frames kind open_frame in
+    let least = most_least s.frames placed in
+    omega (arith, none, some, least)
+
+pub grown_along : (old new : State) (placed : Placed) → GrowsForFrame old new → GrowsForFrames old placed new
+grown_along old new placed (inl same) = inl same
+grown_along old new placed (inr (may, twice)) = inr (memory_full old placed may, twice)
+
+pub grown_both : (old mid new : State) (first second : Placed) → frames_along old.frames (roles_of (operators first)) ≡ Some mid.frames →
+    GrowsForFrames old first mid → GrowsForFrames mid second new → KeepsMemory mid new → GrowsForFrames old (first ++ second) new
+grown_both old mid new first second along (inl same) (inl still) kept = inl (still ∙ same)
+grown_both old mid new first second along (inl same) (inr (full, twice)) kept =
+    let most = most_second (Some old.frames) first second mid.frames along in
+    inr (omega (arith, same, full, most), omega (arith, same, twice))
+grown_both old mid new first second along (inr (full, twice)) more kept =
+    let most = most_first (Some old.frames) first second in
+    inr (omega (arith, full, most), omega (arith, twice, kept))
+
+-- the same memory later
+pub as_grown : (old mid new : State) → GrowsForFrame old mid → frame_memory new.frames new.room ≡ frame_memory mid.frames mid.room → GrowsForFrame old new
+as_grown old mid new (inl same) still = inl (still ∙ same)
+as_grown old mid new (inr (may, twice)) still = inr (may, omega (arith, twice, still))

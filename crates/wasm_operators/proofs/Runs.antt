@@ -23,18 +23,18 @@ use Rattle.wasm_instr.specs.Roles.{role_of, roles_of}
 use Rattle.wasm_operators.specs.Expression.{Placed, OfPlaced, operators, LaidOut, AreEncoded, EncodesRest, IsPrefixAfter, Longest}
 use Rattle.wasm_operators.specs.Flat.{IsAllowedFrom}
 use Rattle.wasm_operators.specs.Openings.{opened_along, most_open}
-use Rattle.wasm_operators.specs.Reading.{Taking, State, StopsRead, IsFresh, GrowsLittle, IsUnchanged, TakesOperator, TakesOperators, StopsRun, FramesLeft, StopsFinish, Finishes, EndsRun, RunsToEnd, Decoder}
+use Rattle.wasm_operators.specs.Reading.{Taking, State, StopsRead, IsFresh, GrowsLittle, GrowsForFrames, IsUnchanged, TakesOperator, TakesOperators, StopsRun, FramesLeft, StopsFinish, Finishes, EndsRun, RunsToEnd, Decoder}
 use Rattle.wasm_operators.specs.Stack.{frame_memory}
 use Rattle.wasm_operators.specs.MainTheorem.{ReadSoFar, ReadsTree, BeginningAt, ReadsBeginning, IsWithinDepth, IsNotOutOfMemory}
 use Rattle.wasm_operators.proofs.FlatLemmas.{allowed_begins, flat_longest}
 use Rattle.wasm_operators.proofs.LayoutLemmas.{roles_of-append, operators-append, laid_append, laid_encoded, both_encoded, encoded_some, path_begins, not_empty, laid_goes_on, laid_no_longer, laid_same, one_longest, GoesOn, next_allowed}
 use Rattle.wasm_operators.proofs.OneRead.{may_end, refused_none, is_memory, path_on, read_depth}
 use Rattle.wasm_operators.proofs.OpeningLemmas.{twice_opened_along, along_length, opened_along-append}
-use Rattle.wasm_operators.proofs.FrameMemory.{memory_stays, little_longer, little_both, little_more, few_frames, most_both}
+use Rattle.wasm_operators.proofs.FrameMemory.{memory_stays, little_longer, little_both, little_more, few_frames, most_both, grown_along, grown_both}
 use Rattle.wasm_operators.proofs.Premises.{AreEach, IsSound, Keeps, TakesEach}
 
 pub ran_start : (s : State) → TakesOperators s s []
-ran_start s = record { text = []; takes = takes_none s.reader; laid = refl; frames = refl; room = omega arith; memory = memory_stays (frame_memory s.frames s.room) (length s.frames) 10; kept = omega arith; deepest = omega arith }
+ran_start s = record { text = []; takes = takes_none s.reader; laid = refl; frames = refl; room = omega arith; memory = memory_stays (frame_memory s.frames s.room) (length s.frames) 10; kept = omega arith; deepest = omega arith; grows = inl refl }
 
 pub features_stay : (old new : Reader) (text : List ℕ) → Takes old new text → new.features ≡ old.features
 features_stay old new text t = ap (λ (r : Reader). r.features) t.moved
@@ -50,6 +50,7 @@ ran_one Encodes sound old new op t = record {
   memory = little_longer (frame_memory old.frames old.room) (length old.frames) (length t.text) (frame_memory new.frames new.room) t.memory;
   kept = t.kept;
   deepest = subst (λ q. max (length old.frames) (most_open q []) ≤ frame_memory new.frames new.room + 1) (sym t.frames) (let kept = t.kept in omega (arith, kept));
+  grows = grown_along old new ((op, offset_of old.reader) ∷ []) t.grows;
 }
 
 pub ran_join : (old mid new : State) (first second : Placed) → TakesOperators old mid first → TakesOperators mid new second →
@@ -76,6 +77,7 @@ ran_join old mid new first second r t =
       kept = let first = r.kept in let second = t.kept in omega (arith, first, second);
       deepest = most_both (Some old.frames) first second mid.frames (frame_memory new.frames new.room + 1) r.frames
           (let most = r.deepest in let kept = t.kept in omega (arith, most, kept)) t.deepest;
+      grows = grown_both old mid new first second r.frames r.grows t.grows t.kept;
     }
   where
     joined_room : (a b c m n k : ℕ) → a ≤ b + m → b ≤ c + n → k ≡ m + n → a ≤ c + k
@@ -90,7 +92,8 @@ right-zero : (n : ℕ) → n + 0 ≡ n
 right-zero n = omega arith
 
 pub ran_unchanged : (old mid new : State) (placed : Placed) → TakesOperators old mid placed → IsUnchanged mid new → TakesOperators old new placed
-ran_unchanged old mid new placed r (reader, frames, room, memory) =
+ran_unchanged old mid new placed r (reader, frames, room, memory, grows) =
+    let depth = ap length frames in
     record {
       text = r.text;
       takes = subst (λ s. Takes old.reader s r.text) (sym reader) r.takes;
@@ -100,8 +103,10 @@ ran_unchanged old mid new placed r (reader, frames, room, memory) =
       memory = subst (λ n. GrowsLittle n old new) (right-zero (length r.text))
           (little_more (frame_memory old.frames old.room) (length old.frames) (length r.text) (frame_memory mid.frames mid.room) (length mid.frames) 0
           (frame_memory new.frames new.room) r.memory memory (few_frames old.reader.features (offset_of old.reader) placed r.text old.frames mid.frames r.laid r.frames));
-      kept = let first = r.kept in let depth = ap length frames in omega (arith, first, room, depth);
-      deepest = let most = r.deepest in let depth = ap length frames in omega (arith, most, room, depth);
+      kept = let first = r.kept in omega (arith, first, room, depth);
+      deepest = let most = r.deepest in omega (arith, most, room, depth);
+      grows = subst (λ (p : Placed). GrowsForFrames old p new) (append-nil placed)
+          (grown_both old mid new placed [] r.frames r.grows (grown_along mid new [] grows) (omega (arith, room, depth)));
     }
 
 pub run_stops : (decoder : Decoder) (e : Error) (mid new : State) → (rest mid.reader ≡ [] → ⊥) → IsUnchanged mid new →

@@ -1,5 +1,5 @@
 -- Bytes that encode no body fail in one way, unless allocation fails.
-use Rattle.std.proofs.Common.{◌≡◌, ◌≢◌, ℕ, List, [], Some, Ok, Err, sym, ap, ◌∙◌, arith, inl, inr}
+use Rattle.std.proofs.Common.{◌≡◌, ◌≢◌, ℕ, List, [], length, Some, Ok, Err, sym, ap, ◌∙◌, arith, inl, inr}
 use Rattle.wasm_below.specs.declared.error.Error.{Error}
 use Rattle.wasm_below.specs.declared.message.Message.TheVariants as message
 use Rattle.wasm_below.specs.Source.{Reader, rest, offset_of, source_of}
@@ -65,6 +65,7 @@ ran_after e body placed h =
       memory = omega (arith, few, left);
       kept = omega (arith, least);
       deepest = omega arith;
+      grows = let one = ap length h.opens.1 in inr (omega (arith, one, least), omega (arith, one));
     }
 
 no_locals_read : (e : Error) (body : Reader) (opened : State) → RefusesLocals e body → OpensBody (Ok opened) body → ⊥

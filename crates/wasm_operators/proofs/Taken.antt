@@ -17,9 +17,9 @@ use Rattle.wasm_decode_opcodes.specs.Decoding.{DecodesOperator, IsAfterCode}
 use Rattle.wasm_decode_opcodes.specs.Refused.{MayAllocate}
 use Rattle.wasm_operators.specs.Expression.{IsAny}
 use Rattle.wasm_operators.specs.Openings.{opened_by}
-use Rattle.wasm_operators.specs.Reading.{Taking, Refusing, Decoder, State, GrowsLittle, IsUnchanged, TakesOperator, StopsRead}
+use Rattle.wasm_operators.specs.Reading.{Taking, Refusing, Decoder, State, GrowsLittle, GrowsForFrame, IsUnchanged, TakesOperator, StopsRead}
 use Rattle.wasm_operators.specs.Stack.{frame_memory}
-use Rattle.wasm_operators.proofs.FrameMemory.{as_little}
+use Rattle.wasm_operators.proofs.FrameMemory.{as_little, as_grown}
 use Rattle.wasm_operators.proofs.OneRead.{stops_read}
 use Rattle.wasm_operators.proofs.Premises.{IsSound}
 use Rattle.wasm_operators.specs.Next.{NextMayAllocate, BeginsOperator}
@@ -64,6 +64,7 @@ begun_took Encodes sound allowed old mid new kind code start op text b encodes t
       room = omega (arith, used, kept, opening);
       memory = as_little (frame_memory old.frames old.room) (length old.frames) 10 (frame_memory mid.frames mid.room) (frame_memory new.frames new.room) b.memory same;
       kept = let depth = ap length b.frames in omega (arith, kept, same, depth);
+      grows = as_grown old mid new b.grows same;
     }
 
 pub begun_kept : (Encodes : Taking) → IsSound Encodes → TakesAllowed Encodes → (old mid new : State) (kind : FrameKind) (code start : ℕ) (op : Operator)
@@ -77,11 +78,11 @@ begun_kept Encodes sound allowed old mid new kind code start op text high b enco
 
 pub refused_unchanged : (Encodes : Taking) (Fault : Refusing) (old new : State) (kind : FrameKind) (e : Error) → innermost old.frames ≡ Some kind →
     DecodesOperator (Encodes old.reader.features kind) (Fault old.reader.features kind) (Err e) old.reader new.reader → new.frames ≡ old.frames → old.room ≤ new.room →
-    GrowsLittle 0 old new → IsUnchanged old new × StopsRead (one_read Encodes Fault) e new
-refused_unchanged Encodes Fault old new kind e open_frame (same, refused) frames room memory =
+    GrowsLittle 0 old new → GrowsForFrame old new → IsUnchanged old new × StopsRead (one_read Encodes Fault) e new
+refused_unchanged Encodes Fault old new kind e open_frame (same, refused) frames room memory grows =
     let list : MayAllocate (Encodes old.reader.features kind) old.reader → MayAllocate (Encodes new.reader.features kind) new.reader =
     λ h. subst (λ (r : Reader). MayAllocate (Encodes r.features kind) r) (sym same) h in (
-      (same, frames, room, memory),
+      (same, frames, room, memory, grows),
       stops_read (one_read Encodes Fault) e old new kind same frames open_frame refused.refuses refused.ahead refused.fault
           (λ m. let h = refused.memory m in (h.1, inr (kind, ap innermost frames ∙ open_frame, list h.0))),
     )
@@ -91,18 +92,20 @@ pub begun_stopped : (Encodes : Taking) (Fault : Refusing) (old mid new : State) 
     new.frames ≡ mid.frames → new.room ≡ mid.room → IsUnchanged old new × StopsRead (one_read Encodes Fault) e new
 begun_stopped Encodes Fault old mid new kind code start e b refused frames room =
     let features : mid.reader.features ≡ old.reader.features = ap (λ (r : Reader). r.features) b.back in
+    let still : frame_memory new.frames new.room ≡ frame_memory mid.frames mid.room =
+    ap (λ (n : ℕ). frame_memory new.frames n) room ∙ ap (λ (fs : List FrameKind). frame_memory fs mid.room) frames in
     refused_unchanged Encodes Fault old new kind e b.open_frame
     (subst (λ (f : WasmFeatures). DecodesOperator (Encodes f kind) (Fault f kind) (Err e) old.reader new.reader) features
     (subst (λ (r : Reader). DecodesOperator (Encodes mid.reader.features kind) (Fault mid.reader.features kind) (Err e) r new.reader) b.back refused))
     (frames ∙ b.frames) (subst (λ (n : ℕ). old.room ≤ n) (sym room) b.room)
-    (as_little (frame_memory old.frames old.room) (length old.frames) 10 (frame_memory mid.frames mid.room) (frame_memory new.frames new.room) b.memory
-    (ap (λ (n : ℕ). frame_memory new.frames n) room ∙ ap (λ (fs : List FrameKind). frame_memory fs mid.room) frames))
+    (as_little (frame_memory old.frames old.room) (length old.frames) 10 (frame_memory mid.frames mid.room) (frame_memory new.frames new.room) b.memory still)
+    (as_grown old mid new b.grows still)
 
 pub room_refused : (Encodes : Taking) (Fault : Refusing) (old new : State) (kind : FrameKind) (code : ℕ) (e : Error) → innermost old.frames ≡ Some kind →
-    new.reader ≡ old.reader → new.frames ≡ old.frames → old.room ≤ new.room → GrowsLittle 0 old new → BeginsWith code (rest old.reader) → OpensFrame (change_at code) → new.room ≡ 0 → e.message ≡ message.OutOfMemory → e.offset ≡ offset_of old.reader →
+    new.reader ≡ old.reader → new.frames ≡ old.frames → old.room ≤ new.room → GrowsLittle 0 old new → GrowsForFrame old new → BeginsWith code (rest old.reader) → OpensFrame (change_at code) → new.room ≡ 0 → e.message ≡ message.OutOfMemory → e.offset ≡ offset_of old.reader →
     IsUnchanged old new × StopsRead (one_read Encodes Fault) e new
-room_refused Encodes Fault old new kind code e open_frame same frames room memory begins opens none is at = (
-  (same, frames, room, memory),
+room_refused Encodes Fault old new kind code e open_frame same frames room memory grows begins opens none is at = (
+  (same, frames, room, memory, grows),
   inr (inr (
     is,
     at ∙ ap offset_of (sym same),

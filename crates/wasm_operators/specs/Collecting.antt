@@ -1,4 +1,4 @@
-use Rattle.std.specs.Prelude.{◌≡◌, ℕ, List, [], ◌∷◌, ◌++◌}
+use Rattle.std.specs.Prelude.{◌≡◌, ◌⊎◌, ℕ, ◌+◌, ◌*◌, ◌≤◌, List, [], ◌∷◌, ◌++◌}
 use Rattle.wasm_instr.specs.declared.operator.Operator.{Operator}
 use Rattle.wasm_operators.specs.Expression.{Placed}
 
@@ -14,3 +14,8 @@ AreMade {T} holds (p ∷ ps) items = (first : T) × (others : List (T × ℕ)) �
 -- Items made of these operators were appended.
 abbrev pub Collects : {T : Type 0} → (Operator → T → Type 0) → List (T × ℕ) → List (T × ℕ) → Placed → Type 0
 Collects {T} holds old new placed = (items : List (T × ℕ)) × AreMade holds placed items × (new ≡ old ++ items)
+
+-- A list's capacity stays as it is; or the list fills it, and it at least doubles, to at most twice
+-- the number of items, plus 4.
+abbrev pub GrowsAsFilled : ℕ → ℕ → ℕ → Type 0
+GrowsAsFilled before items now = (now ≡ before) ⊎ ((before ≤ items) × (2 * before ≤ now) × (now ≤ 2 * items + 4))

@@ -12,7 +12,7 @@ use Rattle.wasm_decode_opcodes.specs.Refused.{MayAllocate}
 use Rattle.wasm_operators.specs.Stack.{OpenFrames}
 use Rattle.wasm_operators.specs.Expression.{IsAny}
 use Rattle.wasm_operators.specs.Visiting.{IsScalar}
-use Rattle.wasm_operators.specs.Reading.{Taking, Allocating, Decoder, Anywhere, State, GrowsLittle, FrameMayAllocate, IsUnchanged, StopsRead, ReadsOperator, VisitsOperator}
+use Rattle.wasm_operators.specs.Reading.{Taking, Allocating, Decoder, Anywhere, State, GrowsLittle, GrowsForFrame, FrameMayAllocate, IsUnchanged, StopsRead, ReadsOperator, VisitsOperator}
 
 -- The next operator may own a list.
 abbrev pub ListMayAllocate : Taking → Allocating
@@ -67,4 +67,5 @@ pub record BeginsOperator (old new : State) (kind : FrameKind) (start code : ℕ
   pub frames : new.frames ≡ old.frames
   pub room : old.room ≤ new.room
   pub memory : GrowsLittle 0 old new
+  pub grows : GrowsForFrame old new
   pub opens : OpensFrame (change_at code) → (new.frames ≡ []) ⊎ (0 < new.room)

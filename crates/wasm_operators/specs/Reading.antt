@@ -1,6 +1,6 @@
 -- The definitions take the decoder as a record. So they serve reads, visits, and visits without
 -- SIMD operators.
-use Rattle.std.specs.Prelude.{◌≡◌, ℕ, ◌+◌, ◌≤◌, List, [], ◌∷◌, ◌++◌, length, Some, Result, Ok, Err, ◌⊎◌}
+use Rattle.std.specs.Prelude.{◌≡◌, ℕ, ◌+◌, ◌*◌, ◌<◌, ◌≤◌, List, [], ◌∷◌, ◌++◌, length, Some, Result, Ok, Err, ◌⊎◌}
 use Rattle.wasm_below.specs.declared.error.Error.{Error}
 use Rattle.wasm_below.specs.declared.features.WasmFeatures.{WasmFeatures}
 use Rattle.wasm_below.specs.declared.message.Message.{Message}
@@ -59,9 +59,31 @@ KeepsMemory old new = frame_memory old.frames old.room ≤ frame_memory new.fram
 abbrev pub HoldsMostOpen : State → Placed → State → Type 0
 HoldsMostOpen old placed new = most_open (Some old.frames) placed ≤ frame_memory new.frames new.room + 1
 
--- Only the capacity may have grown, within `GrowsLittle`.
+-- The next opcode opens a frame inside others, without capacity for it. What follows it may be in
+-- error.
+abbrev pub FrameMayAllocate : Allocating
+FrameMayAllocate s = (kind : FrameKind) × (innermost s.frames ≡ Some kind) × (byte : ℕ) × BeginsWith byte (rest s.reader) × OpensFrame (change_at byte) × (s.room ≡ 0)
+
+-- The memory of the frames at least doubles.
+abbrev pub DoublesMemory : State → State → Type 0
+DoublesMemory old new = 2 * frame_memory old.frames old.room ≤ frame_memory new.frames new.room
+
+-- The memory of the frames stays as it is; or the next operator opens a frame without capacity for
+-- it, and the memory at least doubles.
+abbrev pub GrowsForFrame : State → State → Type 0
+GrowsForFrame old new = (frame_memory new.frames new.room ≡ frame_memory old.frames old.room) ⊎ (FrameMayAllocate old × DoublesMemory old new)
+
+-- The memory of the frames stays as it is; or the frames that are open at once along these operators
+-- fill it, and it at least doubles.
+abbrev pub GrowsForFrames : State → Placed → State → Type 0
+GrowsForFrames old placed new =
+    (frame_memory new.frames new.room ≡ frame_memory old.frames old.room) ⊎
+    ((frame_memory old.frames old.room < most_open (Some old.frames) placed) × DoublesMemory old new)
+
+-- Only the capacity may have grown, within `GrowsLittle`, and as `GrowsForFrame` says.
 abbrev pub IsUnchanged : State → State → Type 0
-IsUnchanged old new = (new.reader ≡ old.reader) × (new.frames ≡ old.frames) × (old.room ≤ new.room) × GrowsLittle 0 old new
+IsUnchanged old new =
+    (new.reader ≡ old.reader) × (new.frames ≡ old.frames) × (old.room ≤ new.room) × GrowsLittle 0 old new × GrowsForFrame old new
 
 -- The readers are at one place, with the same frames.
 abbrev pub SameReaderAndFrames : State → State → Type 0
@@ -79,6 +101,7 @@ pub record TakesOperator (Encodes : Taking) (op : Operator) (old new : State) : 
   pub room : old.room ≤ new.room + opened_by op
   pub memory : GrowsLittle 0 old new
   pub kept : KeepsMemory old new
+  pub grows : GrowsForFrame old new
 
 abbrev pub NoFrameOpen : Error → State → Type 0
 NoFrameOpen e s = (s.frames ≡ []) × (e.message ≡ message.OperatorsRemaining) × (e.offset ≡ offset_of s.reader)
@@ -98,11 +121,6 @@ NoMemory Allocates e s = (e.message ≡ message.OutOfMemory) × (e.offset ≡ of
 -- Allocation may fail in every state.
 abbrev pub Anywhere : Allocating
 Anywhere s = Unit {0}
-
--- The next opcode opens a frame inside others, without capacity for it. What follows it may be in
--- error.
-abbrev pub FrameMayAllocate : Allocating
-FrameMayAllocate s = (kind : FrameKind) × (innermost s.frames ≡ Some kind) × (byte : ℕ) × BeginsWith byte (rest s.reader) × OpensFrame (change_at byte) × (s.room ≡ 0)
 
 -- No frame is open, no operator can be read, or allocation fails.
 abbrev pub StopsRead : Decoder → Error → State → Type 0
@@ -128,6 +146,7 @@ pub record TakesOperators (old new : State) (placed : Placed) : Type 0 where
   pub memory : GrowsLittle (length text) old new
   pub kept : KeepsMemory old new
   pub deepest : HoldsMostOpen old placed new
+  pub grows : GrowsForFrames old placed new
 
 -- Why finishing returns this message, at the reader's position.
 abbrev pub StopsFinish : Message → Type 0 → Reader → Type 0

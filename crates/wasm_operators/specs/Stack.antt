@@ -28,3 +28,11 @@ GrowsByDoubling needed old new =
 -- Frame memory has the same size.
 abbrev pub IsSameMemory : OpenFrames → OpenFrames → Type 0
 IsSameMemory old new = frame_memory new.frames new.room ≡ frame_memory old.frames old.room
+
+-- There is space for twice the frames that were open, apart from the innermost.
+abbrev pub HoldsTwice : OpenFrames → OpenFrames → Type 0
+HoldsTwice old new = 2 * (length old.frames - 1) ≤ frame_memory new.frames new.room
+
+-- Frame memory has the same size; or it had no space for `needed` more, and `HoldsTwice`.
+abbrev pub GrowsIfFull : ℕ → OpenFrames → OpenFrames → Type 0
+GrowsIfFull needed old new = IsSameMemory old new ⊎ ((old.room < needed) × HoldsTwice old new)

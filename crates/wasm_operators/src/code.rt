@@ -115,6 +115,7 @@ impl<'a> FunctionBody<'a> {
     pub fn get_operators_reader(&self, alloc: Global) -> Result<OperatorsReader<'a>>
         ensures opens { OpensBody result self.now }
         ensures read_so_far { IfOk result (λ operators. ReadSoFar [] operators) }
+        ensures room { IfOk result (λ operators. operators.room ≡ 0) }
     {
         match self.get_binary_reader_for_operators() {
             Ok(reader) => Ok(OperatorsReader::new(alloc, reader)),

@@ -1,5 +1,5 @@
 //! The visitor that appends operators to a list.
-ghost use Rattle.std.specs.Prelude.{◌<◌, ◌≤◌, vec_capacity, vec_len};
+ghost use Rattle.std.specs.Prelude.{◌≡◌, ◌<◌, vec_capacity, vec_len};
 ghost use Rattle.wasm_instr.specs.declared.operator.Operator.{Operator};
 ghost use Rattle.wasm_operators.specs.Collecting.{CollectsOne};
 
@@ -24,7 +24,7 @@ impl<T: HoldOperator + Drop> Visitor for Collector<T> {
     // If the list has capacity, a visit appends one item.
     ghost visits = { λ before op outcome after. vec_len before.items < vec_capacity before.items
         → CollectsOne T.holds before.offset before.items.items op after.items.items
-        × (vec_capacity before.items ≤ vec_capacity after.items) };
+        × (vec_capacity after.items ≡ vec_capacity before.items) };
 
     #[inline(always)]
     fn visit_any(&mut self, op: Operator<'static>) {

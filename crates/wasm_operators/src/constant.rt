@@ -78,6 +78,7 @@ impl<'a> ConstExpr<'a> {
         ensures reader { result.reader ≡ self.now }
         ensures fresh { IsFresh result }
         ensures read_so_far { ReadSoFar [] result }
+        ensures room { result.room ≡ 0 }
     {
         OperatorsReader::new(alloc, self.reader.clone())
     }

@@ -1,11 +1,11 @@
 //! Reading and visiting to the end of the data.
-ghost use Rattle.std.specs.Prelude.{◌≡◌, ◌+◌, ◌<◌, ◌≤◌, ◌⊎◌, IfErr, vec_capacity, vec_len};
+ghost use Rattle.std.specs.Prelude.{◌≡◌, ◌+◌, ◌<◌, ◌≤◌, ◌⊎◌, length, IfErr, vec_capacity, vec_len};
 ghost use Rattle.wasm_decode_opcodes.specs.Allowed.{EncodesAllowed};
 ghost use Rattle.wasm_operators.specs.Next.{NextMayAllocate, all_operators, collecting, scalar_operators};
 ghost use Rattle.wasm_operators.specs.Visiting.{Visited, VisitedScalar};
 ghost use Rattle.wasm_operators.specs.Reading.{RunsToEnd, Adds};
 ghost use Rattle.wasm_operators.specs.MainTheorem.{ReadsRest, ReadsFlat, StopsAtSimd, IsWithinDepth};
-ghost use Rattle.wasm_operators.specs.Collecting.{Collects};
+ghost use Rattle.wasm_operators.specs.Collecting.{Collects, GrowsAsFilled};
 
 use crate::collector::Collector;
 use crate::operators::OperatorsReader;
@@ -21,6 +21,7 @@ impl<'a> OperatorsReader<'a> {
         T: HoldTable<'a> + Drop,
         ensures runs { RunsToEnd collecting (Collects T.holds out.old.items out.new.items) result self.old self.new }
         ensures kept { vec_capacity out.old ≤ vec_capacity out.new }
+        ensures grows { GrowsAsFilled (vec_capacity out.old) (length out.new.items) (vec_capacity out.new) }
         ensures memory { IfErr result
             (λ e. e.message ≡ Message.OutOfMemory
             → NextMayAllocate EncodesAllowed self.new ⊎ (vec_capacity out.new < vec_len out.new + 1)) }
@@ -57,6 +58,7 @@ impl<'a> OperatorsReader<'a> {
         ensures flat { ReadsFlat collecting (Adds out.old.items out.new.items) result self.old }
         ensures depth { IsWithinDepth self.old self.new }
         ensures kept { vec_capacity out.old ≤ vec_capacity out.new }
+        ensures grows { GrowsAsFilled (vec_capacity out.old) (length out.new.items) (vec_capacity out.new) }
         // Allocation fails only if one read may allocate, or if `out` is full.
         ensures memory { IfErr result
             (λ e. e.message ≡ Message.OutOfMemory

@@ -181,6 +181,7 @@ impl<'a> LocalsIterator<'a> {
         ensures reader { result.reader ≡ self.entry.locals.reader }
         ensures fresh { IsFresh result }
         ensures read_so_far { ReadSoFar [] result }
+        ensures room { result.room ≡ 0 }
         ensures after { (body : Reader) (declarations : List Declaration) → self.entry.left ≡ 0
             → HasStepped declarations body self.entry → IsPastLocals declarations body result.reader }
     {

@@ -2,10 +2,10 @@
 //!
 //! The reader and the stack are borrowed separately, so that a loop can hold the reader in a local
 //! variable, which stays in registers as long as no call out of line borrows it.
-ghost use Rattle.std.specs.Prelude.{◌≡◌, ◌+◌, ◌<◌, ◌≤◌, ◌⊎◌, [], OnOk, IfErr, vec_capacity, vec_len};
+ghost use Rattle.std.specs.Prelude.{◌≡◌, ◌+◌, ◌<◌, ◌≤◌, ◌⊎◌, [], length, OnOk, IfErr, vec_capacity, vec_len};
 ghost use Rattle.wasm_below.specs.Source.{rest};
 ghost use Rattle.wasm_decode_opcodes.specs.Allowed.{EncodesAllowed};
-ghost use Rattle.wasm_operators.specs.Collecting.{Collects};
+ghost use Rattle.wasm_operators.specs.Collecting.{Collects, GrowsAsFilled};
 ghost use Rattle.wasm_operators.specs.Next.{NextMayAllocate, collecting, state_of};
 ghost use Rattle.wasm_operators.specs.Expression.{Placed};
 ghost use Rattle.wasm_operators.specs.Reading.{StopsRun, TakesOperators, VisitsOperator};
@@ -14,6 +14,7 @@ ghost use Rattle.wasm_operators.specs.Sets.{decoder_of, VisitedOf};
 use crate::ControlStack;
 use crate::begin::{KEEPS_FRAMES_FROM, begin};
 use crate::collector::Collector;
+use crate::reserve::reserve_one;
 use std::alloc::Global;
 use wasm_below::{BinaryReader, Error, Message, Result};
 use wasm_decode::{AllOperators, OperatorSet, visit_after_opcode, visit_below_0x20};
@@ -94,6 +95,7 @@ where
     ensures end { OnOk result (rest reader.new ≡ []) }
     ensures stopped { IfErr result (λ e. StopsRun collecting e (state_of reader.new control.new)) }
     ensures kept { vec_capacity list.old.items ≤ vec_capacity list.new.items }
+    ensures grows { GrowsAsFilled (vec_capacity list.old.items) (length list.new.items.items) (vec_capacity list.new.items) }
     ensures memory { IfErr result
         (λ e. e.message ≡ Message.OutOfMemory
         → NextMayAllocate EncodesAllowed (state_of reader.new control.new)
@@ -101,7 +103,7 @@ where
 {
     'operators: while !reader.eof() {
         list.offset = reader.original_position();
-        if list.items.try_reserve(1).is_err() {
+        if reserve_one(&mut list.items).is_err() {
             return Err(Error::new(Message::OutOfMemory, list.offset));
         }
         match visit_next::<Collector<T>, AllOperators>(alloc, list, reader, control) {

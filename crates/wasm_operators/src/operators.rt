@@ -40,11 +40,13 @@ impl<'a> Model for OperatorsReader<'a> {
 }
 
 impl<'a> OperatorsReader<'a> {
-    /// Creates a reader of the expression that starts at the position of `reader`.
+    /// Creates a reader of the expression that starts at the position of `reader`, without
+    /// allocating.
     pub fn new(alloc: Global, reader: BinaryReader<'a>) -> OperatorsReader<'a>
         ensures reader { result.reader ≡ reader.entry }
         ensures fresh { IsFresh result }
         ensures read_so_far { ReadSoFar [] result }
+        ensures room { result.room ≡ 0 }
     {
         OperatorsReader {
             alloc,

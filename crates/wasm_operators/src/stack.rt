@@ -1,9 +1,10 @@
-ghost use Rattle.std.specs.Prelude.{◌≡◌, ◌↔◌, ◌+◌, ◌≤◌, ◌<◌, [], ◌∷◌, ◌++◌, length, IsTrue, IsSome, IsOk, OnOk, OnErr, IfOk, IfErr, max, vec_capacity, vec_len};
+ghost use Rattle.std.specs.Prelude.{◌≡◌, ◌↔◌, ◌+◌, ◌≤◌, ◌<◌, [], ◌∷◌, ◌++◌, length, IsTrue, IsSome, IsOk, OnOk, OnErr, IfOk, IfErr, max};
 ghost use Rattle.wasm_grammar.specs.Frames.{frames_changed, innermost, opened, OpensFrame, without_innermost};
 ghost use Rattle.wasm_imm.specs.OutOfMemory.{IsOutOfMemoryAt};
-ghost use Rattle.wasm_operators.specs.Stack.{HasRoom, GrowsByDoubling, IsSameMemory, frame_memory};
+ghost use Rattle.wasm_operators.specs.Stack.{HasRoom, GrowsByDoubling, GrowsIfFull, IsSameMemory, frame_memory};
 
-use std::alloc::{AllocError, Global};
+use crate::reserve::reserve_exact;
+use std::alloc::Global;
 use std::marker::Model;
 use std::mem::replace;
 use wasm_below::{Error, Message, Result};
@@ -102,8 +103,9 @@ impl ControlStack {
         self.current
     }
 
-    /// Reserves capacity for at least `frames` more frames; `GrowsByDoubling` is the upper bound.
-    /// Fails with `OutOfMemory` at offset 0.
+    /// Reserves capacity for at least `frames` more frames. If it allocates, then for at least as
+    /// many more as the stack holds; `GrowsByDoubling` is the upper bound. Fails with `OutOfMemory`
+    /// at offset 0.
     #[inline(always)]
     pub fn reserve(&mut self, frames: usize) -> Result<()>
         ensures frames { self.new.frames ≡ self.old.frames }
@@ -111,6 +113,7 @@ impl ControlStack {
         ensures kept { self.old.room ≤ self.new.room }
         ensures enough { frames ≤ self.old.room → IsOk result }
         ensures memory { GrowsByDoubling frames self.old self.new }
+        ensures grows { GrowsIfFull frames self.old self.new }
         ensures refused { IfErr result (λ e. IsOutOfMemoryAt 0 e × (self.new ≡ self.old)) }
     {
         if frames <= self.around.capacity() - self.around.len() {
@@ -123,10 +126,12 @@ impl ControlStack {
     /// variable into which the vector is moved is borrowed, so that a stack stays in registers.
     #[inline(always)]
     fn grow(&mut self, frames: usize) -> Result<()>
+        requires { self.old.room < frames }
         ensures frames { self.new.frames ≡ self.old.frames }
         ensures room { OnOk result (frames ≤ self.new.room) }
         ensures kept { self.old.room ≤ self.new.room }
         ensures memory { GrowsByDoubling frames self.old self.new }
+        ensures grows { GrowsIfFull frames self.old self.new }
         ensures refused { IfErr result (λ e. IsOutOfMemoryAt 0 e × (self.new ≡ self.old)) }
     {
         let more = frames.max(self.around.len()).max(LEAST);
@@ -148,6 +153,7 @@ impl ControlStack {
         ensures kept { frame_memory self.old.frames self.old.room ≤ frame_memory self.new.frames self.new.room }
         ensures enough { HasRoom self.old → IsOk result }
         ensures memory { GrowsByDoubling 1 self.old self.new }
+        ensures grows { GrowsIfFull 1 self.old self.new }
         ensures refused { IfErr result (λ e. IsOutOfMemoryAt 0 e × (self.new ≡ self.old)) }
     {
         if self.current.is_some() && self.reserve(1).is_err() {
@@ -277,16 +283,4 @@ impl OperatorsReaderAllocations {
         }
         Ok(())
     }
-}
-
-#[cold]
-#[inline(never)]
-fn reserve_exact(around: &mut Vec<FrameKind>, more: usize) -> std::result::Result<(), AllocError>
-    ensures items { around.new.items ≡ around.old.items }
-    ensures kept { vec_capacity around.old ≤ vec_capacity around.new }
-    ensures room { OnOk result (vec_len around.new + more ≤ vec_capacity around.new) }
-    ensures exact { OnOk result (vec_capacity around.new ≡ max (vec_capacity around.old) (vec_len around.old + more)) }
-    ensures refused { OnErr result (vec_capacity around.new ≡ vec_capacity around.old) }
-{
-    around.try_reserve_exact(more)
 }

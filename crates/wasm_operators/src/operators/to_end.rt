@@ -1,7 +1,7 @@
 //! Visiting to the end, with the reader of the bytes in a local variable, and for visits the stack.
-ghost use Rattle.std.specs.Prelude.{◌≡◌, ◌+◌, ◌<◌, ◌≤◌, ◌⊎◌, IfErr, vec_capacity, vec_len};
+ghost use Rattle.std.specs.Prelude.{◌≡◌, ◌+◌, ◌<◌, ◌≤◌, ◌⊎◌, length, IfErr, vec_capacity, vec_len};
 ghost use Rattle.wasm_decode_opcodes.specs.Allowed.{EncodesAllowed};
-ghost use Rattle.wasm_operators.specs.Collecting.{Collects};
+ghost use Rattle.wasm_operators.specs.Collecting.{Collects, GrowsAsFilled};
 ghost use Rattle.wasm_operators.specs.Next.{NextMayAllocate, collecting};
 ghost use Rattle.wasm_operators.specs.Reading.{RunsToEnd};
 ghost use Rattle.wasm_operators.specs.Sets.{decoder_of, VisitedOf};
@@ -21,6 +21,7 @@ impl<'a> OperatorsReader<'a> {
         T: HoldTable<'a> + Drop,
         ensures runs { RunsToEnd collecting (Collects T.holds list.old.items.items list.new.items.items) result self.old self.new }
         ensures kept { vec_capacity list.old.items ≤ vec_capacity list.new.items }
+        ensures grows { GrowsAsFilled (vec_capacity list.old.items) (length list.new.items.items) (vec_capacity list.new.items) }
         ensures memory { IfErr result
             (λ e. e.message ≡ Message.OutOfMemory
             → NextMayAllocate EncodesAllowed self.new ⊎ (vec_capacity list.new.items < vec_len list.new.items + 1)) }

@@ -16,7 +16,7 @@ returns-in_err-functions-clause-counts g c =
 pub returns-in_err-functions-clause-whole : goal.returns-in_err-functions-clause-whole
 returns-in_err-functions-clause-whole g c = λ h.
     let p = err_from_is_err_and c.from_residual.result c.from_residual.ensures.1 in
-    rw (p.1, p.2) (refused_outside c.own_functions.ensures (IsCounted c.args.features) c.args.features c.args.only c.args.bytes.now
+    rw (p.1, p.2) (refused_outside c.defined_functions.ensures (IsCounted c.args.features) c.args.features c.args.only c.args.bytes.now
     c.in_err-functions.field-0.0 c.in_err-functions.ensures.refuses h)
 
 pub returns-in-Some-clause-counts : goal.returns-in-Some-clause-counts
@@ -28,7 +28,7 @@ returns-in-Some-clause-counts g c =
 pub returns-in-Some-clause-whole : goal.returns-in-Some-clause-whole
 returns-in-Some-clause-whole g c =
     λ h.
-    let there = asked_there c.sections.ensures c.own_functions.ensures (IsCounted c.args.features) c.args.features c.args.only c.args.bytes.now c.in_ok-functions.functions
+    let there = asked_there c.sections.ensures c.defined_functions.ensures (IsCounted c.args.features) c.args.features c.args.only c.args.bytes.now c.in_ok-functions.functions
     c.in_ok-functions.code c.in_ok-functions.ensures.opens h in
     let (bodies, code, asked) = subst (λ (found : Option Reader). HasAsked (IsCounted c.args.features) c.in_ok-functions.functions c.args.only found) c.in-Some.is there in
     c.count_code.ensures.whole bodies code asked

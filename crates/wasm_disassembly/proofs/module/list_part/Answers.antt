@@ -17,7 +17,7 @@ returns-in_err-functions-clause-lists g c =
 pub returns-in_err-functions-clause-whole : goal.returns-in_err-functions-clause-whole
 returns-in_err-functions-clause-whole g c = λ h.
     let p = err_from_is_err_and c.from_residual.result c.from_residual.ensures.1 in
-    rw (p.1, p.2) (refused_outside c.own_functions.ensures IsFunction c.args.features c.args.only c.args.bytes.now c.in_err-functions.field-0.0
+    rw (p.1, p.2) (refused_outside c.defined_functions.ensures IsFunction c.args.features c.args.only c.args.bytes.now c.in_err-functions.field-0.0
     c.in_err-functions.ensures.refuses h)
 
 pub returns-in_err-write_heading-clause-lists : goal.returns-in_err-write_heading-clause-lists
@@ -50,7 +50,7 @@ returns-in-Some-clause-lists g c =
 pub returns-in-Some-clause-whole : goal.returns-in-Some-clause-whole
 returns-in-Some-clause-whole g c =
     λ h.
-    let there = asked_there c.sections.ensures c.own_functions.ensures IsFunction c.args.features c.args.only c.args.bytes.now c.in_ok-functions.functions c.in_ok-functions.code
+    let there = asked_there c.sections.ensures c.defined_functions.ensures IsFunction c.args.features c.args.only c.args.bytes.now c.in_ok-functions.functions c.in_ok-functions.code
     c.in_ok-functions.ensures.opens h in
     let (bodies, code, asked) = subst (λ (found : Option Reader). HasAsked IsFunction c.in_ok-functions.functions c.args.only found) c.in-Some.is there in
     c.list_code.ensures.whole bodies code asked
