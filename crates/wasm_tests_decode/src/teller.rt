@@ -8,17 +8,19 @@ use wasm_instr_ops::{AtomicOperator, GcOperator, MiscOperator, NumericOperator};
 use wasm_instr_simd::SimdOperator;
 use wasm_tests_texts::write_operator;
 use wasm_visit::{
-    CallAtomic, CallGc, CallMisc, CallNumeric, CallOneByte, CallSimdHigh, CallSimdLow,
-    VisitOperator, dispatch,
+    CallAtomic, CallGc, CallMisc, CallNumeric, CallOneByte, CallSimdHigh, CallSimdLow, RouteAtomic,
+    RouteGc, RouteMisc, RouteNumeric, RouteOneByte, RouteSimdHigh, RouteSimdLow, VisitOperator,
 };
 use wasm_visit_groups::{
-    ByAny, OnceAtomic, OnceGc, OnceMisc, OnceNumeric, OnceOneByte, OnceSimdHigh, OnceSimdLow,
+    ByAny, OnceAtomic, OnceGc, OnceMisc, OnceNumeric, OnceOneByte, OnceSimdHigh, OnceSimdLow, Own,
     Visitor,
 };
 
 /// Writes the operators that it visits, and returns which call it received, or that the text could
-/// not be stored. It overrides all visits; ten functions pass it on, so its calls compare the visits
-/// once.
+/// not be stored.
+///
+/// It overrides all visits. Ten functions pass it on, so its routes are `Once`, whose calls compare
+/// the visits once. These calls are the routes `Own`, so each visit tests both.
 #[derive(Drop)]
 pub struct Teller {
     pub text: String,
@@ -57,7 +59,7 @@ impl Visitor for Teller {
 
 impl CallOneByte for Teller {
     fn dispatch_one_byte(&mut self, op: Operator<'_>) -> Self::Output {
-        dispatch::one_byte(self, op)
+        <Own as RouteOneByte<Teller>>::visit(self, op)
     }
 
     fn decode_one_byte(
@@ -68,7 +70,7 @@ impl CallOneByte for Teller {
         frame: FrameKind,
         code: u8,
     ) -> Result<Self::Output> {
-        wasm_decode_groups::one_byte(alloc, self, reader, start, frame, code)
+        <Own as RouteOneByte<Teller>>::decode(alloc, self, reader, start, frame, code)
     }
 
     fn decode_below_0x20(
@@ -79,23 +81,23 @@ impl CallOneByte for Teller {
         frame: FrameKind,
         code: u8,
     ) -> Result<Self::Output> {
-        wasm_decode_groups::below_0x20(alloc, self, reader, start, frame, code)
+        <Own as RouteOneByte<Teller>>::decode_below_0x20(alloc, self, reader, start, frame, code)
     }
 }
 
 impl CallNumeric for Teller {
     fn dispatch_numeric(&mut self, op: NumericOperator) -> Self::Output {
-        dispatch::numeric(self, op)
+        <Own as RouteNumeric<Teller>>::visit(self, op)
     }
 
     fn decode_numeric(&mut self, code: u8) -> Self::Output {
-        wasm_decode_groups::numeric(self, code)
+        <Own as RouteNumeric<Teller>>::decode(self, code)
     }
 }
 
 impl CallGc for Teller {
     fn dispatch_gc(&mut self, op: GcOperator) -> Self::Output {
-        dispatch::gc(self, op)
+        <Own as RouteGc<Teller>>::visit(self, op)
     }
 
     fn decode_gc(
@@ -104,13 +106,13 @@ impl CallGc for Teller {
         start: usize,
         code: u32,
     ) -> Result<Self::Output> {
-        wasm_decode_groups::gc(self, reader, start, code)
+        <Own as RouteGc<Teller>>::decode(self, reader, start, code)
     }
 }
 
 impl CallMisc for Teller {
     fn dispatch_misc(&mut self, op: MiscOperator) -> Self::Output {
-        dispatch::misc(self, op)
+        <Own as RouteMisc<Teller>>::visit(self, op)
     }
 
     fn decode_misc(
@@ -119,13 +121,13 @@ impl CallMisc for Teller {
         start: usize,
         code: u32,
     ) -> Result<Self::Output> {
-        wasm_decode_groups::misc(self, reader, start, code)
+        <Own as RouteMisc<Teller>>::decode(self, reader, start, code)
     }
 }
 
 impl CallAtomic for Teller {
     fn dispatch_atomic(&mut self, op: AtomicOperator) -> Self::Output {
-        dispatch::atomic(self, op)
+        <Own as RouteAtomic<Teller>>::visit(self, op)
     }
 
     fn decode_atomic(
@@ -134,13 +136,13 @@ impl CallAtomic for Teller {
         start: usize,
         code: u32,
     ) -> Result<Self::Output> {
-        wasm_decode_groups::atomic(self, reader, start, code)
+        <Own as RouteAtomic<Teller>>::decode(self, reader, start, code)
     }
 }
 
 impl CallSimdLow for Teller {
     fn dispatch_simd_low(&mut self, op: SimdOperator) -> Self::Output {
-        dispatch::simd_low(self, op)
+        <Own as RouteSimdLow<Teller>>::visit(self, op)
     }
 
     fn decode_simd_low(
@@ -149,13 +151,13 @@ impl CallSimdLow for Teller {
         start: usize,
         code: u32,
     ) -> Result<Self::Output> {
-        wasm_decode_groups::simd_low(self, reader, start, code)
+        <Own as RouteSimdLow<Teller>>::decode(self, reader, start, code)
     }
 }
 
 impl CallSimdHigh for Teller {
     fn dispatch_simd_high(&mut self, op: SimdOperator) -> Self::Output {
-        dispatch::simd_high(self, op)
+        <Own as RouteSimdHigh<Teller>>::visit(self, op)
     }
 
     fn decode_simd_high(
@@ -164,7 +166,7 @@ impl CallSimdHigh for Teller {
         start: usize,
         code: u32,
     ) -> Result<Self::Output> {
-        wasm_decode_groups::simd_high(self, reader, start, code)
+        <Own as RouteSimdHigh<Teller>>::decode(self, reader, start, code)
     }
 }
 

@@ -1,16 +1,18 @@
 //! Reads one operator for each line of its input, and prints its row, its arity in one module,
 //! whether it is a SIMD operator, whether its clone is equal, whether a visitor takes it for an
-//! `end`, whether `OperatorFactory` returns it, and its `Debug` text. Then prints arities in edge
-//! cases, and the calls that several visitors receive.
+//! `end`, whether `OperatorFactory` returns it, and its `Debug` text; below, its types and immediates
+//! of typing rules. Then prints arities in edge cases, and the calls that several visitors receive.
 #![tactic(auto)]
 
 mod module;
 mod rows;
+mod typing;
 mod uniform;
 mod visitors;
 
 use crate::module::Module;
 use crate::rows::print_rows;
+use crate::typing::print_typing;
 use crate::visitors::print_visitors;
 use std::alloc::Global;
 use std::io::{self, Print};
@@ -45,7 +47,10 @@ fn print_line<R: Print>(rt: &R, alloc: Global, bytes: &mut Vec<u8>, line: &str) 
     let outcome = read_operator(alloc, &mut reader, frame);
     let is_whole = reader.eof();
     match &outcome {
-        Ok(op) if is_whole => print(rt, alloc, op),
+        Ok(op) if is_whole => {
+            print(rt, alloc, op)?;
+            print_typing(rt, op)
+        }
         _ => println!(rt; "not one operator: {line}"),
     }
 }
