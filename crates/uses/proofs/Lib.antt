@@ -24,3 +24,4 @@ pub mod Skipped
 pub mod Splits
 pub mod Steps
 pub mod Tallied
+pub mod Teed

@@ -41,7 +41,7 @@ skips_on op count old mid new one adds next h taken =
 
 pub skips_refused : (count : ℕ) (old mid new : State) → MemoryAddsUp → TakesNoMore → HasSkipped count old mid → IsUnchanged mid new → HasSkipped count old new
 skips_refused count old mid new adds after h unchanged =
-    let (reader, frames, room, memory) = unchanged in
+    let (reader, frames, room, memory, grows) = unchanged in
     let place : new.reader.position ≡ mid.reader.position = ap (λ (r : Reader). r.position) reader in
     let many : length new.frames ≡ length mid.frames = ap length frames in
     let first = mid.reader.position - old.reader.position in

@@ -14,3 +14,4 @@ pub mod Paths
 pub mod Places
 pub mod Rest
 pub mod Tallies
+pub mod Peephole

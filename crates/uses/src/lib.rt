@@ -1,4 +1,4 @@
-//! Proved callers of `wasm_operators`, which cite public contracts and laws only.
+//! Proved callers of `wasm_operators` and `wasm_encode`, which cite public contracts and laws only.
 //!
 //! A call that allocates may fail with `OutOfMemory`.
 #![tactic(auto)]
@@ -21,6 +21,7 @@ mod module;
 mod numbers;
 mod own_visits;
 mod paths;
+mod peephole;
 mod places;
 mod reserved;
 mod rest;
@@ -57,6 +58,7 @@ pub use numbers::{
 };
 pub use own_visits::{Moves, count_moves};
 pub use paths::{read_along, read_both};
+pub use peephole::{with_tees, write_with_tees};
 pub use places::{bytes_before_refusal, range_of, read_ranged, refusal_distance};
 pub use reserved::{operators_reserved, read_reserved};
 pub use rest::read_rest;

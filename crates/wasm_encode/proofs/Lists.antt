@@ -70,10 +70,8 @@ rewritten f bytes old new placed e a =
       no_longer = a.shortest 0 bytes (placed, refl, e.0);
     }
 
-pub encodes_walk : (f : WasmFeatures) (ops : List Operator) (new : List ℕ) → AreWalk ops → AppendsOperators f ops [] new → (placed : Placed) × (operators placed ≡ ops) × EncodesExpression (source_at f new) placed
-encodes_walk f ops new walk a =
-    let (again, same, laid) = a.encodes 0 in
-    (again, same, (subst (λ z. LaidOut f 0 z again) (sym a.appended) laid, subst AreWalk (sym same) walk))
+pub encodes_walk : (f : WasmFeatures) (ops : List Operator) (text : List ℕ) → AreWalk ops → EncodesOperators f 0 text ops → (placed : Placed) × (operators placed ≡ ops) × EncodesExpression (source_at f text) placed
+encodes_walk f ops text walk (again, same, laid) = (again, same, (laid, subst AreWalk (sym same) walk))
 
 -- A body that was appended to nothing is a body, if the operators are a walk.
 pub encodes_body : (f : WasmFeatures) (ds : List Declaration) (ops : List Operator) (new : List ℕ) → AreWalk ops → AppendsBody f ds ops [] new →

@@ -78,8 +78,3 @@ pub record Rewrote (f : WasmFeatures) (bytes old new : List ℕ) : Type 0 where
 abbrev pub IsNotRewritten : WasmFeatures → List ℕ → RewriteError → Type 0
 IsNotRewritten f bytes (rewrite.Read e) = e.message ≢ message.OutOfMemory → (placed : Placed) → ¬ EncodesExpression (source_at f bytes) placed
 IsNotRewritten f bytes (rewrite.Write e) = e ≡ why.OutOfMemory
-
--- Why operators were not read back: one of them has no encoding, or allocation failed.
-abbrev pub IsNotReadBack : WasmFeatures → List Operator → RewriteError → Type 0
-IsNotReadBack f ops (rewrite.Read e) = e.message ≡ message.OutOfMemory
-IsNotReadBack f ops (rewrite.Write e) = e ≢ why.OutOfMemory → HasUnwritable f ops e

@@ -38,7 +38,10 @@ pub fn write_body(
 
 /// Appends the number of declarations and each of them, after reserving capacity for all. Fails
 /// with `TooMany` for 2^32 declarations or more, or with `OutOfMemory`.
-fn write_locals(out: &mut Vec<u8>, declarations: &[(u32, ValType)]) -> Result<(), Unwritable>
+pub(crate) fn write_locals(
+    out: &mut Vec<u8>,
+    declarations: &[(u32, ValType)],
+) -> Result<(), Unwritable>
     ensures written { WritesLocals declarations.now result out.old.items out.new.items }
     ensures kept { vec_capacity out.old ≤ vec_capacity out.new }
 {

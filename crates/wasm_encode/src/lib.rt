@@ -9,9 +9,11 @@
 mod body;
 mod operators;
 mod rewrite;
+mod shortened;
 
 pub use body::write_body;
 pub use operators::write_operators;
 pub use rewrite::{RewriteError, read_back, rewrite_expression};
+pub use shortened::{write_shortened, write_shortened_body};
 pub use wasm_encode_immediates::Unwritable;
 pub use wasm_encode_operators::write_operator;

@@ -1,7 +1,9 @@
 //! Reading and writing together.
-ghost use Rattle.std.specs.Prelude.{◌≡◌, [], OnOk, IfOk, IfErr};
+ghost use Rattle.std.specs.Prelude.{◌≡◌, List, OnOk, IfOk, IfErr};
+ghost use Rattle.wasm_below.specs.declared.message.Message.{Message};
+ghost use Rattle.wasm_instr.specs.declared.operator.Operator.{Operator};
 ghost use Rattle.wasm_operators.specs.Expression.{operators, AreWalk};
-ghost use Rattle.wasm_encode.specs.Writing.{Rewrote, IsNotRewritten, IsNotReadBack};
+ghost use Rattle.wasm_encode.specs.Writing.{EncodesOperators, Rewrote, IsNotRewritten};
 
 use crate::operators::write_operators;
 use std::alloc::Global;
@@ -10,7 +12,7 @@ use wasm_operators::{
     BinaryReader, Error, Operator, OperatorsReader, WasmFeatures, expression_laws,
 };
 
-/// Why an expression was not rewritten or read back.
+/// Why an expression was not rewritten.
 #[derive(Clone, Copy)]
 pub enum RewriteError {
     /// Reading failed.
@@ -45,35 +47,25 @@ pub fn rewrite_expression(
     }
 }
 
-/// Writes the operators of an expression into an empty vector, and reads them back: the same
-/// operators.
+/// Reads the operators of an expression back from the bytes that `write_operators` appended to an
+/// empty vector: the same operators.
 ///
-/// Fails with `Write` like `write_operators`, or with `Read(OutOfMemory)`: what was written can be
-/// read.
+/// Fails with `OutOfMemory` only. For other bytes, fails like `OperatorsReader::read_all`.
 pub fn read_back<'b>(
     alloc: Global,
     features: WasmFeatures,
-    ops: &[(Operator<'_>, u64)],
-    out: &'b mut Vec<u8>,
-) -> Result<Vec<(Operator<'b>, u64)>, RewriteError>
-    requires walk { AreWalk (operators ops.now) }
-    requires empty { out.old.items ≡ [] }
-    ensures same { IfOk result (λ found. operators found.items ≡ operators ops.now) }
-    ensures reason { IfErr result (IsNotReadBack features (operators ops.now)) }
+    bytes: &'b [u8],
+) -> Result<Vec<(Operator<'b>, u64)>, Error>
+    ensures same { (ops : List Operator) → AreWalk ops → EncodesOperators features 0 bytes.now ops
+        → IfOk result (λ found. operators found.items ≡ ops) }
+    ensures memory { (ops : List Operator) → AreWalk ops → EncodesOperators features 0 bytes.now ops
+        → IfErr result (λ e. e.message ≡ Message.OutOfMemory) }
 {
     expression_laws::one_expression(features);
-    match write_operators(out, features, ops) {
-        Ok(()) => {
-            let mut found = Vec::new(alloc);
-            let mut reader = OperatorsReader::new(
-                alloc,
-                BinaryReader::new_features(out.as_slice(), 0, features),
-            );
-            match reader.read_all(&mut found) {
-                Ok(()) => Ok(found),
-                Err(e) => Err(RewriteError::Read(e)),
-            }
-        }
-        Err(e) => Err(RewriteError::Write(e)),
+    let mut found = Vec::new(alloc);
+    let mut reader = OperatorsReader::new(alloc, BinaryReader::new_features(bytes, 0, features));
+    match reader.read_all(&mut found) {
+        Ok(()) => Ok(found),
+        Err(e) => Err(e),
     }
 }

@@ -1,5 +1,3 @@
-ghost use Rattle.wasm_operators.specs.Expression.{operators, AreWalk};
-
 use crate::row::{Row, joined};
 use std::alloc::Global;
 use wasm_encode::{read_back, rewrite_expression, write_body, write_operator, write_operators};
@@ -21,18 +19,12 @@ pub fn difference(alloc: Global, row: &Row) -> Option<&'static str> {
 }
 
 /// As `difference`, for the operators of the row's expression.
-fn of_operators(alloc: Global, row: &Row, found: &[(Operator<'_>, u64)]) -> Option<&'static str>
-    requires { AreWalk (operators found.now) }
-{
-    let mut back = Vec::new(alloc);
-    match read_back(alloc, WasmFeatures::all(), found, &mut back) {
+fn of_operators(alloc: Global, row: &Row, found: &[(Operator<'_>, u64)]) -> Option<&'static str> {
+    match read_back(alloc, WasmFeatures::all(), row.shortest.as_slice()) {
         Ok(again) => if !are_same(found, again.as_slice()) {
             return Some("read_back");
         },
         Err(_) => return Some("read_back"),
-    }
-    if back.as_slice() != row.shortest.as_slice() {
-        return Some("bytes of read_back");
     }
     written(alloc, row, found)
 }

@@ -1,0 +1,16 @@
+;; Made by: wasm-tools parse offsets.wat
+(module
+  (@custom "sourceMappingURL" (before first) "\05a.map")
+  (type $s (struct (field i32)))
+  (tag $t (param i32))
+  (memory 1)
+  (func $f (param i32) (result i32) (local i64 f64)
+    (block $h (result i32)
+      (try_table (catch $t $h)
+        (throw $t (local.get 0)))
+      unreachable))
+  (func (result (ref null $s))
+    (drop (ref.test (ref $s) (struct.new $s (i32.const 1000))))
+    (drop (i8x16.add (v128.const i32x4 1 2 3 4) (v128.load offset=300 (i32.const 0))))
+    (ref.null $s))
+  (@custom ".debug_str" (after code) "main"))

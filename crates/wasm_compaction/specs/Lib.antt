@@ -1,0 +1,5 @@
+pub mod Blocks
+pub mod Compaction
+pub mod Custom
+pub mod Faults
+pub mod Reading
