@@ -80,7 +80,7 @@ const FEATURES: [u32; 4] = [63, 62, 61, 63 - 4 - 8];
 /// Returns the name of the first way in which the libraries differ.
 fn difference(bytes: &[u8]) -> Option<&'static str> {
     for bits in FEATURES {
-        let features = proved::WasmFeatures::from_bits_truncate(bits);
+        let features = proved::WasmFeatures::from_bits_truncate(u64::from(bits));
         let found = by_proved::operators(bytes, features);
         if found != by_original::operators(bytes, original_features(bits)) {
             return Some("operators");

@@ -2,33 +2,61 @@
 
 use crate::frames::FrameKind;
 use crate::operator::Operator;
-use crate::{BlockType, MemArg, MemArgTarget, for_each_operator};
+use crate::{
+    BlockType, CompositeInnerType, ContType, FuncType, MemArg, MemArgTarget, RefType, SubType,
+    for_each_operator,
+};
 
 /// What arities depend on: the types of a module, and the open frames. A pair is the numbers of parameters and results.
 pub trait ModuleArity {
-    /// Returns the arity of a function type.
-    fn func_type_arity(&self, type_index: u32) -> Option<(u32, u32)>;
+    /// Returns the type with this index.
+    fn sub_type_at(&self, type_idx: u32) -> Option<&SubType>;
 
-    /// Returns the number of fields of a struct type.
-    fn struct_type_fields(&self, type_index: u32) -> Option<u32>;
+    /// Returns the arity of the tag with this index.
+    fn tag_type_arity(&self, at: u32) -> Option<(u32, u32)>;
+
+    /// Returns the index of a function's type.
+    fn type_index_of_function(&self, function_idx: u32) -> Option<u32>;
 
     /// Returns the function type of a continuation type.
-    fn cont_type_func(&self, type_index: u32) -> Option<u32>;
+    fn func_type_of_cont_type(&self, c: &ContType) -> Option<&FuncType>;
 
-    /// Returns the continuation type that is the last parameter of a function type.
-    fn cont_type_of_last_param(&self, type_index: u32) -> Option<u32>;
-
-    /// Returns the arity of a tag.
-    fn tag_type_arity(&self, tag_index: u32) -> Option<(u32, u32)>;
-
-    /// Returns the type of a function.
-    fn type_index_of_function(&self, function_index: u32) -> Option<u32>;
+    /// Returns the type that a reference type refers to.
+    fn sub_type_of_ref_type(&self, rt: &RefType) -> Option<&SubType>;
 
     /// Returns the number of open frames.
     fn control_stack_height(&self) -> u32;
 
     /// Returns the block type and kind of the frame at this depth; the innermost has 0.
     fn label_block(&self, depth: u32) -> Option<(BlockType, FrameKind)>;
+
+    /// Returns the arity of a function type or continuation type, or twice the number of fields of a struct type.
+    fn sub_type_arity(&self, t: &SubType) -> Option<(u32, u32)> {
+        match &t.composite_type.inner {
+            CompositeInnerType::Func(ty) => function_arity(ty),
+            CompositeInnerType::Cont(ty) => function_arity(self.func_type_of_cont_type(ty)?),
+            CompositeInnerType::Struct(ty) => {
+                let count = u32::try_from(ty.fields.len()).ok()?;
+                Some((count, count))
+            }
+            CompositeInnerType::Array(_) => None,
+        }
+    }
+
+    /// Returns the arity of a block type.
+    fn block_type_arity(&self, ty: BlockType) -> Option<(u32, u32)> {
+        match ty {
+            BlockType::Empty => Some((0, 0)),
+            BlockType::Type(_) => Some((0, 1)),
+            BlockType::FuncType(index) => self.sub_type_arity(self.sub_type_at(index)?),
+        }
+    }
+}
+
+/// Returns the numbers of parameters and results.
+fn function_arity(ty: &FuncType) -> Arity {
+    let parameters = u32::try_from(ty.params().len()).ok()?;
+    Some((parameters, u32::try_from(ty.results().len()).ok()?))
 }
 
 /// The numbers of operands and results.
@@ -59,11 +87,12 @@ struct Rules<'m, M>(&'m M);
 
 impl<M: ModuleArity> Rules<'_, M> {
     fn block(&self, ty: BlockType) -> Arity {
-        match ty {
-            BlockType::Empty => Some((0, 0)),
-            BlockType::Type(_) => Some((0, 1)),
-            BlockType::FuncType(index) => self.0.func_type_arity(index),
-        }
+        self.0.block_type_arity(ty)
+    }
+
+    /// Returns the arity of the type with this index.
+    fn ty(&self, index: u32) -> Arity {
+        self.0.sub_type_arity(self.0.sub_type_at(index)?)
     }
 
     /// Returns the arity of a frame's block.
@@ -84,12 +113,7 @@ impl<M: ModuleArity> Rules<'_, M> {
     }
 
     fn function(&self, index: u32) -> Arity {
-        self.0
-            .func_type_arity(self.0.type_index_of_function(index)?)
-    }
-
-    fn continuation(&self, index: u32) -> Arity {
-        self.0.func_type_arity(self.0.cont_type_func(index)?)
+        self.ty(self.0.type_index_of_function(index)?)
     }
 
     /// Returns the arity of an operator that opens a block.
@@ -132,37 +156,40 @@ impl<M: ModuleArity> Rules<'_, M> {
     }
 
     fn type_call(&self, index: u32) -> Arity {
-        one_more(self.0.func_type_arity(index))
+        one_more(self.ty(index))
     }
 
     fn bind(&self, from: u32, to: u32) -> Arity {
-        let (parameters, _) = self.continuation(from)?;
-        let (later, _) = self.continuation(to)?;
+        let (parameters, _) = self.ty(from)?;
+        let (later, _) = self.ty(to)?;
         one_more(Some((parameters.checked_sub(later)?, 1)))
     }
 
     fn resume_throw(&self, index: u32, tag: u32) -> Arity {
         let (parameters, _) = self.0.tag_type_arity(tag)?;
-        let (_, results) = self.continuation(index)?;
+        let (_, results) = self.ty(index)?;
         one_more(Some((parameters, results)))
     }
 
     fn resume_throw_ref(&self, index: u32) -> Arity {
-        let (_, results) = self.continuation(index)?;
+        let (_, results) = self.ty(index)?;
         Some((2, results))
     }
 
     fn switch(&self, index: u32) -> Arity {
-        let (parameters, _) = self.continuation(index)?;
-        let next = self
-            .0
-            .cont_type_of_last_param(self.0.cont_type_func(index)?)?;
-        let (returned, _) = self.continuation(next)?;
+        let (parameters, _) = self.ty(index)?;
+        let CompositeInnerType::Cont(ty) = &self.0.sub_type_at(index)?.composite_type.inner else {
+            return None;
+        };
+        let last = self.0.func_type_of_cont_type(ty)?.params().last()?;
+        let next = self.0.sub_type_of_ref_type(&last.as_reference_type()?)?;
+        let (returned, _) = self.0.sub_type_arity(next)?;
         Some((parameters, returned))
     }
 
     fn create_struct(&self, index: u32) -> Arity {
-        Some((self.0.struct_type_fields(index)?, 1))
+        let (fields, _) = self.ty(index)?;
+        Some((fields, 1))
     }
 
     /// Returns the arity of an operator of blocks or branches.
@@ -218,7 +245,7 @@ impl<M: ModuleArity> Rules<'_, M> {
             Operator::Suspend { tag_index } => self.0.tag_type_arity(*tag_index),
             Operator::Resume {
                 cont_type_index, ..
-            } => one_more(self.continuation(*cont_type_index)),
+            } => one_more(self.ty(*cont_type_index)),
             Operator::ResumeThrow {
                 cont_type_index,
                 tag_index,

@@ -1,5 +1,6 @@
 //! Readers of bytes.
 
+use crate::error::Malformed;
 use crate::frames::{FrameKind, FrameStack};
 use crate::lists::Source;
 use crate::native::{self, Place, PlainOperator, PlainReader, PlainValue, ValueKind};
@@ -54,13 +55,28 @@ impl<'a> BinaryReader<'a> {
     }
 
     /// Creates a reader at a position that a [`PlainReader`] has reached.
-    pub(crate) fn at(buffer: &'a [u8], reader: &PlainReader) -> BinaryReader<'a> {
+    pub(crate) fn at(source: &Source<'a>, reader: &PlainReader) -> BinaryReader<'a> {
         BinaryReader {
-            buffer,
+            buffer: source.bytes,
             position: reader.position as usize,
             original_offset: reader.offset,
-            features: WasmFeatures::from_bits_truncate(reader.features),
+            features: source.features,
         }
+    }
+
+    /// Returns a reader of the bytes that are left, whose range does not have those that were read.
+    pub(crate) fn shrink(&self) -> BinaryReader<'a> {
+        BinaryReader {
+            buffer: self.remaining_buffer(),
+            position: 0,
+            original_offset: self.original_position(),
+            features: self.features,
+        }
+    }
+
+    /// Returns the next byte without reading it.
+    pub(crate) fn peek(&self) -> Result<u8> {
+        self.clone().read_u8()
     }
 
     /// Returns the greatest length of data at this offset.
@@ -139,7 +155,7 @@ impl<'a> BinaryReader<'a> {
         Source {
             bytes: self.buffer,
             offset: self.original_offset,
-            features: self.features.bits(),
+            features: self.features,
         }
     }
 
@@ -149,7 +165,7 @@ impl<'a> BinaryReader<'a> {
             offset: self.original_offset,
             position: self.position as u64,
             depth,
-            features: self.features.bits(),
+            features: self.features.library_bits(),
             reserved: 0,
         }
     }
@@ -313,7 +329,7 @@ impl<'a> BinaryReader<'a> {
         let length = after.read_var_u32()? as usize;
         if length > limit {
             let last = after.original_position() - 1;
-            return Err(Error::new("string size out of bounds", last));
+            return Err(Error::malformed(Malformed::StringSize, last));
         }
         let bytes = after.read_bytes(length)?;
         Ok((bytes, after))
@@ -324,7 +340,7 @@ impl<'a> BinaryReader<'a> {
         let (bytes, after) = self.string_bytes(limit)?;
         let last = after.original_position() - 1;
         let text =
-            std::str::from_utf8(bytes).map_err(|_| Error::new("malformed UTF-8 encoding", last))?;
+            std::str::from_utf8(bytes).map_err(|_| Error::malformed(Malformed::Utf8, last))?;
         *self = after;
         Ok(text)
     }

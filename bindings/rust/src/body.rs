@@ -14,7 +14,7 @@ pub fn read_plain(
     features: WasmFeatures,
     out: &mut Vec<PlainOperator>,
 ) -> Result<()> {
-    let refusal = native::read_body(bytes, offset, features.bits(), out);
+    let refusal = native::read_body(bytes, offset, features.library_bits(), out);
     if refusal.number == 0 {
         Ok(())
     } else {
@@ -39,7 +39,7 @@ impl<'a> Body<'a> {
             source: Source {
                 bytes,
                 offset,
-                features: features.bits(),
+                features,
             },
             operators,
             end,

@@ -25,8 +25,56 @@ struct Inner {
 
 /// The library's number of a size above its limit.
 const SIZE_OUT_OF_BOUNDS: u32 = 5;
+/// The library's number of missing bytes.
+const END_OF_DATA: u32 = 1;
+/// The library's number of a first byte that begins no such thing.
+const INVALID_LEADING_BYTE: u32 = 22;
 /// The library's number of data after the last item of a section.
 const DATA_AFTER_SECTION: u32 = 25;
+/// The library's number of a malformed part of a module.
+const MALFORMED: u32 = 26;
+/// The library's number of four bytes that begin no module.
+const BAD_MAGIC: u32 = 27;
+/// The library's number of a module's unknown version.
+const UNKNOWN_VERSION: u32 = 28;
+
+/// A malformed part of a module, by the library's name. `docs/ERRORS-AND-FEATURES.md` has the texts.
+#[derive(Clone, Copy)]
+pub(crate) enum Malformed {
+    Utf8 = 0,
+    StringSize = 1,
+    FieldMutability = 2,
+    ContinuationType = 3,
+    TypeIndex = 4,
+    TableEncoding = 5,
+    TableFlags = 6,
+    MemoryFlags = 7,
+    PageSize = 8,
+    GlobalFlags = 9,
+    TagAttributes = 10,
+    ElementFlags = 11,
+    ElementKind = 12,
+    DataFlags = 13,
+    SectionId = 14,
+    SecondModule = 15,
+    SectionOrder = 17,
+    StartContent = 18,
+    DataCountContent = 19,
+    CodeContent = 20,
+    NameContent = 21,
+    FunctionCounts = 22,
+    NoCode = 23,
+    NoFunctions = 24,
+    DataCounts = 25,
+    NoData = 26,
+}
+
+/// What a first byte begins, by the library's name.
+#[derive(Clone, Copy)]
+pub(crate) enum LeadingByte {
+    Type = 2,
+    ExternalKind = 3,
+}
 
 impl Error {
     #[cold]
@@ -41,8 +89,8 @@ impl Error {
     }
 
     /// Creates an error that the library does not have.
-    pub(crate) fn new(message: &str, offset: u64) -> Error {
-        Error::with_number(String::from(message), offset, 0)
+    pub(crate) fn new(message: impl Into<String>, offset: u64) -> Error {
+        Error::with_number(message.into(), offset, 0)
     }
 
     /// Names what a size counts, if this is the error of a size above its limit.
@@ -51,6 +99,56 @@ impl Error {
             self.inner.message = format!("{desc} size is out of bounds");
         }
         self
+    }
+
+    /// Creates an error about a part of a module.
+    pub(crate) fn malformed(what: Malformed, offset: u64) -> Error {
+        Error::from(Refusal {
+            offset,
+            number: MALFORMED,
+            name: what as u32,
+            ..Refusal::default()
+        })
+    }
+
+    /// Creates the error of a first byte that begins no such thing.
+    pub(crate) fn leading_byte(what: LeadingByte, byte: u8, offset: u64) -> Error {
+        Error::from(Refusal {
+            offset,
+            number: INVALID_LEADING_BYTE,
+            name: what as u32,
+            value: u32::from(byte),
+            ..Refusal::default()
+        })
+    }
+
+    /// Creates the error of bytes that are missing.
+    pub(crate) fn end_of_data(offset: u64) -> Error {
+        Error::from(Refusal {
+            offset,
+            number: END_OF_DATA,
+            ..Refusal::default()
+        })
+    }
+
+    /// Creates the error of the first four bytes of a module, little-endian.
+    pub(crate) fn bad_magic(value: u32, offset: u64) -> Error {
+        Error::from(Refusal {
+            offset,
+            number: BAD_MAGIC,
+            value,
+            ..Refusal::default()
+        })
+    }
+
+    /// Creates the error of the version of a module.
+    pub(crate) fn unknown_version(value: u32, offset: u64) -> Error {
+        Error::from(Refusal {
+            offset,
+            number: UNKNOWN_VERSION,
+            value,
+            ..Refusal::default()
+        })
     }
 
     /// Creates the error of data after the last item of a section.
@@ -72,7 +170,7 @@ impl Error {
         self.inner.offset
     }
 
-    /// Returns the library's number of the error, or 0 for an error in a string. wasmparser has no numbers.
+    /// Returns the library's number of the error, or 0 for an error that only this crate has. wasmparser has no numbers.
     pub fn number(&self) -> u32 {
         self.inner.number
     }

@@ -3,7 +3,7 @@
 use crate::native::ValueKind;
 use crate::types::{heap_type, ref_type, val_type};
 use crate::{
-    BinaryReader, Catch, Handle, HeapType, RefType, Result, ResumeTable, TryTable, ValType,
+    BinaryReader, Catch, Error, Handle, HeapType, RefType, Result, ResumeTable, TryTable, ValType,
 };
 
 /// The greatest number of catches of a `try_table`.
@@ -15,6 +15,18 @@ const MOST_HANDLERS: usize = 10_000;
 pub trait FromReader<'a>: Sized {
     /// Reads a value.
     fn from_reader(reader: &mut BinaryReader<'a>) -> Result<Self>;
+}
+
+impl<'a> FromReader<'a> for bool {
+    fn from_reader(reader: &mut BinaryReader<'a>) -> Result<Self> {
+        let at = reader.original_position();
+        let byte = reader.peek()?;
+        if byte > 1 {
+            return Err(Error::new("invalid boolean value", at));
+        }
+        reader.read_u8()?;
+        Ok(byte == 1)
+    }
 }
 
 impl<'a> FromReader<'a> for u32 {
@@ -105,7 +117,7 @@ fn read_list<'a, T: FromReader<'a>>(
 }
 
 /// Reads by several calls. If one fails, the reader stays where the first began.
-fn whole<'a, T>(
+pub(crate) fn whole<'a, T>(
     reader: &mut BinaryReader<'a>,
     read: impl FnOnce(&mut BinaryReader<'a>) -> Result<T>,
 ) -> Result<T> {

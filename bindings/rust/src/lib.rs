@@ -16,30 +16,47 @@
 //! # Ok::<(), wasm_operators::Error>(())
 //! ```
 //!
-//! The library is proved; this crate converts its C structs, and is tested. `API.md` lists what proves each item.
+//! [`Parser`] reads whole modules, with the names of `wasmparser` 0.239.
+//!
+//! The library is proved; this crate converts its C structs, finds sections and their items, and is tested. `API.md`
+//! lists what proves each item.
 
-#![deny(unsafe_code)]
+#![deny(missing_docs, unsafe_code)]
+
+#[cfg(feature = "validate")]
+compile_error!("wasm-operators has no validator: turn the feature `validate` off");
+#[cfg(feature = "component-model")]
+compile_error!("wasm-operators does not read components: turn the feature `component-model` off");
 
 mod arity;
 mod batch;
 mod binary_reader;
 mod body;
 mod code;
+mod composite;
 mod constant;
+mod custom;
+mod dylink0;
 mod error;
+mod externals;
 mod features;
 mod frame_change;
 mod frames;
 mod from_reader;
 mod immediates;
+mod indices;
 mod lists;
 mod macros;
 mod module;
+mod names;
 #[allow(unsafe_code)]
 mod native;
 mod operator;
 mod operators_reader;
+mod parser;
+mod payload;
 mod section;
+mod segments;
 mod text;
 mod types;
 mod visit;
@@ -49,20 +66,47 @@ pub use arity::ModuleArity;
 pub use binary_reader::{BinaryReader, BinaryReaderIter};
 pub use body::{Body, read_plain};
 pub use code::{CodeSectionReader, FunctionBody, LocalsIterator, LocalsReader};
+pub use composite::{
+    ArrayType, CompositeInnerType, CompositeType, ContType, FieldType, FuncType, RecGroup,
+    StorageType, StructType, SubType, TypeSectionReader,
+};
 pub use constant::ConstExpr;
+pub use custom::{
+    BranchHint, BranchHintFunction, BranchHintSectionReader, CustomSectionReader, KnownCustom,
+    ProducersField, ProducersFieldValue, ProducersSectionReader,
+};
+pub use dylink0::{
+    Dylink0SectionReader, Dylink0Subsection, ExportInfo, ImportInfo, MemInfo, SymbolFlags,
+};
 pub use error::{BinaryReaderError, Error, Result};
-pub use features::WasmFeatures;
+pub use externals::{
+    Export, ExportSectionReader, ExternalKind, FunctionSectionReader, GlobalType, Import,
+    ImportSectionReader, MemorySectionReader, MemoryType, TableType, TagKind, TagSectionReader,
+    TagType, TypeRef,
+};
+pub use features::{WasmFeatures, WasmFeaturesInflated};
 pub use frames::{ControlStack, FrameKind, FrameStack, OperatorsReaderAllocations};
 pub use from_reader::FromReader;
 pub use immediates::{
     BlockType, Ieee32, Ieee64, MemArg, MemArgOrdering, MemArgTarget, Ordering, V128,
 };
+pub use indices::{PackedIndex, UnpackedIndex};
 pub use lists::{BrTable, BrTableTargets, Catch, Handle, ResumeTable, TryTable};
 pub use module::{Function, Functions, function_name};
+pub use names::{
+    IndirectNameMap, IndirectNaming, Name, NameMap, NameSectionReader, Naming, Subsection,
+    Subsections,
+};
 pub use native::PlainOperator;
 pub use operator::Operator;
 pub use operators_reader::{OperatorsIterator, OperatorsIteratorWithOffsets, OperatorsReader};
+pub use parser::{Chunk, Parser};
+pub use payload::{Encoding, Payload};
 pub use section::{SectionLimited, SectionLimitedIntoIter, SectionLimitedIntoIterWithOffsets};
+pub use segments::{
+    Data, DataKind, DataSectionReader, Element, ElementItems, ElementKind, ElementSectionReader,
+    Global, GlobalSectionReader, Table, TableInit, TableSectionReader,
+};
 pub use text::{operator_text, operator_text_name};
 pub use types::{AbstractHeapType, HeapType, RefType, ValType};
 pub use visitor::{EachVisit, VisitAny, VisitOperator, VisitSimdOperator};

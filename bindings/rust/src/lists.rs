@@ -13,7 +13,7 @@ pub(crate) struct Source<'a> {
     pub(crate) bytes: &'a [u8],
     /// The offset of the first byte.
     pub(crate) offset: u64,
-    pub(crate) features: u32,
+    pub(crate) features: WasmFeatures,
 }
 
 impl<'a> Source<'a> {
@@ -37,7 +37,7 @@ impl<'a> BrTable<'a> {
     pub(crate) fn of(op: &PlainOperator, source: &Source<'a>) -> BrTable<'a> {
         BrTable {
             bytes: source.from(op),
-            features: source.features,
+            features: source.features.library_bits(),
             count: op.first,
             default: op.second,
         }
@@ -78,7 +78,7 @@ impl<'a> BrTable<'a> {
 
     /// Returns the bytes of the targets.
     fn target_bytes(&self) -> Result<&'a [u8]> {
-        let features = WasmFeatures::from_bits_truncate(self.features);
+        let features = WasmFeatures::from_bits_truncate(u64::from(self.features));
         let mut reader = BinaryReader::new_features(self.bytes, 0, features);
         reader.read_u8()?;
         reader.read_var_u32()?;
@@ -141,7 +141,8 @@ pub struct TryTable {
     pub catches: Vec<Catch>,
 }
 
-/// A clause of a `try_table`.
+/// A clause of a `try_table`. `tag` is the index of a tag, and `label` a depth.
+#[allow(missing_docs)]
 #[derive(Clone, Copy, Debug, PartialEq, Eq, Hash)]
 pub enum Catch {
     /// `catch`
@@ -181,7 +182,8 @@ impl ResumeTable {
     }
 }
 
-/// A clause of a [`ResumeTable`].
+/// A clause of a [`ResumeTable`]. `tag` is the index of a tag, and `label` a depth.
+#[allow(missing_docs)]
 #[derive(Clone, Copy, Debug, PartialEq, Eq, Hash)]
 pub enum Handle {
     /// A suspension with this tag branches to the label.
@@ -202,13 +204,13 @@ impl Handle {
 
 /// Reads the types of a `select`.
 pub(crate) fn select_types(op: &PlainOperator, source: &Source<'_>) -> Vec<ValType> {
-    let types = native::select_types(source.from(op), source.features, op.first);
+    let types = native::select_types(source.from(op), source.features.library_bits(), op.first);
     types.iter().map(|ty| val_type(ty.kind, ty.index)).collect()
 }
 
 /// Reads a `try_table`.
 pub(crate) fn try_table(op: &PlainOperator, source: &Source<'_>) -> TryTable {
-    let catches = native::catches(source.from(op), source.features, op.second);
+    let catches = native::catches(source.from(op), source.features.library_bits(), op.second);
     let catch = |&PlainHandler { kind, tag, label }: &PlainHandler| Catch::of(kind, tag, label);
     TryTable {
         ty: op.block_type(),
@@ -218,7 +220,7 @@ pub(crate) fn try_table(op: &PlainOperator, source: &Source<'_>) -> TryTable {
 
 /// Reads the clauses of a `resume` and its like.
 pub(crate) fn resume_table(op: &PlainOperator, source: &Source<'_>, count: u32) -> ResumeTable {
-    let handlers = native::handlers(source.from(op), source.features, count);
+    let handlers = native::handlers(source.from(op), source.features.library_bits(), count);
     let handle = |&PlainHandler { kind, tag, label }: &PlainHandler| Handle::of(kind, tag, label);
     ResumeTable {
         handlers: handlers.iter().map(handle).collect(),

@@ -12,6 +12,7 @@ use std::mem::MaybeUninit;
 const VERSION: u32 = 4;
 
 /// An operator as a C struct: `wasm_operator` of the header, which describes the fields.
+#[allow(missing_docs)]
 #[repr(C)]
 #[derive(Clone, Copy, Debug, Default, PartialEq, Eq)]
 pub struct PlainOperator {
@@ -726,12 +727,15 @@ pub fn function_name(bytes: &[u8], index: u32) -> Result<String, Refusal> {
     })
 }
 
-/// The longest text of an error is shorter.
+/// The first length that a text of an operator gets.
 const LONGEST_TEXT: usize = 128;
+
+/// The longest text of an error is shorter. The text of `BadMagic` has about 150 bytes.
+const LONGEST_TEXT_OF_ERROR: usize = 256;
 
 /// Returns the text of an error, which is empty for the library's numbers.
 pub fn refusal_text(refusal: &Refusal) -> String {
-    let mut text = [0; LONGEST_TEXT];
+    let mut text = [0; LONGEST_TEXT_OF_ERROR];
     // SAFETY: see the head.
     let length = unsafe { wasm_refusal_text(refusal, text.as_mut_ptr(), text.len()) };
     String::from_utf8_lossy(&text[..length.min(text.len())]).into_owned()

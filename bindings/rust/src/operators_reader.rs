@@ -36,22 +36,23 @@ impl<'a> OperatorsReader<'a> {
             bytes,
             reader.current_position(),
             reader.range().start,
-            reader.features().bits(),
+            reader.features().library_bits(),
             &mut frames,
         );
         // The features are known, the end fits in 64 bits, and a frame fits.
         let opened = opened.unwrap_or_else(|refusal| panic!("no expression opens: {refusal:?}"));
-        OperatorsReader::of(bytes, opened, frames, Batch::in_memory(operators))
+        let source = Source {
+            bytes,
+            offset: opened.offset,
+            features: reader.features(),
+        };
+        OperatorsReader::of(source, opened, frames, Batch::in_memory(operators))
     }
 
     /// Creates a reader of an expression that is open.
-    fn of(bytes: &'a [u8], reader: PlainReader, frames: Vec<u8>, batch: Batch) -> Self {
+    fn of(source: Source<'a>, reader: PlainReader, frames: Vec<u8>, batch: Batch) -> Self {
         OperatorsReader {
-            source: Source {
-                bytes,
-                offset: reader.offset,
-                features: reader.features,
-            },
+            source,
             reader,
             frames,
             batch,
@@ -65,8 +66,18 @@ impl<'a> OperatorsReader<'a> {
         features: WasmFeatures,
     ) -> Result<OperatorsReader<'a>> {
         let mut frames = Vec::new();
-        let reader = native::open_body(bytes, offset, features.bits(), &mut frames)?;
-        Ok(OperatorsReader::of(bytes, reader, frames, Batch::default()))
+        let reader = native::open_body(bytes, offset, features.library_bits(), &mut frames)?;
+        let source = Source {
+            bytes,
+            offset,
+            features,
+        };
+        Ok(OperatorsReader::of(
+            source,
+            reader,
+            frames,
+            Batch::default(),
+        ))
     }
 
     /// Returns the library's reader before the next operator, except its frames: one is open if any is.
@@ -85,7 +96,7 @@ impl<'a> OperatorsReader<'a> {
 
     /// Returns a reader of the bytes at this position.
     pub fn get_binary_reader(&self) -> BinaryReader<'a> {
-        BinaryReader::at(self.source.bytes, &self.here())
+        BinaryReader::at(&self.source, &self.here())
     }
 
     /// Returns whether no byte is left.

@@ -127,7 +127,14 @@ where
         self.remaining -= 1;
         Some(item)
     }
+
+    /// Returns the number of items left as both bounds. An error about data after the items is one more.
+    fn size_hint(&self) -> (usize, Option<usize>) {
+        (self.remaining as usize, Some(self.remaining as usize))
+    }
 }
+
+impl<'a, T> ExactSizeIterator for SectionLimitedIntoIter<'a, T> where T: FromReader<'a> {}
 
 /// An iterator over the items of a section with their offsets.
 pub struct SectionLimitedIntoIterWithOffsets<'a, T> {
@@ -144,4 +151,10 @@ where
         let offset = self.items.original_position();
         Some(self.items.next()?.map(|item| (offset, item)))
     }
+
+    fn size_hint(&self) -> (usize, Option<usize>) {
+        self.items.size_hint()
+    }
 }
+
+impl<'a, T> ExactSizeIterator for SectionLimitedIntoIterWithOffsets<'a, T> where T: FromReader<'a> {}

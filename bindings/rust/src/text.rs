@@ -12,7 +12,12 @@ use crate::{Result, WasmFeatures, native};
 /// # Ok::<(), wasm_operators::Error>(())
 /// ```
 pub fn operator_text(bytes: &[u8], offset: u64, features: WasmFeatures, at: u64) -> Result<String> {
-    Ok(native::operator_text(bytes, offset, features.bits(), at)?)
+    Ok(native::operator_text(
+        bytes,
+        offset,
+        features.library_bits(),
+        at,
+    )?)
 }
 
 /// Returns the name of the operator at the offset `at`, such as `i32.const`.
@@ -25,7 +30,7 @@ pub fn operator_text_name(
     Ok(native::operator_text_name(
         bytes,
         offset,
-        features.bits(),
+        features.library_bits(),
         at,
     )?)
 }

@@ -1,13 +1,22 @@
-//! Value types, reference types and heap types.
+//! Value types, reference types and heap types. Specification: Types.
+
+use crate::{PackedIndex, UnpackedIndex};
+use std::fmt;
 
 /// A value type.
-#[derive(Clone, Copy, Debug, PartialEq, Eq, Hash)]
+#[derive(Clone, Copy, Debug, PartialEq, Eq, PartialOrd, Ord, Hash)]
 pub enum ValType {
+    /// Integers of 32 bits.
     I32,
+    /// Integers of 64 bits.
     I64,
+    /// Floats of 32 bits.
     F32,
+    /// Floats of 64 bits.
     F64,
+    /// Vectors of 128 bits.
     V128,
+    /// References.
     Ref(RefType),
 }
 
@@ -33,6 +42,28 @@ impl ValType {
             _ => None,
         }
     }
+
+    /// Returns whether a local of the type has a default value, which a reference without null does not have.
+    pub const fn is_defaultable(&self) -> bool {
+        match self {
+            ValType::Ref(ty) => ty.is_nullable(),
+            _ => true,
+        }
+    }
+}
+
+/// The type in the text format, except that an index is printed like [`UnpackedIndex`].
+impl fmt::Display for ValType {
+    fn fmt(&self, f: &mut fmt::Formatter<'_>) -> fmt::Result {
+        f.write_str(match self {
+            ValType::I32 => "i32",
+            ValType::I64 => "i64",
+            ValType::F32 => "f32",
+            ValType::F64 => "f64",
+            ValType::V128 => "v128",
+            ValType::Ref(ty) => return ty.fmt(f),
+        })
+    }
 }
 
 impl From<RefType> for ValType {
@@ -41,15 +72,16 @@ impl From<RefType> for ValType {
     }
 }
 
-/// A reference type.
-#[derive(Clone, Copy, Debug, PartialEq, Eq, Hash)]
-pub struct RefType {
-    nullable: bool,
-    heap_type: HeapType,
-}
+/// A reference type, in 26 bits. The order of types has no meaning.
+#[derive(Clone, Copy, PartialEq, Eq, PartialOrd, Ord, Hash)]
+pub struct RefType(u32);
 
-/// The greatest index of a heap type.
-const GREATEST_INDEX: u32 = 1_048_575;
+// The bits of a reference type. Bits 0 to 21 are an index, or the number of an abstract heap type.
+const INDEX: u32 = (1 << 22) - 1;
+const CONCRETE: u32 = 1 << 22;
+const EXACT: u32 = 1 << 23;
+const IS_SHARED: u32 = 1 << 24;
+const IS_NULLABLE: u32 = 1 << 25;
 
 /// Defines reference types to unshared abstract heap types.
 macro_rules! reference_types {
@@ -63,7 +95,7 @@ macro_rules! reference_types {
 
                 #[doc = concat!("Returns whether the type refers to ", $what, ".")]
                 pub const fn $is(&self) -> bool {
-                    let ty = self.heap_type;
+                    let ty = self.heap_type();
                     matches!(ty, HeapType::Abstract { ty: AbstractHeapType::$ty, shared: false })
                 }
             )*
@@ -97,80 +129,197 @@ reference_types! {
 }
 
 impl RefType {
-    const fn of(nullable: bool, heap_type: HeapType) -> RefType {
-        RefType {
-            nullable,
-            heap_type,
-        }
-    }
-
     /// Creates a reference type, or returns `None` if its index is above 1048575.
     pub const fn new(nullable: bool, heap_type: HeapType) -> Option<RefType> {
         match heap_type {
-            HeapType::Concrete(index) | HeapType::Exact(index) if index > GREATEST_INDEX => None,
+            HeapType::Concrete(index) | HeapType::Exact(index) if index.pack().is_none() => None,
             _ => Some(RefType::of(nullable, heap_type)),
         }
     }
 
+    /// Creates a reference type whose index is at most 1048575.
+    const fn of(nullable: bool, heap_type: HeapType) -> RefType {
+        let bits = match heap_type {
+            HeapType::Abstract { shared, ty } => ty as u32 | if shared { IS_SHARED } else { 0 },
+            HeapType::Concrete(index) => CONCRETE | packed(index),
+            HeapType::Exact(index) => EXACT | packed(index),
+        };
+        RefType(bits | if nullable { IS_NULLABLE } else { 0 })
+    }
+
+    /// Creates a reference to the type with this index.
+    pub const fn concrete(nullable: bool, index: PackedIndex) -> RefType {
+        RefType::of(nullable, HeapType::Concrete(index.unpack()))
+    }
+
+    /// Returns the type of the references of `a` that are not in `b`, if the heap types are the same.
+    ///
+    /// Specification: Instructions, Type difference.
+    pub const fn difference(a: RefType, b: RefType) -> RefType {
+        if b.is_nullable() { a.as_non_null() } else { a }
+    }
+
+    /// Returns the index of the heap type, if it has one.
+    pub const fn type_index(&self) -> Option<PackedIndex> {
+        if self.0 & (CONCRETE | EXACT) == 0 {
+            return None;
+        }
+        Some(PackedIndex::of_bits(self.0 & INDEX))
+    }
+
     /// Returns whether null belongs to the type.
     pub const fn is_nullable(&self) -> bool {
-        self.nullable
+        self.0 & IS_NULLABLE != 0
     }
 
     /// Returns the heap type.
     pub const fn heap_type(&self) -> HeapType {
-        self.heap_type
+        let bits = self.0 & INDEX;
+        if self.0 & CONCRETE != 0 {
+            HeapType::Concrete(PackedIndex::of_bits(bits).unpack())
+        } else if self.0 & EXACT != 0 {
+            HeapType::Exact(PackedIndex::of_bits(bits).unpack())
+        } else {
+            HeapType::Abstract {
+                shared: self.0 & IS_SHARED != 0,
+                ty: AbstractHeapType::ALL[bits as usize],
+            }
+        }
     }
 
     /// Returns the type with null.
     pub const fn nullable(&self) -> RefType {
-        RefType::of(true, self.heap_type)
+        RefType(self.0 | IS_NULLABLE)
     }
 
     /// Returns the type without null.
     pub const fn as_non_null(&self) -> RefType {
-        RefType::of(false, self.heap_type)
+        RefType(self.0 & !IS_NULLABLE)
     }
 
-    /// Returns whether the heap type has an index.
+    /// Returns the type that is shared between threads, if the heap type is abstract.
+    pub const fn shared(&self) -> Option<RefType> {
+        if self.0 & (CONCRETE | EXACT) != 0 {
+            return None;
+        }
+        Some(RefType(self.0 | IS_SHARED))
+    }
+
+    /// Returns whether the heap type has an index, and is not exact.
     pub const fn is_concrete_type_ref(&self) -> bool {
-        matches!(self.heap_type, HeapType::Concrete(_))
+        self.0 & CONCRETE != 0
     }
 
     /// Returns whether the heap type is exact.
     pub const fn is_exact_type_ref(&self) -> bool {
-        matches!(self.heap_type, HeapType::Exact(_))
+        self.0 & EXACT != 0
+    }
+}
+
+/// Returns the bits of an index that is at most 1048575.
+const fn packed(index: UnpackedIndex) -> u32 {
+    match index.pack() {
+        Some(index) => index.bits(),
+        None => panic!("an index above 1048575"),
+    }
+}
+
+/// The short form of a nullable abstract type, such as `funcref`, or the long form, such as `(ref (module 5))`.
+impl fmt::Display for RefType {
+    fn fmt(&self, f: &mut fmt::Formatter<'_>) -> fmt::Result {
+        let null = if self.is_nullable() { "null " } else { "" };
+        match self.heap_type() {
+            HeapType::Concrete(index) => write!(f, "(ref {null}{index})"),
+            HeapType::Exact(index) => write!(f, "(ref {null}(exact {index}))"),
+            HeapType::Abstract { shared, ty } => {
+                let name = ty.name(self.is_nullable());
+                match (self.is_nullable(), shared) {
+                    (true, true) => write!(f, "(shared {name}ref)"),
+                    (true, false) => write!(f, "{name}ref"),
+                    (false, true) => write!(f, "(ref (shared {name}))"),
+                    (false, false) => write!(f, "(ref {name})"),
+                }
+            }
+        }
+    }
+}
+
+/// The same text as `Display`.
+impl fmt::Debug for RefType {
+    fn fmt(&self, f: &mut fmt::Formatter<'_>) -> fmt::Result {
+        fmt::Display::fmt(self, f)
     }
 }
 
 /// A heap type.
 #[derive(Clone, Copy, Debug, PartialEq, Eq, Hash)]
 pub enum HeapType {
-    /// An abstract heap type, shared between threads or not.
-    Abstract { shared: bool, ty: AbstractHeapType },
+    /// An abstract heap type.
+    Abstract {
+        /// Whether it is shared between threads.
+        shared: bool,
+        /// The type.
+        ty: AbstractHeapType,
+    },
     /// The type with this index, or a subtype.
-    Concrete(u32),
+    Concrete(UnpackedIndex),
     /// The type with this index, without its subtypes.
-    Exact(u32),
+    Exact(UnpackedIndex),
 }
 
-/// An abstract heap type.
-#[derive(Clone, Copy, Debug, PartialEq, Eq, Hash)]
-pub enum AbstractHeapType {
-    Func,
-    Extern,
-    Any,
-    None,
-    NoExtern,
-    NoFunc,
-    Eq,
-    Struct,
-    Array,
-    I31,
-    Exn,
-    NoExn,
-    Cont,
-    NoCont,
+/// Defines the abstract heap types with their names in `(ref ..)`, and before `ref` in a nullable type.
+macro_rules! abstract_heap_types {
+    ($($(#[$doc:meta])* $name:ident, $plain:literal, $nullable:literal;)*) => {
+        /// An abstract heap type.
+        #[derive(Clone, Copy, Debug, PartialEq, Eq, Hash)]
+        pub enum AbstractHeapType {
+            $($(#[$doc])* $name,)*
+        }
+
+        impl AbstractHeapType {
+            /// The types by their numbers.
+            const ALL: &[AbstractHeapType] = &[$(AbstractHeapType::$name),*];
+
+            /// Returns the name in a type with or without null.
+            const fn name(self, is_nullable: bool) -> &'static str {
+                let (plain, nullable) = match self {
+                    $(AbstractHeapType::$name => ($plain, $nullable),)*
+                };
+                if is_nullable { nullable } else { plain }
+            }
+        }
+    };
+}
+
+abstract_heap_types! {
+    /// Functions.
+    Func, "func", "func";
+    /// Objects of the host.
+    Extern, "extern", "extern";
+    /// All values of the module.
+    Any, "any", "any";
+    /// No value of the module.
+    None, "none", "null";
+    /// No object of the host.
+    NoExtern, "noextern", "nullextern";
+    /// No function.
+    NoFunc, "nofunc", "nullfunc";
+    /// Values that can be compared.
+    Eq, "eq", "eq";
+    /// Structs.
+    Struct, "struct", "struct";
+    /// Arrays.
+    Array, "array", "array";
+    /// Integers of 31 bits.
+    I31, "i31", "i31";
+    /// Exceptions.
+    Exn, "exn", "exn";
+    /// No exception.
+    NoExn, "noexn", "nullexn";
+    /// Continuations.
+    Cont, "cont", "cont";
+    /// No continuation.
+    NoCont, "nocont", "nullcont";
 }
 
 // The library's flags of a heap type: shared, nullable, a reference type as a value type.
@@ -201,8 +350,8 @@ fn abstract_heap_type(byte: u32) -> AbstractHeapType {
 /// Returns the heap type of a kind and an index of the library.
 pub(crate) fn heap_type(kind: u32, index: u32) -> HeapType {
     match kind {
-        1 => HeapType::Concrete(index),
-        2 => HeapType::Exact(index),
+        1 => HeapType::Concrete(UnpackedIndex::Module(index)),
+        2 => HeapType::Exact(UnpackedIndex::Module(index)),
         _ => HeapType::Abstract {
             shared: kind & SHARED != 0,
             ty: abstract_heap_type(kind % SHARED),

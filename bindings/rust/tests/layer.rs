@@ -4,7 +4,7 @@ use wasm_operators::{
     AbstractHeapType, BinaryReader, BlockType, BrTable, Catch, CodeSectionReader, ConstExpr,
     ControlStack, Error, FrameKind, FrameStack, FunctionBody, Handle, HeapType, Ieee32, Ieee64,
     MemArg, MemArgTarget, Operator, OperatorsReader, OperatorsReaderAllocations, Ordering, RefType,
-    Result, ResumeTable, SectionLimited, TryTable, V128, ValType, WasmFeatures,
+    Result, ResumeTable, SectionLimited, TryTable, UnpackedIndex, V128, ValType, WasmFeatures,
 };
 
 /// Returns the text of an error, with its offset.
@@ -217,19 +217,22 @@ fn constant_expressions() -> Result<()> {
 fn types() -> Result<()> {
     let mut reader = BinaryReader::new(&[0x7b, 0x63, 5, 0x64, 0x62, 6, 0x65, 0x6e], 0);
     assert_eq!(reader.read::<ValType>()?, ValType::V128);
-    let nullable = RefType::new(true, HeapType::Concrete(5)).unwrap();
+    let nullable = RefType::new(true, HeapType::Concrete(UnpackedIndex::Module(5))).unwrap();
     assert_eq!(reader.read::<ValType>()?, ValType::Ref(nullable));
     let exact = reader.read::<RefType>()?;
     assert_eq!(
         (exact.is_nullable(), exact.heap_type()),
-        (false, HeapType::Exact(6))
+        (false, HeapType::Exact(UnpackedIndex::Module(6)))
     );
     let shared = HeapType::Abstract {
         shared: true,
         ty: AbstractHeapType::Any,
     };
     assert_eq!(reader.read::<HeapType>()?, shared);
-    assert_eq!(RefType::new(false, HeapType::Exact(1_048_576)), None);
+    assert_eq!(
+        RefType::new(false, HeapType::Exact(UnpackedIndex::Module(1_048_576))),
+        None
+    );
     assert_eq!(RefType::FUNC.nullable(), RefType::FUNCREF);
     assert!(RefType::NULLREF.is_none_ref() && !RefType::NULLREF.as_non_null().is_nullable());
     let mut reader = BinaryReader::new(&[0x01], 3);
@@ -394,7 +397,7 @@ fn features() {
         WasmFeatures::from_name("MEMORY64"),
         Some(WasmFeatures::MEMORY64)
     );
-    assert_eq!(WasmFeatures::from_bits(64), None);
+    assert_eq!(WasmFeatures::from_bits(1 << 63), None);
     let two = WasmFeatures::MEMORY64 | WasmFeatures::LEGACY_EXCEPTIONS;
     assert_eq!(
         two.iter_names().map(|(name, _)| name).collect::<Vec<_>>(),

@@ -1,9 +1,11 @@
 //! Tests of visitors and of arities.
 
 use wasm_operators::{
-    BinaryReader, BlockType, ControlStack, EachVisit, FrameKind, FrameStack, MemArg, MemArgTarget,
-    ModuleArity, Operator, OperatorsReader, Result, ValType, VisitAny, VisitOperator,
-    VisitSimdOperator, for_each_operator, for_each_visit_operator, for_each_visit_simd_operator,
+    BinaryReader, BlockType, CompositeInnerType, CompositeType, ContType, ControlStack, EachVisit,
+    FieldType, FrameKind, FrameStack, FuncType, MemArg, MemArgTarget, ModuleArity, Operator,
+    OperatorsReader, PackedIndex, RefType, Result, StorageType, StructType, SubType, ValType,
+    VisitAny, VisitOperator, VisitSimdOperator, for_each_operator, for_each_visit_operator,
+    for_each_visit_simd_operator,
 };
 
 /// A visitor that returns the names of its methods, and does not support SIMD operators.
@@ -163,32 +165,68 @@ fn macros() {
     assert_eq!((all, simd), (628, 256));
 }
 
-/// A module in which each type and tag has the arity (2, 3), and one frame is open: a loop.
-struct Module;
+/// A module whose types 0 to 8 have the arity (2, 3), except 4 and 5. One frame is open: a loop.
+struct Module {
+    function: SubType,
+    structure: SubType,
+    continuation: SubType,
+}
+
+/// Creates a final type.
+fn final_type(inner: CompositeInnerType) -> SubType {
+    SubType {
+        is_final: true,
+        supertype_idx: None,
+        composite_type: CompositeType {
+            inner,
+            shared: false,
+        },
+    }
+}
+
+impl Module {
+    fn new() -> Module {
+        let to_itself = PackedIndex::from_module_index(5).unwrap();
+        let last = ValType::Ref(RefType::concrete(true, to_itself));
+        let signature = FuncType::new([ValType::I32, last], [ValType::I64; 3]);
+        let field = FieldType {
+            element_type: StorageType::I8,
+            mutable: true,
+        };
+        Module {
+            function: SubType::func(signature, false),
+            structure: final_type(CompositeInnerType::Struct(StructType {
+                fields: Box::new([field; 4]),
+            })),
+            continuation: final_type(CompositeInnerType::Cont(ContType(to_itself))),
+        }
+    }
+}
 
 impl ModuleArity for Module {
-    fn func_type_arity(&self, type_index: u32) -> Option<(u32, u32)> {
-        (type_index < 10).then_some((2, 3))
+    fn sub_type_at(&self, type_idx: u32) -> Option<&SubType> {
+        match type_idx {
+            4 => Some(&self.structure),
+            5 => Some(&self.continuation),
+            0..9 => Some(&self.function),
+            _ => None,
+        }
     }
 
-    fn struct_type_fields(&self, _type_index: u32) -> Option<u32> {
-        Some(4)
-    }
-
-    fn cont_type_func(&self, type_index: u32) -> Option<u32> {
-        Some(type_index)
-    }
-
-    fn cont_type_of_last_param(&self, type_index: u32) -> Option<u32> {
-        Some(type_index)
-    }
-
-    fn tag_type_arity(&self, _tag_index: u32) -> Option<(u32, u32)> {
+    fn tag_type_arity(&self, _at: u32) -> Option<(u32, u32)> {
         Some((2, 3))
     }
 
-    fn type_index_of_function(&self, function_index: u32) -> Option<u32> {
-        Some(function_index)
+    fn type_index_of_function(&self, function_idx: u32) -> Option<u32> {
+        Some(function_idx)
+    }
+
+    fn func_type_of_cont_type(&self, _c: &ContType) -> Option<&FuncType> {
+        Some(self.function.unwrap_func())
+    }
+
+    fn sub_type_of_ref_type(&self, rt: &RefType) -> Option<&SubType> {
+        self.sub_type_at(rt.type_index()?.as_module_index()?)
     }
 
     fn control_stack_height(&self) -> u32 {
@@ -236,8 +274,8 @@ fn arities() {
         (Operator::BrIf { relative_depth: 0 }, Some((3, 2))),
         (Operator::BrOnNull { relative_depth: 0 }, Some((3, 3))),
         (Operator::BrOnNonNull { relative_depth: 0 }, Some((2, 1))),
-        (Operator::Call { function_index: 9 }, Some((2, 3))),
-        (Operator::Call { function_index: 10 }, None),
+        (Operator::Call { function_index: 8 }, Some((2, 3))),
+        (Operator::Call { function_index: 9 }, None),
         (Operator::ReturnCallRef { type_index: 0 }, Some((3, 0))),
         (
             Operator::TypedSelectMulti {
@@ -247,21 +285,21 @@ fn arities() {
         ),
         (
             Operator::ContBind {
-                argument_index: 0,
-                result_index: 1,
+                argument_index: 5,
+                result_index: 5,
             },
             Some((1, 1)),
         ),
         (
             Operator::Switch {
-                cont_type_index: 0,
+                cont_type_index: 5,
                 tag_index: 0,
             },
             Some((2, 2)),
         ),
         (
             Operator::StructNewDesc {
-                struct_type_index: 0,
+                struct_type_index: 4,
             },
             Some((5, 1)),
         ),
@@ -273,7 +311,8 @@ fn arities() {
             Some((7, 1)),
         ),
     ];
+    let module = Module::new();
     for (operator, arity) in rows {
-        assert_eq!(operator.operator_arity(&Module), arity, "{operator:?}");
+        assert_eq!(operator.operator_arity(&module), arity, "{operator:?}");
     }
 }

@@ -1,0 +1,235 @@
+#!/usr/bin/env python3
+"""Builds programs that use wasmparser over the cargo crate, and compares their output with that over wasmparser.
+
+    tools/clients.py ENGINES [MODULES ..]   ENGINES is a folder with a cargo registry of wasmparser 0.239, wasmprinter,
+                                            wasm-encoder and walrus in root/usr/share/cargo/registry, and wasm-tools in
+                                            root/usr/bin. MODULES are files, or folders with files, NAME.wasm or
+                                            NAME.bodies (function bodies, each with its length before it)
+    tools/clients.py --lines                prints how many lines of each client are changed, and why
+
+WASM_OPERATORS_LIBRARIES is the folder of the library, as for cargo. WORK is a folder that keeps what was built, and
+SMITH the number of modules that `wasm-tools smith` makes with all its proposals (300). It makes as many with the
+proposals that walrus reads.
+
+bindings/clients has the programs and `changes.tsv`, the changed lines of each client with their causes. The programs
+read the modules in crates/*/data, the modules of `wasm-tools smith`, and MODULES.
+"""
+
+import csv
+import os
+import random
+import re
+import shutil
+import subprocess
+import sys
+import tempfile
+from pathlib import Path
+
+import sections
+
+TOP = Path(__file__).resolve().parent.parent
+CLIENTS = TOP / "bindings/clients"
+# The program of each client: its source, the version of the client, and the client's features.
+PROGRAMS = {
+    "wasmparser": ("payloads", "0.239.0", ""),
+    "wasmprinter": ("print", "0.239.0", "default-features = false"),
+    "wasm-encoder": ("reencode", "0.239.0", 'default-features = false, features = ["std", "wasmparser"]'),
+    "walrus": ("rewrite", "0.24.4", ""),
+}
+CAUSES = {
+    "offsets": "offsets have 64 bits in 0.263",
+    "memarg": "`MemArg::target` of 0.263",
+    "operators": "operators of 0.263",
+    "fence": "the ordering of `atomic.fence` of 0.263",
+    "exact": "exact references of 0.263",
+    "validator": "this crate has no `Validator`",
+}
+OURS = f'package = "wasm-operators", path = "{TOP / "bindings/rust"}"'
+SIDES = ("wasmparser", "wasm-operators")
+# The features of the crate that reads.
+PARSER = 'default-features = false, features = ["std", "features", "simd"]'
+# The proposals of `wasm-tools smith` that walrus does not read.
+UNREAD = {"custom-page-sizes", "exceptions", "gc", "shared-everything-threads", "wide-arithmetic"}
+SEED = 263
+SEED_BYTES = 4000
+
+
+def changes():
+    with open(CLIENTS / "changes.tsv", encoding="utf-8", newline="") as lines:
+        return list(csv.DictReader(lines, delimiter="\t", quoting=csv.QUOTE_NONE))
+
+
+def counted():
+    """Returns the number of changed lines by client and cause: lines that differ, and lines that are added."""
+    found = {}
+    for row in changes():
+        new = row["new"].split("\\n")
+        lines = len(new) - (new[0] == row["old"]) if row["new"] else 1
+        found.setdefault(row["client"], dict.fromkeys(CAUSES, 0))[row["cause"]] += lines
+    return found
+
+
+def changed(text, rows):
+    """Returns a source with its changed lines."""
+    lines = text.split("\n")
+    for row in rows:
+        at = int(row["line"]) - 1
+        if lines[at].strip() != row["old"]:
+            sys.exit(f"{row['client']} {row['file']}:{row['line']}: another line than in changes.tsv: {lines[at].strip()}")
+        lines[at] = "\n".join(row["new"].split("\\n")) if row["new"] else None
+    return "\n".join(line for line in lines if line is not None)
+
+
+def patch(client, source, folder):
+    """Copies a client, with its changed lines and one line of Cargo.toml."""
+    shutil.copytree(source, folder, dirs_exist_ok=True)
+    for path in [folder, *folder.rglob("*")]:
+        path.chmod(0o755 if path.is_dir() else 0o644)
+    (folder / ".cargo-checksum.json").unlink(missing_ok=True)
+    files = {}
+    for row in changes():
+        if row["client"] == client:
+            files.setdefault(row["file"], []).append(row)
+    for name, rows in files.items():
+        text = (source / name).read_text(encoding="utf-8")
+        (folder / name).write_text(changed(text, rows), encoding="utf-8")
+    manifest = (folder / "Cargo.toml").read_text(encoding="utf-8")
+    manifest = re.sub(r"\[dev-dependencies.*\n(?:.+\n)*", "", manifest)
+    line = OURS.replace(", ", "\n")
+    manifest, count = re.subn(r'(?<=\[dependencies\.wasmparser\]\n)version = ".*"', line, manifest)
+    assert count == 1, f"{client} does not depend on wasmparser"
+    (folder / "Cargo.toml").write_text(manifest, encoding="utf-8")
+
+
+def build(registry, work):
+    """Builds the programs over both crates, and returns their paths by client and side."""
+    config = f'[source.crates-io]\nreplace-with = "local"\n[source.local]\ndirectory = "{registry}"\n[net]\noffline = true\n'
+    (work / ".cargo").mkdir(parents=True, exist_ok=True)
+    (work / ".cargo/config.toml").write_text(config, encoding="utf-8")
+    programs = {}
+    for client, (source, version, features) in PROGRAMS.items():
+        copy = work / "clients" / client
+        if client != "wasmparser":
+            patch(client, registry / f"{client}-{version}", copy)
+        for side in SIDES:
+            is_ours = side == "wasm-operators"
+            name = f"{source}-{side}"
+            parser = ("wasmparser", OURS if is_ours else 'version = "0.239"', PARSER)
+            wanted = [(client, f'path = "{copy}"' if is_ours else f'version = "{version}"', features), parser]
+            programs[client, side] = project(work, name, source, wanted[client == "wasmparser" :])
+    return programs
+
+
+def project(work, name, source, wanted):
+    """Builds a program, and returns its path."""
+    folder = work / name
+    folder.mkdir(exist_ok=True)
+    dependencies = [f"{crate} = {{ {', '.join(filter(None, parts))} }}" for crate, *parts in wanted]
+    manifest = [
+        f'[package]\nname = "{name}"\nversion = "0.0.0"\nedition = "2024"\n[workspace]',
+        f'[[bin]]\nname = "{name}"\npath = "{CLIENTS / source}.rs"',
+        "[profile.dev]\nopt-level = 1\n[dependencies]",
+        *dependencies,
+    ]
+    (folder / "Cargo.toml").write_text("\n".join(manifest) + "\n", encoding="utf-8")
+    target = work / "target"
+    command = ["cargo", "build", "--offline", "--quiet"]
+    environment = {**os.environ, "CARGO_TARGET_DIR": str(target)}
+    run = subprocess.run(command, cwd=folder, env=environment, capture_output=True, text=True)
+    if run.returncode != 0:
+        sys.exit(f"{name} does not build:\n{run.stderr}")
+    return target / "debug" / name
+
+
+def module_of_bodies(data):
+    """Returns a module whose functions have these bodies. It is not valid: the other sections are missing."""
+    bodies = []
+    while data:
+        length = int.from_bytes(data[:4], "little")
+        bodies.append(sections.number(length) + data[4 : 4 + length])
+        data = data[4 + length :]
+    count = sections.number(len(bodies))
+    parts = [(1, b"\x01\x60\0\0"), (3, count + bytes(len(bodies))), (10, count + b"".join(bodies))]
+    return b"\0asm\1\0\0\0" + b"".join(bytes([id]) + sections.number(len(part)) + part for id, part in parts)
+
+
+def smith(engines, work, count):
+    """Makes modules with all proposals that `wasm-tools smith` knows, and as many with those that walrus reads."""
+    root = engines / "root"
+    library = root / "usr/lib/x86_64-linux-gnu"
+    program = [root / "usr/lib64/ld-linux-x86-64.so.2", "--library-path", library, root / "usr/bin/wasm-tools", "smith"]
+    texts = subprocess.run([*program, "--help"], capture_output=True, text=True, check=True).stdout
+    proposals = sorted(set(re.findall(r"--([\w-]+)-enabled", texts)))
+    random_bytes, made = random.Random(SEED), []
+    while len(made) < 2 * count:
+        path = work / f"smith-{len(made):03}.wasm"
+        left_out = UNREAD if len(made) >= count else set()
+        flags = [f"--{proposal}-enabled={str(proposal not in left_out).lower()}" for proposal in proposals]
+        seed = random_bytes.randbytes(SEED_BYTES)
+        run = subprocess.run([*program, *flags, "-o", path], input=seed, capture_output=True)
+        if run.returncode == 0:
+            made.append(path)
+        elif run.returncode == 1:
+            sys.exit(run.stderr.decode())
+    return made
+
+
+def given(words, work):
+    """Returns the modules that the words name. Files of bodies become modules."""
+    paths = [path for word in words for path in ([Path(word)] if Path(word).is_file() else sorted(Path(word).rglob("*")))]
+    found = []
+    for path in paths:
+        if path.suffix == ".wasm":
+            found.append(path)
+        elif path.suffix == ".bodies":
+            module = work / f"{path.stem}.bodies.wasm"
+            module.write_bytes(module_of_bodies(path.read_bytes()))
+            found.append(module)
+    return found
+
+
+def compare(programs, modules, work):
+    """Runs the programs, and returns a line for each client, and the modules at which they differ."""
+    paths = work / "modules"
+    paths.write_text("".join(f"{path}\n" for path in modules), encoding="utf-8")
+    lines, faults = [], []
+    for client in PROGRAMS:
+        found = []
+        for side in SIDES:
+            run = subprocess.run([programs[client, side], paths], capture_output=True, text=True)
+            found.append(run.stdout.splitlines())
+            if run.returncode != 0 or len(found[-1]) != len(modules):
+                faults.append(f"{client} over {side}: {run.stderr or 'ends early'}")
+        pairs = list(zip(*found))
+        # walrus validates what it reads, which it does not over this crate
+        invalid = [pair for pair in pairs if client == "walrus" and "\terror\t" in pair[0]]
+        different = [pair for pair in pairs if pair[0] != pair[1] and pair not in invalid]
+        rest = f", {len(invalid)} modules that it does not read" if invalid else ""
+        lines.append(f"{client}: {len(pairs) - len(invalid)} modules, {len(different)} differences{rest}")
+        faults += [f"{client}:\n  {one}\n  {other}" for one, other in different]
+    return lines, faults
+
+
+def main():
+    words = sys.argv[1:]
+    if words == ["--lines"]:
+        for client, lines in counted().items():
+            print(f"{client}: {', '.join(f'{count} {CAUSES[cause]}' for cause, count in lines.items() if count)}")
+        return
+    if not words or words[0].startswith("-"):
+        print(__doc__)
+        sys.exit(words not in (["--help"], ["-h"]))
+    engines = Path(words[0]).resolve()
+    with tempfile.TemporaryDirectory() as folder:
+        work = Path(os.environ.get("WORK", folder)).resolve()
+        programs = build(engines / "root/usr/share/cargo/registry", work)
+        modules = sorted((TOP / "crates").glob("*/data/*.wasm"))
+        modules += smith(engines, work, int(os.environ.get("SMITH", "300"))) + given(words[1:], work)
+        lines, faults = compare(programs, modules, work)
+    print("\n".join(lines + faults))
+    sys.exit(bool(faults))
+
+
+if __name__ == "__main__":
+    sys.dont_write_bytecode = True
+    main()
