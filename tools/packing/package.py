@@ -6,9 +6,11 @@ import re
 import shutil
 import tarfile
 
+from packing import texts
 from packing.builds import TOP
 
-CRATE = TOP / "bindings/rust"
+FOLDER = "bindings/rust"
+CRATE = TOP / FOLDER
 KEPT = ["Cargo.toml", "Cargo.lock", "build.rs", "README.md", "API.md", "src", "examples", "tests"]
 OUTSIDE = re.compile(r'(include_(?:str|bytes)!\(\s*")(?:\.\./){2,}([^"]+)"')
 
@@ -32,6 +34,12 @@ def bring_in(folder):
             shutil.copyfile(TOP / path, folder / "tests" / inside)
 
 
+def place_of(path):
+    """Returns the path in the package of a file of the repository, or None."""
+    inside = path.removeprefix(f"{FOLDER}/")
+    return inside if inside != path and inside.split("/")[0] in KEPT else None
+
+
 def make(folder, libraries, notices):
     package = folder / f"{field('name')}-{field('version')}"
     for name in KEPT:
@@ -39,6 +47,9 @@ def make(folder, libraries, notices):
         package.mkdir(parents=True, exist_ok=True)
         copy(CRATE / name, package / name)
     bring_in(package)
+    for page in package.glob("*.md"):
+        text = page.read_text(encoding="utf-8")
+        page.write_text(texts.relinked(f"{FOLDER}/{page.name}", text, place_of), encoding="utf-8")
     # (as cargo does, for a file outside of the crate's folder)
     manifest = package / "Cargo.toml"
     manifest.write_text(manifest.read_text(encoding="utf-8").replace('"../../LICENSE"', '"LICENSE"'), encoding="utf-8")

@@ -1,8 +1,10 @@
 """Writes the texts of dist/."""
 
 import hashlib
+import posixpath
 import re
 import subprocess
+from pathlib import PurePosixPath
 
 from packing.builds import TOP
 
@@ -57,6 +59,33 @@ def man_page(name, text, commit):
     what = (what[0].lower() + what[1:]).rstrip(".").replace("`", "")
     head = f'.TH {name.upper()} 1 "" "{commit[:12]}"\n.SH NAME\n{escape(name)} \\- {escape(what)}\n'
     return f"{head}.SH DESCRIPTION\n.nf\n{escape(text)}.fi\n"
+
+
+NOTE = """\
+> From the repository. What this page says of a clone, such as commands with `crates/` or `tools/`, needs one.
+
+"""
+LINK = re.compile(r"\[([^\]]*)\]\(([^)#\s]*)(#[^)\s]*)?\)")
+
+
+def relinked(page, text, place_of):
+    """Returns a page's text with the links to files of the repository that `place_of` gives. Without one, the text is plain."""
+
+    def link(found):
+        text, target, part = found[1], found[2], found[3] or ""
+        if not target or re.match(r"[a-z]+:", target):
+            return found[0]
+        place = place_of(posixpath.normpath(posixpath.join(posixpath.dirname(page), target)))
+        return f"[{text}]({place}{part})" if place else text
+
+    return LINK.sub(link, text)
+
+
+def installed_page(page, kept):
+    """Returns a page of the repository for a folder with the files `kept`."""
+    title, _, rest = (TOP / page).read_text(encoding="utf-8").partition("\n\n")
+    names = {path: PurePosixPath(path).name for path in kept}
+    return f"{title}\n\n{NOTE}{relinked(page, rest, names.get)}"
 
 
 def glibc_of(programs):

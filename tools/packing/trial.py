@@ -1,13 +1,14 @@
 """Uses an installed dist/ in an empty folder, without `rt` on the PATH."""
 
 import os
+import re
 import shutil
 import subprocess
 import sys
 import tempfile
 from pathlib import Path
 
-from packing import package
+from packing import installed, package, texts
 from packing.builds import TOP
 
 COMMANDS = ["cc", "cargo", "rustc", "rustup", "pkg-config", "tar", "ld", "as"]
@@ -50,6 +51,27 @@ def ran(words, cwd, env, wanted=None):
     return done.stdout
 
 
+def dead_links(prefix):
+    """Returns the relative links of installed pages that lead to no file."""
+    for page in sorted(prefix.rglob("*.md")):
+        for found in texts.LINK.finditer(page.read_text(encoding="utf-8")):
+            if found[2] and not re.match(r"[a-z]+:", found[2]) and not (page.parent / found[2]).exists():
+                yield f"{page.relative_to(prefix)}: {found[0]}"
+
+
+def try_tree(prefix, env):
+    if dead := list(dead_links(prefix)):
+        raise Failed("links that lead nowhere:\n" + "\n".join(dead))
+    ran(["sha256sum", "--check", "--quiet", installed.SUMS], prefix, env)
+
+
+def try_uninstalling(prefix):
+    (prefix / "mine").write_text("kept", encoding="utf-8")
+    installed.uninstall(prefix)
+    if left := sorted(str(it.relative_to(prefix)) for it in prefix.rglob("*") if it.name != "mine"):
+        raise Failed(f"left after --uninstall: {left}")
+
+
 def try_programs(prefix):
     for program in sorted((prefix / "bin").iterdir()):
         words = [sys.executable, "-B", TOP / "tools/cases.py", "--program", program, program.name]
@@ -59,8 +81,8 @@ def try_programs(prefix):
 def try_c(prefix, folder, env):
     env = {**env, "PKG_CONFIG_PATH": str(prefix / "lib/pkgconfig")}
     flags = ran(["pkg-config", "--cflags", "--libs", "wasm_operators"], folder, env).split()
-    source = prefix / "share/doc/wasm-operators/list.c"
-    ran(["cc", "-std=c99", "-Wall", "-Werror", "-o", "list", source, *flags], folder, env)
+    for source in sorted((prefix / installed.DOC).glob("*.c")):
+        ran(["cc", "-std=c99", "-Wall", "-Werror", "-o", source.stem, source, *flags], folder, env)
     (folder / "body").write_bytes(BODY)
     ran([folder / "list", "body"], folder, env, LISTED)
 
@@ -77,7 +99,7 @@ def try_cargo(prefix, folder, env):
     ran(["cargo", "test", "--offline", "--quiet"], folder / name, env)
 
 
-def run(out, install):
+def run(out):
     with tempfile.TemporaryDirectory(prefix="dist-try-") as made:
         folder = Path(made)
         env = {name: value for name, value in os.environ.items() if name in ("HOME", "RUSTUP_HOME", "CARGO_HOME", "LANG")}
@@ -85,11 +107,13 @@ def run(out, install):
         if any(shutil.which(name, path=env["PATH"]) for name in ("rt", "rattle")):
             raise Failed("rt is still on the PATH")
         prefix = folder / "prefix"
-        install(out, prefix)
+        installed.install(out, prefix)
+        try_tree(prefix, env)
         try_programs(prefix)
         for command, tries in (("cc", try_c), ("cargo", try_cargo)):
             if shutil.which(command, path=env["PATH"]):
                 tries(prefix, folder, env)
             else:
                 print(f"dist: no {command} here, so what needs it is not tried")
-        print("dist: the programs, the C program and the cargo crate work without the kit")
+        try_uninstalling(prefix)
+        print("dist: the programs, the C programs and the cargo crate work without the kit")

@@ -12,7 +12,7 @@ from pathlib import Path
 from unittest import mock
 
 import trust
-from packing import builds, package, rattle, texts
+from packing import builds, installed, package, rattle, texts, trial
 from testing.crates import Crates
 
 TOP = Path(__file__).resolve().parent.parent.parent
@@ -150,6 +150,7 @@ class Package(Folders):
         self.assertEqual((made / "native/low-LICENSE").read_text(), "free")
         self.assertIn('license-file = "LICENSE"', (made / "Cargo.toml").read_text())
         self.assertEqual((made / "LICENSE").read_text(), (TOP / "LICENSE").read_text())
+        self.assertEqual(list(trial.dead_links(made)), [])
         outside = [path for path in made.rglob("*.rs") if package.OUTSIDE.search(path.read_text(encoding="utf-8"))]
         self.assertEqual(outside, [])
         packed = [self.folder / name for name in ("one.crate", "two.crate")]
@@ -199,6 +200,20 @@ class Texts(Folders):
         checked = subprocess.run(["sha256sum", "-c", "--quiet"], input=text, text=True, cwd=self.folder)
         self.assertEqual(checked.returncode, 0)
 
+    def test_links_of_installed_pages(self):
+        text = "[a](b.md#c) [d](../x/y.rt) [e](https://e.example/f) [g](#h) [i](../x/z.c)"
+        names = {"docs/b.md": "b.md", "x/z.c": "z.c"}
+        changed = texts.relinked("docs/a.md", text, names.get)
+        self.assertEqual(changed, "[a](b.md#c) d [e](https://e.example/f) [g](#h) [i](z.c)")
+
+    def test_installed_pages(self):
+        pages = [*tool("dist").PAGES, *tool("dist").EXAMPLES]
+        for path in pages:
+            self.file(Path(path).name, texts.installed_page(path, pages) if path.endswith(".md") else "")
+        self.assertEqual(list(trial.dead_links(self.folder)), [])
+        self.file("CALLERS.md", "[x](lost.md)")
+        self.assertEqual(list(trial.dead_links(self.folder)), ["CALLERS.md: [x](lost.md)"])
+
     def test_pkg_config(self):
         text = texts.PKG_CONFIG.format(version=texts.version(), note="")
         self.assertIn("prefix=${pcfiledir}/../..\n", text)
@@ -206,18 +221,51 @@ class Texts(Folders):
 
 
 class Install(Folders):
-    def test_prefix(self):
-        for path in ("bin/low", "lib/pkgconfig/a.pc", "include/a.h", "share/man/man1/low.1", "rattle/KIT", "PROVED", "README.md"):
+    DIST = ("bin/low", "lib/pkgconfig/a.pc", "include/a.h", "share/man/man1/low.1", "rattle/KIT", "PROVED", "README.md", "SHA256SUMS")
+    PLACES = {
+        "bin/low", "lib/pkgconfig/a.pc", "include/a.h", "share/man/man1/low.1", "share/wasm-operators/rattle/KIT",
+        "share/doc/wasm-operators/PROVED", "share/doc/wasm-operators/README.md", "share/doc/wasm-operators/SHA256SUMS",
+    }
+
+    def setUp(self):
+        super().setUp()
+        self.prefix = self.folder / "prefix"
+        for path in self.DIST:
             self.file(f"dist/{path}", path)
         (self.folder / "dist/bin/low").chmod(0o755)
         with redirect_stdout(io.StringIO()):
-            tool("dist").install(self.folder / "dist", self.folder / "prefix")
-        found = {str(it.relative_to(self.folder / "prefix")) for it in (self.folder / "prefix").rglob("*") if it.is_file()}
-        self.assertEqual(found, {
-            "bin/low", "lib/pkgconfig/a.pc", "include/a.h", "share/man/man1/low.1", "share/wasm-operators/rattle/KIT",
-            "share/doc/wasm-operators/PROVED", "share/doc/wasm-operators/README.md",
-        })
-        self.assertTrue(os.access(self.folder / "prefix/bin/low", os.X_OK))
+            installed.install(self.folder / "dist", self.prefix)
+
+    def found(self):
+        return {str(it.relative_to(self.prefix)) for it in self.prefix.rglob("*") if it.is_file()}
+
+    def test_prefix(self):
+        self.assertEqual(self.found(), self.PLACES)
+        self.assertTrue(os.access(self.prefix / "bin/low", os.X_OK))
+
+    def test_checksums(self):
+        check = lambda: subprocess.run(["sha256sum", "--check", "--quiet", installed.SUMS], cwd=self.prefix, capture_output=True)
+        self.assertEqual(check().returncode, 0)
+        lines = (self.prefix / installed.SUMS).read_text().splitlines()
+        self.assertEqual(len(lines), len(self.PLACES) - 1)
+        (self.prefix / "bin/low").write_text("other")
+        self.assertNotEqual(check().returncode, 0)
+
+    def test_uninstalling(self):
+        (self.prefix / "share/doc/other").write_text("kept")
+        with redirect_stdout(io.StringIO()):
+            installed.uninstall(self.prefix)
+        self.assertEqual(self.found(), {"share/doc/other"})
+        self.assertEqual({it.name for it in self.prefix.iterdir()}, {"share"})
+        with self.assertRaisesRegex(installed.NotInstalled, "nothing is installed there"):
+            installed.uninstall(self.prefix)
+
+    def test_destdir(self):
+        prefix_of = tool("dist").prefix_of
+        with mock.patch.dict(os.environ, {"DESTDIR": "/staged"}):
+            self.assertEqual(prefix_of(Path("/usr")), Path("/staged/usr"))
+        with mock.patch.dict(os.environ, {"DESTDIR": ""}):
+            self.assertEqual(prefix_of(Path("/usr")), Path("/usr"))
 
     def test_commit_of_a_build(self):
         self.file("PROVED", texts.PROVED.format(commit="abc", kit="k", glibc="", said="", verdict=""))
