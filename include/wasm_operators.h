@@ -145,7 +145,7 @@ enum wasm_value_kind {
   WASM_VALUE_CLAUSE = 19 /* of a resume; kind: its form; number: its tag; index: its label */
 };
 
-/* docs/ERRORS-AND-FEATURES.md lists the texts and offsets of 1 to 25. */
+/* docs/ERRORS-AND-FEATURES.md lists the texts and offsets of 1 to 28. */
 enum wasm_refused {
   WASM_REFUSED_END_OF_DATA = 1,
   WASM_REFUSED_FEATURE_REQUIRED = 2,
@@ -172,6 +172,9 @@ enum wasm_refused {
   WASM_REFUSED_TOO_MANY_LOCALS = 23,
   WASM_REFUSED_INVALID_TYPE = 24,
   WASM_REFUSED_DATA_AFTER_SECTION = 25,
+  WASM_REFUSED_MALFORMED = 26, /* name: which part of a module */
+  WASM_REFUSED_BAD_MAGIC = 27, /* value: the first four bytes, little-endian */
+  WASM_REFUSED_UNKNOWN_VERSION = 28, /* value: the version */
   WASM_REFUSED_UNKNOWN_FEATURES = 100,
   WASM_REFUSED_PAST_OFFSETS = 101,
   WASM_REFUSED_NO_ROOM = 102, /* an array is too short */

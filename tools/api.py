@@ -72,7 +72,7 @@ def heading(name):
 
 
 def is_type(name):
-    return re.fullmatch(r"[A-Z]\w+", name) is not None and name != "Parser"
+    return re.fullmatch(r"[A-Z]\w+", name) is not None
 
 
 def item(row):

@@ -20,13 +20,14 @@ sys.path.insert(0, str(Path(__file__).resolve().parent / "generate"))
 from paths import TOP, crates
 
 # Programs, static libraries and proved callers. Tests are known by their names.
-OUTSIDE = ("wasm_objdump", "wasm_dump", "wasm_c_exports", "wasm_bench", "uses")
+OUTSIDE = ("wasm_objdump", "wasm_dump", "wasm_compact", "wasm_c_exports", "wasm_bench", "uses")
 # The crates that list names of others for users.
-LISTS = ("wasm_operators", "wasm_encode", "wasm_c")
+LISTS = ("wasm_operators", "wasm_encode", "wasm_check", "wasm_c")
 # The exceptions: crate, library and file of the lemmas, their names, and why.
 CODES = "encodings are a prefix code, which is also a law, and not empty, which no law says"
 REFUSED = "what an error implies for the bytes"
 BENCH = ("wasm_bench",)
+STEPS = "the steps by which each type that a grammar reads is proved"
 CITED = [
     (*BENCH, "wasm_below.proofs", "Blocks", "refused_now", REFUSED),
     (*BENCH, "wasm_below.proofs", "PrefixCode", "byte_prefix_code signed_prefix_code signed_some", CODES),
@@ -36,6 +37,7 @@ CITED = [
     (*BENCH, "wasm_imm.proofs", "BranchTables", "table_prefix_code", CODES),
     (*BENCH, "wasm_imm.proofs", "FlagsNumber", "memarg_prefix_code", CODES),
     (*BENCH, "wasm_imm.proofs", "ListLemmas", "each_more", "a longer list of texts"),
+    ("wasm_tests_segments", "wasm_grammars.proofs", "Steps", "begins ends_as fails_at placed stays then", STEPS),
 ]
 
 

@@ -1,5 +1,5 @@
 #!/usr/bin/env python3
-"""Writes the input and the expected output of the program wasm_tests_lists, from wasmparser's lists alone.
+"""Writes the input and the expected output of the program wasm_tests_lists, from tools/original alone.
 
     tools/expected.py            writes crates/wasm_tests_lists/stdin and stdout
     tools/expected.py --check    fails if a file is not what these lists give
@@ -8,13 +8,14 @@ The README of the program says what it reads: nothing generated from the table.
 """
 
 import csv
+import re
 import sys
 from pathlib import Path
 
 sys.path.insert(0, str(Path(__file__).resolve().parent / "generate"))
 
 from expected_reading import FRAMED, unsigned, write_or_check
-from original import originals
+from original import originals, signatures
 
 TOP = Path(__file__).resolve().parent.parent
 CRATE = TOP / "crates" / "wasm_tests_lists"
@@ -56,6 +57,23 @@ OTHERS = {
 }
 # In `MemArg` the flags are an alignment of 1 and that a memory index follows.
 MEMARG = "410308"
+# The types of the table of types, as `OperandType` prints.
+TYPES = {
+    "i32": "I32",
+    "i64": "I64",
+    "f32": "F32",
+    "f64": "F64",
+    "v128": "V128",
+    "at": "Address",
+    "at(x)": "Address",
+    "(ref null eq)": "EqRef",
+    "(ref null array)": "ArrayRef",
+    "(ref null i31)": "I31Ref",
+    "(ref i31)": "I31",
+}
+# Operators whose types depend on the memory alone, and operators of fixed types that name a segment, which must exist.
+OF_MEMORY = ("MemorySize", "MemoryGrow", "MemoryFill")
+OF_SEGMENT = ("DataDrop", "ElemDrop")
 # The flags of a cast, before its fields: only the source type is nullable.
 CAST = "01"
 # The innermost frames of operators that need a certain one.
@@ -104,10 +122,37 @@ def line_of(op, by_rule):
     return f"{facts} Some(({takes}, {leaves})) {is_simd} true {is_end} true {shown(op)}"
 
 
+def types(cell):
+    items = re.findall(r"\(ref[^)]*\)|[^ -]\S*", cell)
+    return f"[{', '.join(TYPES[it] for it in items)}]"
+
+
+def typing(op, signature):
+    if signature["class"] == "unsupported":
+        return f"unsupported: {op.proposal}"
+    is_fixed = signature["class"] == "fixed" and op.name not in OF_SEGMENT or op.name in OF_MEMORY
+    return f"{types(signature['parameters'])} -> {types(signature['results'])}" if is_fixed else "by rule"
+
+
+def lane(op):
+    lanes = re.match(r"[IF]\d+x(\d+)", op.name)
+    count = lanes[1] if lanes else 128 // int(re.fullmatch(r"V128(?:Load|Store)(\d+)Lane", op.name)[1])
+    return f"lane {NUMBERS['lane']} of {count}"
+
+
+def typing_lines(op, signature):
+    """Returns the lines below an operator's line: types, memory argument and lane."""
+    found = [typing(op, signature)]
+    found += [memarg(op) for kind in op.immediates if kind.startswith("memory ")]
+    found += [lane(op) for kind in op.immediates if kind == "lane_index"]
+    return "".join(f"  {line}\n" for line in found)
+
+
 def files():
     with open(CRATE / "by_rule.tsv", encoding="utf-8", newline="") as lines:
         rows = csv.DictReader(lines, delimiter="\t")
         by_rule = {row["name"]: (row["takes"], row["leaves"]) for row in rows}
+    types_of = {row["name"]: row for row in signatures()}
     ops = originals()
     lost = [op.name for op in ops if op.is_by_rule and op.name not in by_rule]
     if lost:
@@ -115,7 +160,7 @@ def files():
     edges = (CRATE / "edges.txt").read_text(encoding="utf-8")
     return {
         "stdin": "".join(row(op) + "\n" for op in ops),
-        "stdout": "".join(line_of(op, by_rule) + "\n" for op in ops) + edges,
+        "stdout": "".join(f"{line_of(op, by_rule)}\n{typing_lines(op, types_of[op.name])}" for op in ops) + edges,
     }
 
 

@@ -1,11 +1,12 @@
 #!/usr/bin/env python3
-"""Writes the input and the expected output of the program wasm_tests_decode, from wasmparser's samples.
+"""Writes the input and the expected output of wasm_tests_decode and wasm_dump, from wasmparser's samples.
 
-    tools/expected_reading.py            writes crates/wasm_tests_decode/stdin and stdout
+    tools/expected_reading.py            writes stdin and stdout in crates/wasm_tests_decode and crates/wasm_dump
     tools/expected_reading.py --check    fails if a file is not what the samples and rows give
 
-The README of the program says what it reads: nothing generated from the table. It adds each subopcode lengthened by a
-byte, unknown opcodes, the subopcodes next to known ones, and the operators that need a frame in each frame.
+The README of wasm_tests_decode says what the program reads: nothing generated from the table. The tool adds each
+subopcode lengthened by a byte, unknown opcodes, the subopcodes next to known ones, and the operators that need a frame in
+each frame. wasm_dump reads one body with all operators.
 """
 
 import csv
@@ -18,6 +19,7 @@ from original import FOLDER, GROUPS, originals
 
 TOP = Path(__file__).resolve().parent.parent
 CRATE = TOP / "crates" / "wasm_tests_decode"
+DUMP = TOP / "crates" / "wasm_dump"
 
 # In the order of their bits.
 FEATURES = [
@@ -45,16 +47,13 @@ FLAGS = [
 RESERVED = "E20 at 1: malformed memop: reserved flags bits set"
 # Immediates that are read as a block: if data is missing, EndOfData is at the start of the block.
 BLOCKS = {"float_32": 4, "float_64": 8, "vector": 16}
-# The operators whose visits the program overrides.
-OWN = (
-    "Unreachable", "Nop", "LocalGet", "I32Const", "Switch",
-    "I32Eqz", "I64Extend32S",
-    "StructNew", "ArrayCopy", "RefI31",
-    "I32TruncSatF32S", "DataDrop", "MemoryCopy", "TableInit", "I64MulWideU",
-    "MemoryAtomicNotify", "AtomicFence", "Pause",
-    "V128Load", "I8x16Shuffle", "V128AnyTrue",
-    "I64x2Eq", "I32x4RelaxedDotI8x16I7x16AddS",
-)
+# The operators that open, turn or close frames, in a body without locals that has each. The outermost frame needs no
+# capacity, and the first `Block` reserves it for eight more, so none is left at `Else`, `Catch`, `CatchAll`, `Delegate` and
+# the first `End`.
+FRAMES_CHANGE = [
+    *["Block"] * 7, "If", "Else", "End", "Try", "Catch", "CatchAll", "End", "Try", "Delegate", "Loop", "End", "TryTable",
+    *["End"] * 9,
+]
 # The output for the visitor by reference, in a box, and by reference to the box.
 OTHERS = "others same same same"
 # The same for a direct call of `decode_simd_low` or `decode_simd_high`.
@@ -112,7 +111,7 @@ def wanted(task, kinds):
         plain = plain_answer(task, answer)
         return f"{answer}; factory the same; visit {answer}; {OTHERS}{half(task)}; plain {plain}; again the same; cut"
     name = task.answer.split()[0]
-    call = "by " + ("Table" if name == "BrTable" else "Own" if name in OWN else "Any")
+    call = "by Table" if name == "BrTable" else "by Own"
     offsets = "".join(f" {offset}" for offset in cuts(task, kinds[name]))
     at = task.start + len(task.operator)
     plain = plain_answer(task, call)
@@ -195,6 +194,25 @@ def tasks():
     return [*found, *longer, *unknown(ops), *framed(), *flagged(), *written_by_hand()]
 
 
+def whole_body():
+    """Returns the names and bytes of a body with all operators.
+
+    Those that keep the frames precede the others, so no capacity for frames is left at any operator that opens none.
+    """
+    operators = {task.answer.split()[0]: task.operator for task in samples()}
+    names = [name for name in operators if name not in FRAMES_CHANGE] + FRAMES_CHANGE
+    return [(name, operators[name]) for name in names]
+
+
+def dumped():
+    """Returns the files of wasm_dump: the body, after a byte for no locals, and the line of each operator."""
+    body, lines = b"\x00", []
+    for name, operator in whole_body():
+        lines.append(f"{len(body)} {name}\n")
+        body += operator
+    return {"stdin": body, "stdout": "".join(lines)}
+
+
 def files():
     kinds = {op.name: op.immediates for op in originals()}
     asked = tasks()
@@ -210,15 +228,16 @@ def write_or_check(crate, wanted, doc):
     if sys.argv[1:] and not check:
         sys.exit(doc)
     for name, text in wanted.items():
-        path = crate / name
-        if path.exists() and path.read_bytes() == text.encode():
+        path, data = crate / name, text.encode() if isinstance(text, str) else text
+        if path.exists() and path.read_bytes() == data:
             continue
         if check:
             sys.exit(f"{path.relative_to(TOP)} is not what tools/original gives: run tools/{Path(sys.argv[0]).name}")
-        path.write_bytes(text.encode())
+        path.write_bytes(data)
         print(path.relative_to(TOP))
 
 
 if __name__ == "__main__":
     sys.dont_write_bytecode = True
     write_or_check(CRATE, files(), __doc__)
+    write_or_check(DUMP, dumped(), __doc__)

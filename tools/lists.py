@@ -30,6 +30,7 @@ from original import differences
 from own_visits import own_visit_files
 from paths import by_defined
 from plain import plain_files, unshaped
+from premises import premise_files
 from printed_fields import printed_field_files
 from proposals import proposal_files
 from routes import route_files
@@ -37,6 +38,8 @@ from rows import enum_by_opcode, enum_rows, equality_answer, operator_rows, oper
 from rules import faults
 from source import Shape, enum_source, operator_source
 from table import ENUMS, HEAD, TOP, table
+from signature_rows import row_files, too_long
+from signatures import signature_files
 from texts import text_files
 from visits import visit_files
 
@@ -70,6 +73,9 @@ def files(ops):
     out |= text_files(ops)
     out |= plain_files(ops)
     out |= own_visit_files(ops)
+    out |= signature_files(ops)
+    out |= row_files(ops)
+    out |= premise_files(ops)
     out |= header_files(ops)
     out |= cargo_files(ops)
     return laid_out(by_defined(out))
@@ -92,7 +98,7 @@ def main():
     if sys.argv[1:] and not check:
         print(__doc__)
         sys.exit(sys.argv[1:] not in (["--help"], ["-h"]))
-    found = faults() or differences(table()) or unread(table()) or unshaped(table())
+    found = faults() or differences(table()) or unread(table()) or unshaped(table()) or too_long(table())
     if found:
         sys.exit("\n".join(found))
     wanted = files(table())

@@ -8,7 +8,7 @@ from table import COLUMNS, TOP, Operator, table
 
 
 def trial(**row):
-    row = {"name": "Trial", "code": "ff", "takes": "0", "leaves": "0"} | row
+    row = {"name": "Trial", "code": "ff", "signature": "[] -> []"} | row
     return Operator([row.get(column, "") for column in COLUMNS], "trial.tsv:7")
 
 

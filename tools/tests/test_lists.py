@@ -28,7 +28,7 @@ def row_of(kind, group, number):
     name = f"Trial{group}{kind.title().replace('_', '')}"
     return cells_of(
         proposal=proposal, name=name, visit=f"visit_trial_{group.lower()}_{kind}", prefix=prefix,
-        code=f"{code:02x}", fields=fields, immediates=immediate, takes="by rule", leaves="by rule",
+        code=f"{code:02x}", fields=fields, immediates=immediate, signature="rule branch",
     )
 
 
@@ -103,18 +103,18 @@ class Generated(unittest.TestCase):
 
     def test_argument_by_another_name(self):
         row = cells_of(
-            proposal="threads", name="Trial", visit="visit_trial", prefix="fe", code="100",
-            fields="place: MemArg, lane: u8", immediates="memory Op 2, lane_index", takes="2 and an array", leaves="1",
+            proposal="bulk_memory", name="Trial", visit="visit_trial", prefix="fc", code="100",
+            fields="mem_place: MemArg, lane: u8", immediates="memory Op 2, lane_index", signature="[addr i32] -> [i32]",
         )
         out = files_with(row)
-        self.assertIn("atomic_pair (atomic.Trial place _) = (reaching place 2, 1)", out["crates/wasm_instr/specs/FixedArity.antt"])
+        self.assertIn("misc_pair (misc.Trial mem_place _) = (reaching mem_place 2, 1)", out["crates/wasm_instr/specs/FixedArity.antt"])
 
     def test_long_names(self):
         long = "VeryLongNameOfAnOperatorThatNoLineOfOneHundredColumnsHasRoomForWithAllOfItsFields"
         row = cells_of(
             proposal="bulk_memory", name=long, visit=f"visit_{long.lower()}", prefix="fc", code="100",
             fields="first_long_field: u32, second_long_field: MemArg, third_long_field: Ordering",
-            immediates="unsigned, memory Plain 2, ordered", takes="1", leaves="1",
+            immediates="unsigned, memory Plain 2, ordered", signature="[i32] -> [i32]",
         )
         out = files_with(row)
         self.assertEqual(layout.laid_out(out), out)

@@ -90,7 +90,7 @@ class Wanted(unittest.TestCase):
 
     def test_plain_visitor(self):
         line = self.line("fd0e", "I8x16Swizzle", before="00")
-        self.assertIn("; visit by Any; others same same same; half same same same same; value same; plain E14 at 1: unexpected SIMD opcode: 0xfd; at 1; cut 1 2", line)
+        self.assertIn("; visit by Own; others same same same; half same same same same; value same; plain E14 at 1: unexpected SIMD opcode: 0xfd; at 1; cut 1 2", line)
         line = self.line("fd0e", "E8 at 0: no", frame="None")
         refused = "E8 at 0: no; at 0"
         others = "others same same same"
@@ -108,6 +108,26 @@ class Wanted(unittest.TestCase):
     def test_asked(self):
         task = reading.Task("0701", "Catch tag_index=1", frame="LegacyTry", before="000640", behind="0b0b")
         self.assertEqual(task.line(), "63 LegacyTry 3 00064007010b0b")
+
+
+class Dumped(unittest.TestCase):
+    names = [name for name, _ in reading.whole_body()]
+
+    def test_each_operator(self):
+        self.assertEqual({op.name for op in ORIGINALS}, set(self.names))
+        self.assertEqual(reading.dumped()["stdin"][:3].hex(), "000001")
+
+    def test_no_capacity_is_left_where_no_frame_opens(self):
+        frames, capacity, full = 0, 0, set()
+        for name in self.names:
+            if name in ("Block", "Loop", "If", "Try", "TryTable"):
+                frames += 1
+                capacity = max(capacity, frames, 8)
+            elif frames == capacity:
+                full.add(name)
+            frames -= name in ("End", "Delegate")
+        self.assertEqual(frames, -1)
+        self.assertEqual({op.name for op in ORIGINALS} - full, {"Block", "Loop", "If", "Try", "TryTable"})
 
 
 class Printed(unittest.TestCase):

@@ -53,7 +53,7 @@ class Original(unittest.TestCase):
     def test_each_column_is_compared(self):
         for column, other in {
             "proposal": "gc", "visit": "visit_nip", "prefix": "fc", "code": "05", "fields": "mem: u32",
-            "immediates": "unsigned", "takes": "1", "leaves": "1",
+            "immediates": "unsigned", "signature": "[i32] -> []",
         }.items():
             ops = table()
             row = dict(zip(COLUMNS, rows_of()[3])) | {column: other}
@@ -115,11 +115,19 @@ WRONG = [
     ("I32Load", "immediates", "memory Plain 5", "memory is followed by one of Plain, Op, Rmw"),
     ("I32Load", "immediates", "memory Simple 2", "memory is followed by one of Plain, Op, Rmw"),
     ("Br", "immediates", "unsigned 3", "other words by nothing"),
-    ("Nop", "takes", "by rule", "by rule, or neither"),
-    ("Nop", "takes", "many", "takes 'many', and not a digit"),
-    ("Nop", "leaves", "10", "leaves '10', and not a digit"),
-    ("Nop", "takes", "1 and an array", "does not have exactly one memory argument"),
-    ("I32Load", "takes", "8 and an array", "takes more than 7 operands besides the array"),
+    ("Nop", "signature", "", "the signature '' is not [TYPES] -> [TYPES], alone or after"),
+    ("Nop", "signature", "[i32]", "the signature '[i32]' is not [TYPES] -> [TYPES]"),
+    ("Nop", "signature", "[i32  i32] -> []", "is not [TYPES] -> [TYPES]"),
+    ("Nop", "signature", "rule branch:", "is not [TYPES] -> [TYPES]"),
+    ("Nop", "signature", "rule branch [] -> []", "is not [TYPES] -> [TYPES]"),
+    ("Nop", "signature", "rule jump", "the rule 'jump' is not one of parametric, construct, branch,"),
+    ("Nop", "signature", "[] -> [i8]", "the type 'i8' of the signature is not one of i32, i64, f32, f64, v128, addr,"),
+    ("Nop", "signature", "[t] -> []", "the type 't' of the signature is not one of"),
+    ("Nop", "signature", "rule local: [type] -> []", "the type 'type' of the signature is not one of"),
+    ("Nop", "signature", f"[{' '.join(['i32'] * 10)}] -> []", "the signature has more than 9 operands or results"),
+    ("Nop", "signature", "[addr] -> []", "it has an address, and no field for its memory"),
+    ("I32Load", "signature", f"[addr{' i32' * 7}] -> []", "an access takes at most 7 operands besides the array"),
+    ("I32Load", "immediates", "memory Plain 2, memory Plain 2", "an access has exactly one memory argument"),
     ("Nop", "visit", "visit_nop ", "a blank at the edge"),
     ("Br", "writer", "one_number", "the writer 'one_number' is not one of indirect, reference_with_null, reference_without_null"),
     ("Br", "writer", "indirect", "the writer indirect takes u32, u32, and the fields are of u32"),
@@ -144,7 +152,7 @@ WRONG = [
 
 VECTOR = {
     "proposal": "simd", "name": "V128More", "text": "v128.more", "visit": "visit_v128_more", "prefix": "fd",
-    "code": "200", "takes": "0", "leaves": "0",
+    "code": "200", "signature": "[] -> []",
 }
 
 
@@ -178,7 +186,7 @@ class Rules(unittest.TestCase):
         self.assertIn("operators.tsv:2: a row with no name: ", found[0])
 
     def test_only_two_share_a_code(self):
-        one = {"text": "trial", "proposal": "mvp", "code": "16", "takes": "by rule", "leaves": "by rule"}
+        one = {"text": "trial", "proposal": "mvp", "code": "16", "signature": "rule branch"}
         first = one | {"name": "TrialOne", "visit": "visit_trial_one", "fields": "ty: ValType", "immediates": "one_type"}
         second = one | {"name": "Trials", "visit": "visit_trials", "fields": "tys: SelectTypes", "immediates": "types"}
 

@@ -16,7 +16,7 @@ class Templates(unittest.TestCase):
 
     def test_a_value_that_lacks(self):
         with self.assertRaises(KeyError):
-            filled("own_visits.rt", type="MiscOperator", trait="VisitMisc")
+            filled("own_visits/counted.rt", type="MiscOperator", trait="VisitMisc")
 
     def test_names_that_occur(self):
         lines = ["-- use A.{one}", "use A.{one, two, ◌∷◌, ◌≡◌}", "use B.{three}", "use C as kind", "use E as other", "ghost use d::four;"]
