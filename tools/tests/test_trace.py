@@ -1,55 +1,62 @@
+"""Checks the functions that docs/ARCHITECTURE.md lists for one body: each is defined, and an earlier one calls it."""
+
+import re
 import unittest
 
-import trace_page as trace
+from paths import TOP
 
-PAGE = """# Page
+PAGE = (TOP / "docs/ARCHITECTURE.md").read_text(encoding="utf-8")
+SECTION = PAGE.split("## One body, function by function\n", 1)[1].split("\n## ", 1)[0]
+# What the caller of the library calls, in this order.
+CALLER = ["BinaryReader::new_features", "FunctionBody::new", "FunctionBody::get_operators_reader", "eof", "read", "finish"]
 
-## One body, function by function
 
-This runs 3 functions in 2 files.
+def steps():
+    """Returns the file and the name of each function of the table, in order."""
+    rows = [[cell.strip() for cell in line[1:-1].split("|")] for line in SECTION.split("\n") if ".rt`|" in line]
+    return [(cells[1].strip("`"), name) for cells in rows for name in re.findall(r"`([^`]+)`", cells[2])]
 
-|Bytes|File|Functions|What|
-|---|---|---|---|
-||`low/src/a.rt`|`Reader::new`|makes|
-|`41`|`low/src/b.rt`|`read`, `next`|read|
 
-## Other
+def block(text, start):
+    """Returns the text from `start` to the end of the block that begins there, without comments."""
+    depth = 0
+    for at in range(text.index("{\n", start), len(text)):
+        depth += {"{": 1, "}": -1}.get(text[at], 0)
+        if depth == 0:
+            return re.sub(r"//[^\n]*", "", text[start : at + 1])
+    return text[start:]
 
-|a|`low/src/c.rt`|`other`|is no step|
-"""
-FILES = {
-    "low/src/a.rt": "impl Other {\n    fn new() {\n    }\n}\n\nimpl Reader {\n    pub fn new() {\n        // read()\n    }\n}\n",
-    "low/src/b.rt": "pub fn read(r: u8) {\n    self.next::<u8>(r)\n}\n\nfn next(r: u8) {\n    if r {\n    }\n}\n",
-}
-CALLER = ["Reader::new", "read"]
+
+def definitions(file, name):
+    """Returns the definitions of a function in a file: `name`, or `Type::name` in an impl of the type."""
+    text = (TOP / "crates" / file).read_text(encoding="utf-8")
+    kind, _, alone = name.rpartition("::")
+    for found in re.finditer(rf"^( *)(?:pub(?:\(\w+\))? )?fn {alone}\b", text, re.M):
+        heads = re.findall(r"^impl[^\n]*", text[: found.start()], re.M)
+        if not kind or (found[1] and heads and re.search(rf"\b{kind}\b", heads[-1])):
+            yield block(text, found.start())
+
+
+def calls(body, name):
+    kind, _, alone = name.rpartition("::")
+    # a capital letter is a type parameter
+    before = rf"(?:\.|\b(?:{kind}|Self|[A-Z])::|<{kind} as [^;]*>::)" if kind else r"(?:\.|::|\b)"
+    return re.search(rf"{before}{alone}(?:::<[^>]*>)?\(", body.split("{\n", 1)[-1]) is not None
 
 
 class Trace(unittest.TestCase):
-    def faults(self, page=PAGE, **changed):
-        files = FILES | {f"low/src/{name}.rt": text for name, text in changed.items()}
-        return list(trace.faults(page, files.get, CALLER))
+    def test_each_function_is_defined_and_called(self):
+        waiting, earlier = list(CALLER), []
+        for file, name in steps():
+            here = list(definitions(file, name))
+            self.assertTrue(here, f"{file} does not define {name}")
+            if waiting and name == waiting[0]:
+                waiting.pop(0)
+            else:
+                self.assertTrue(any(calls(body, name) for body in earlier), f"no earlier function calls {name} ({file})")
+            earlier += here
+        self.assertEqual(waiting, [])
 
-    def test_a_right_page(self):
-        self.assertEqual([(it.file, it.name) for it in trace.steps(PAGE)], [("low/src/a.rt", "Reader::new"), ("low/src/b.rt", "read"), ("low/src/b.rt", "next")])
-        self.assertEqual(self.faults(), [])
-
-    def test_a_function_that_is_missing(self):
-        self.assertEqual(self.faults(a="impl Other {\n    pub fn new() {\n    }\n}\n")[0], "low/src/a.rt does not define Reader::new")
-        self.assertIn("low/src/b.rt does not define next", self.faults(b="pub fn read() {\n    next()\n}\n"))
-        self.assertEqual(self.faults(a=None)[0], "low/src/a.rt does not define Reader::new")
-
-    def test_a_function_that_none_calls(self):
-        self.assertEqual(self.faults(b="pub fn read() {\n}\n\nfn next() {\n    next()\n}\n"), ["no earlier function calls next (low/src/b.rt)"])
-        page = PAGE.replace("`read`, `next`", "`next`, `read`")
-        self.assertEqual(self.faults(page), ["no earlier function calls next (low/src/b.rt)"])
-
-    def test_a_call_of_the_caller_that_is_missing(self):
-        page = PAGE.replace("`read`, `next`", "`next`")
-        self.assertIn("read, which the caller calls, is missing", self.faults(page))
-
-    def test_a_wrong_number(self):
-        self.assertEqual(self.faults(PAGE.replace("3 functions", "4 functions")), ["the page should say: runs 3 functions in 2 files"])
-
-    def test_the_page(self):
-        page = (trace.TOP / trace.PAGE).read_text(encoding="utf-8")
-        self.assertEqual(list(trace.faults(page, trace.of_repository)), [])
+    def test_numbers_of_the_page(self):
+        files = {file for file, _ in steps()}
+        self.assertIn(f"{len(steps())} functions in {len(files)} files", SECTION)
