@@ -1,13 +1,11 @@
 #!/usr/bin/env python3
-"""Runs programs and tests with each of their allocations failing in turn.
+"""Runs programs with each of their allocations failing in turn.
 
     tools/allocations.py [NAME..]               runs what is built of these crates, or of all
     tools/allocations.py --program PATH NAME    runs the program PATH of a crate
-    tools/allocations.py --tests PATH NAME      runs the program PATH of a crate's tests
 
-`rt ci` and `rt test` build `crates/NAME/out/NAME` and `NAME_tests`. Each run must end in time, without a fault. A test
-with the word `memory` in its name allocates and passes; another test may also end by an error or a failed assertion. A
-program ends with an exit status; if its crate has a file `refused`, it ends as that says:
+`rt ci` builds `crates/NAME/out/NAME`. Each run must end in time, with an exit status. If the crate has a file `refused`, it
+ends as that says:
 
 - three lines, the status, the output and the text on standard error;
 - `as ever`: as if none fails;
@@ -22,18 +20,16 @@ and `realloc`.
 import os
 import re
 import resource
-import signal
 import subprocess
 import sys
 import tempfile
-from functools import partial
 from pathlib import Path
 
 from testing.built import built, missing, program_of
 
 TOP = Path(__file__).resolve().parent.parent
 SECONDS = 60
-# A test or a program with more should be smaller.
+# A program with more should be smaller.
 MOST = 1500
 AS_EVER = "as ever\n"
 FIRST = re.compile(r"first (\d+)\n")
@@ -72,10 +68,6 @@ class Run:
         return self.status, self.wrote, self.complained
 
 
-def is_own_end(status):
-    return status is not None and (status >= 0 or status == -signal.SIGABRT)
-
-
 def followed(label, words, given, library, allowed, first=None):
     """Runs a program with each allocation failing, or the first ones. Returns how many failed, and what was wrong."""
     wrong = []
@@ -90,25 +82,6 @@ def followed(label, words, given, library, allowed, first=None):
     if first:
         return first, wrong
     return MOST, [*wrong, f"{label}: more than {MOST} allocations"]
-
-
-def tests_of(program):
-    listed = subprocess.run([program, "--list"], capture_output=True, text=True, check=True).stdout
-    return [line[: -len(": test")] for line in listed.splitlines() if line.endswith(": test")]
-
-
-def is_of_memory(test):
-    return "memory" in test.split("::")[-1].split("_")
-
-
-def follow_tests(program, library):
-    for test in tests_of(program):
-        label, of_memory = f"{program.name} {test}", is_of_memory(test)
-        allowed = (lambda ran: ran.status == 0) if of_memory else (lambda ran: is_own_end(ran.status))
-        count, wrong = followed(label, [program, test], b"", library, allowed)
-        if of_memory and not count:
-            wrong = [*wrong, f"{label}: its name has the word memory, and it does not allocate"]
-        yield test, (count, wrong)
 
 
 def refused_text(crate):
@@ -163,50 +136,27 @@ def follow_program(program, crate, library):
     return count, wrong
 
 
-def has_tests(crate):
-    return any("#[test]" in path.read_text(encoding="utf-8") for path in crate.glob("src/**/*.rt"))
-
-
-def follow_given(crate, program, tests, library):
-    if not (program or tests).exists():
-        yield crate.name, (0, [missing(crate.name, program or tests)])
-    elif program:
-        yield program.name, follow_program(program, crate, library)
-    else:
-        for test, found in follow_tests(tests, library):
-            yield f"{crate.name} {test}", found
-
-
-def follow_crate(crate, library):
-    name = crate.name
-    programs = built(name)
+def follow_crate(crate, given, library):
+    programs = built(crate.name, given)
     for program in programs:
         yield program.name, follow_program(program, crate, library)
-    if (crate / "refused").exists() and not programs:
-        yield name, (0, [missing(name)])
-    tests = crate / "out" / f"{name}_tests"
-    if tests.exists():
-        for test, found in follow_tests(tests, library):
-            yield f"{name} {test}", found
-    elif has_tests(crate):
-        yield name, (0, [f"{name}: {tests.relative_to(TOP)} is missing: `rt test` in crates/{name} builds it"])
+    if not programs and (given or (crate / "refused").exists()):
+        yield crate.name, (0, [missing(crate.name, given)])
 
 
 def main():
-    program, words = program_of(sys.argv[1:])
-    tests, names = program_of(words, "--tests")
-    if any(word.startswith("-") for word in names) or ((program or tests) and len(names) != 1):
+    given, names = program_of(sys.argv[1:])
+    if any(word.startswith("-") for word in names) or (given and len(names) != 1):
         print(__doc__)
         sys.exit(names not in (["--help"], ["-h"]))
     names = names or sorted(path.name for path in (TOP / "crates").iterdir())
-    follow = partial(follow_given, program=program, tests=tests) if program or tests else follow_crate
     wrong, runs = [], 0
-    # a test that ends by an assertion leaves no core file
+    # a program that aborts leaves no core file
     resource.setrlimit(resource.RLIMIT_CORE, (0, 0))
     with tempfile.TemporaryDirectory() as folder:
         library = built_library(folder)
         for name in names:
-            for what, (count, faults) in follow(TOP / "crates" / name, library=library):
+            for what, (count, faults) in follow_crate(TOP / "crates" / name, given, library):
                 if count:
                     print(f"{what}: {count} allocations failed in turn", flush=True)
                 wrong, runs = wrong + faults, runs + count
@@ -214,7 +164,7 @@ def main():
         print(f"WRONG: {fault}")
     print(f"allocations: {runs} failed in turn, {len(wrong)} wrong")
     # (one program may allocate nothing, unless a file says how it ends)
-    may_be_none = (program or tests) and not refused_text(TOP / "crates" / names[0])
+    may_be_none = given and not refused_text(TOP / "crates" / names[0])
     sys.exit(1 if wrong or not (runs or may_be_none) else 0)
 
 

@@ -6,6 +6,7 @@
 It fails on
 
 - a crate that a crate names and does not list, or lists and does not name;
+- a `#[test]` function: tests are rows of the programs `wasm_tests_*`, since a crate with such a function is proved twice;
 - a re-export of another crate's name, except in the lists of `wasm_operators`, `wasm_encode` and `wasm_c` for users;
 - a lemma of another crate (`Rattle.OTHER.proofs.`) in a program, a static library, a proved caller or a test. What
   callers need is a clause or a law. CITED has the exceptions. Other crates may cite lemmas of the crates that they list.
@@ -70,6 +71,8 @@ def unlisted(listed, texts):
                 yield f"crates.txt: {name} lists {one}, which none of its files names"
         for one in sorted(words & listed.keys() - {name, *those}):
             yield f"crates.txt: {name} does not list {one}, which it names"
+        if "#[test]" in texts[name]:
+            yield f"{name} has a `#[test]` function: write a row of a program wasm_tests_*"
 
 
 def passed_on(listed, texts):

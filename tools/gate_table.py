@@ -27,8 +27,8 @@ RUN = """
 `rt ci` took {wall} minutes wall-clock on {count} processors, and {processor} CPU minutes. The run ended with \
 `{last}`.{note}
 
-| Crate | Functions | Proof | Wall | Tests | Edits | Number of edits |
-|---|---|---|---|---|---|---|
+| Crate | Functions | Proof | Wall | Edits | Number of edits |
+|---|---|---|---|---|---|
 """
 
 # The crates that hold lists over all operators.
@@ -38,7 +38,7 @@ wasm_decode_groups""".split()
 MADE_OF = """
 - A proof takes {each} seconds per function. The lists over the 628 operators ({names}) take {lists} minutes of proofs.
 - About {again} of the minutes of edits are the proofs that serve as bases. Each edit takes {edit} seconds beyond that.
-- Proofs and tests of the test crates, `uses` and `wasm_bench` take {callers} minutes.
+- Proofs of the test crates, `uses` and `wasm_bench` take {callers} minutes.
 """
 
 OUTSIDE = """
@@ -66,9 +66,9 @@ class Crate:
 def read(text):
     crates, whole, last, name = {}, None, "", None
     for line in text.split("\n"):
-        if found := re.fullmatch(r"== (\w+)(: its tests)?", line):
-            name = None if found[2] else found[1]
-        elif (found := re.match(r"logic=proved (?:tests=\d+ )?functions=(\d+)", line)) and name:
+        if found := re.fullmatch(r"== (\w+)", line):
+            name = found[1]
+        elif (found := re.match(r"logic=proved functions=(\d+)", line)) and name:
             crates.setdefault(name, Crate()).functions = int(found[1])
         elif found := re.match(r"rt: must-fail (\w+)/(\S+): refused, as it must be", line):
             crates.setdefault(found[1], Crate()).tried.add(found[2])
@@ -90,8 +90,8 @@ def minutes(seconds):
 
 
 def row(name, crate):
-    cells = [minutes(crate.processor.get("proof", 0)), minutes(crate.wall.get("proof", 0))]
-    cells += [minutes(crate.processor.get(part, 0)) for part in ("tests", "edits")]
+    costs = crate.processor.get("proof", 0), crate.wall.get("proof", 0), crate.processor.get("edits", 0)
+    cells = map(minutes, costs)
     return f"| `{name}` | {crate.functions or ''} | {' | '.join(cells)} | {crate.edits or ''} |"
 
 
@@ -106,7 +106,7 @@ def made_of(crates):
         names=", ".join(f"`{name}`" for name in LISTS),
         again=minutes(again) or "0",
         edit=f"{(edits - again) / max(1, sum(it.edits for it in crates.values())):.0f}",
-        callers=minutes(sum(proofs[name] + crates[name].processor.get("tests", 0) for name in callers)) or "0",
+        callers=minutes(sum(proofs[name] for name in callers)) or "0",
     )
 
 
@@ -124,9 +124,9 @@ def by_cost(crates):
 def summary(text):
     crates, (processor, wall, count), _ = measured(text)
     whole = f"{minutes(wall)} minutes wall-clock on {count} processors, {minutes(processor)} CPU minutes"
-    parts = lambda it: "+".join(minutes(it.processor.get(part, 0)) or "0" for part in ("proof", "tests", "edits"))
+    parts = lambda it: "+".join(minutes(it.processor.get(part, 0)) or "0" for part in ("proof", "edits"))
     cells = [f"{name} {crates[name].functions} {parts(crates[name])}" for name in by_cost(crates)]
-    head = f"rt ci took {whole}. Each crate's functions, and CPU minutes for proof, tests and edits:"
+    head = f"rt ci took {whole}. Each crate's functions, and CPU minutes for proof and edits:"
     return "\n".join([head, *textwrap.wrap(", ".join(cells), 116)])
 
 
@@ -135,9 +135,9 @@ def run_section(text, note=""):
     said = {"wall": minutes(wall), "processor": minutes(processor), "count": count, "last": last}
     head = RUN.format(**said, note=f" {note}" if note else "")
     functions, edits = (sum(getattr(it, word) for it in crates.values()) for word in ("functions", "edits"))
-    parts = [sum(it.processor.get(part, 0) for it in crates.values()) for part in ("proof", "tests", "edits")]
-    proof, tests, tried = map(minutes, parts)
-    total = f"| all | {functions} | {proof} | | {tests} | {tried} | {edits} |"
+    parts = [sum(it.processor.get(part, 0) for it in crates.values()) for part in ("proof", "edits")]
+    proof, tried = map(minutes, parts)
+    total = f"| all | {functions} | {proof} | | {tried} | {edits} |"
     table = "\n".join([*[row(name, crates[name]) for name in by_cost(crates)], total, ""])
     return head + table + made_of(crates)
 

@@ -4,7 +4,7 @@
     tools/timed.py COMMAND..
 
 It runs the command (`rt ci`), passes on its output, and reads the CPU time of its provers once a second. When a crate's
-proof, tests or must-fail edits begin or end, it writes the crates done, the minutes so far, and those that docs/GATE.md
+proof or must-fail edits begin or end, it writes the crates done, the minutes so far, and those that docs/GATE.md
 lets expect:
 
     [12/24, 18 min of about 70] wasm_visit: proof begins
@@ -50,8 +50,7 @@ def work_of(pid):
         is_edit = os.path.basename(os.readlink(f"/proc/{pid}/cwd")).startswith("rt-edit-")
     except OSError:
         return None
-    part = "edits" if is_edit else "tests" if "--test" in words else "proof"
-    return words[words.index("--crate-name") + 1], part
+    return words[words.index("--crate-name") + 1], "edits" if is_edit else "proof"
 
 
 def below(top):
@@ -143,7 +142,7 @@ class Progress:
         self.write(f"[{len(self.through)}/{self.crates}, {minutes}{of}] {what}\n")
 
     def begun(self, works):
-        words = {"proof": "proof begins", "tests": "proof with its tests begins", "edits": "must-fail edits begin"}
+        words = {"proof": "proof begins", "edits": "must-fail edits begin"}
         for crate, part in sorted(set(works) - self.seen):
             self.seen.add((crate, part))
             self.tell(f"{crate}: {words[part]}")

@@ -1,16 +1,7 @@
-"""What a test found, and how a difference is shown."""
+"""How a difference is shown."""
 
 LINES = 12
 WIDTH = 160
-
-
-class Outcome:
-    def __init__(self, passed, failed, lines=()):
-        self.passed, self.failed, self.lines = passed, failed, list(lines)
-
-    @classmethod
-    def of(cls, faults):
-        return cls(0 if faults else 1, 1 if faults else 0, faults)
 
 
 def short(line):

@@ -6,7 +6,6 @@ import threading
 import traceback
 from pathlib import Path
 
-from testing.outcome import Outcome
 from testing.running import Clock, Stopped
 
 # In bytes, of a job.
@@ -66,9 +65,9 @@ def work(left, done, context, wanted):
         missing = [it for it in job.items if it in wanted]
         clock = Clock()
         try:
-            for item, outcome, seconds in job.run(context, wanted):
+            for item, faults, seconds in job.run(context, wanted):
                 missing.remove(item)
-                done.put((item, outcome, clock.seconds(), seconds))
+                done.put((item, faults, clock.seconds(), seconds))
                 clock = Clock()
         except Stopped:
             done.put(None)
@@ -76,11 +75,11 @@ def work(left, done, context, wanted):
         except Exception:  # an item that the tool itself fails on has failed, and the others go on
             text = traceback.format_exc().splitlines()[-3:]
             for item in missing:
-                done.put((item, Outcome.of(text), clock.seconds(), 0))
+                done.put((item, text, clock.seconds(), 0))
 
 
 def results(jobs, context, wanted, count):
-    """Yields each item as it ends: name, outcome, seconds and CPU seconds."""
+    """Yields each item as it ends: name, what is wrong in lines, seconds and CPU seconds."""
     left, done = queue.Queue(), queue.Queue()
     for job in jobs:
         left.put(job)

@@ -5,14 +5,13 @@ import shutil
 import sys
 
 from testing import running
-from testing.items import BLOCKS, CHECKS, OVER_MODULES, REPLAY, Check, Library, Program, Tests, find_jobs, is_named
+from testing.items import BLOCKS, CHECKS, OVER_MODULES, REPLAY, Check, Library, Program, find_jobs, is_named
 from testing.outcome import tail
 from testing.running import Clock
 
 LIMIT = 7200
 LEFT_OUT = (".git", "out", "__pycache__", "target", "native")
 LINE = re.compile(r"(ok|FAILED) \d+ s ([\w/-]+)")
-TEST_HEAD = re.compile(r"#\[test\]\n\s*fn \w+\((\w+): [^{]*\{\n")
 WRONG_ROW = "\n| `NoSuchDefinition` | a word that nothing defines | | `Nothing.antt` |\n"
 WRONG_BLOCK = "README.md\ta block that no page has\tshell\t\n"
 WRONG_EDIT = "file: src/lib.rt\nold: a text that does not occur\nnew: another\n"
@@ -38,10 +37,6 @@ def wrong_status(text):
     cells = row.split("\t")
     cells[3] = str(int(cells[3]) + 1)
     return "\n".join([head, "\t".join(cells), rest])
-
-
-def wrong_test(text):
-    return TEST_HEAD.sub(lambda found: f"{found[0]}    assert_eq!({found[1]}; 1, 2);\n", text, count=1)
 
 
 def first(paths):
@@ -91,11 +86,6 @@ def breaks_of_program(folder, items):
         yield Break(f"{name}/modules", first((folder / "data").glob("*.txt")), more("one line more\n"))
 
 
-def breaks_of_tests(folder):
-    tests = first(path for path in folder.glob("src/**/*.rt") if TEST_HEAD.search(path.read_text(encoding="utf-8")))
-    return Break(f"{folder.name}/tests", tests, wrong_test)
-
-
 def breaks(crates):
     of_checks, found = breaks_of_checks(crates.top), []
     for job in find_jobs(crates, is_full=False):
@@ -103,8 +93,6 @@ def breaks(crates):
             found += [it for it in of_checks if it.item in job.items]
         elif isinstance(job, Program):
             found += breaks_of_program(job.folder, job.items)
-        elif isinstance(job, Tests):
-            found.append(breaks_of_tests(crates.folder(job.name)))
     return found
 
 

@@ -17,9 +17,6 @@ import timed
 from pages import specs
 
 LOG = """\
-== wasm_low: its tests
-logic=proved tests=2 functions=9 axioms=12
-rt: wasm_low: its tests are proved
 == wasm_low
 logic=proved functions=7 axioms=8
 rt: wasm_low proved
@@ -36,8 +33,8 @@ cost all 186 126 4
 class GateTable(unittest.TestCase):
     def test_page(self):
         page = gate_table.page([(LOG, "Alone."), (LOG, "")])
-        self.assertIn("| `wasm_low` | 7 | 2.0 | 1.5 |  | 0.5 | 1 |", page)
-        self.assertIn("| all | 7 | 2.0 | |  | 0.5 | 1 |", page)
+        self.assertIn("| `wasm_low` | 7 | 2.0 | 1.5 | 0.5 | 1 |", page)
+        self.assertIn("| all | 7 | 2.0 | | 0.5 | 1 |", page)
         self.assertIn("took 2.1 minutes wall-clock on 4 processors, and 3.1 CPU minutes", page)
         self.assertIn("`2 passed, 1 failed`. Alone.\n", page)
         self.assertIn("A proof takes 17.1 seconds per function.", page)
@@ -53,7 +50,7 @@ class GateTable(unittest.TestCase):
     def test_summary(self):
         head, crates = gate_table.summary(LOG).split("\n")
         self.assertTrue(head.startswith("rt ci took 2.1 minutes wall-clock on 4 processors, 3.1 CPU minutes."))
-        self.assertEqual(crates, "wasm_low 7 2.0+0+0.5")
+        self.assertEqual(crates, "wasm_low 7 2.0+0.5")
 
     def test_of_two_runs(self):
         behind = "cost wasm_low proof 60 30\ncost all 60 60 4\n3 passed, 0 failed\n"
@@ -95,7 +92,7 @@ class Progress(unittest.TestCase):
         out, now = io.StringIO(), [0]
         progress = timed.Progress(3, 70.4, clock=lambda: now[0], out=out)
         now[0] = 65
-        progress.begun([("wasm_low", "tests"), ("wasm_low", "proof")])
+        progress.begun([("wasm_low", "proof")])
         for line in LOG.splitlines(keepends=True):
             now[0] += 60
             progress.passed_on(line)
@@ -103,9 +100,8 @@ class Progress(unittest.TestCase):
         told = [line for line in out.getvalue().split("\n") if line.startswith("[")]
         self.assertEqual(told, [
             "[0/3, 1 min of about 70] wasm_low: proof begins",
-            "[0/3, 1 min of about 70] wasm_low: proof with its tests begins",
-            "[1/3, 7 min of about 70] wasm_low: proved",
-            "[1/3, 14 min of about 70] wasm_low: must-fail edits begin",
+            "[1/3, 4 min of about 70] wasm_low: proved",
+            "[1/3, 11 min of about 70] wasm_low: must-fail edits begin",
         ])
         # the command's output is unchanged, and gives the same table
         kept = "".join(line for line in out.getvalue().splitlines(keepends=True) if not line.startswith("["))
@@ -116,7 +112,6 @@ class Progress(unittest.TestCase):
         out = io.StringIO()
         progress = timed.Progress(2, None, clock=lambda: 0, out=out)
         progress.passed_on("rt: wasm_high NOT PROVED: its library wasm_low failed\n")
-        progress.passed_on("rt: wasm_high: its tests are NOT PROVED\n")
         self.assertEqual([line for line in out.getvalue().split("\n") if line.startswith("[")],
                          ["[1/2, 0 min] wasm_high: NOT PROVED"])
 
@@ -232,14 +227,6 @@ class Cases(unittest.TestCase):
                         cases.opened(folder, case)
 
 
-# Three tests, one of which allocates.
-TAKES_ONE = """\
-#!/bin/sh
-[ "$1" != --list ] || exec printf '%s: test\\n' texts::memory_of_one texts::memory_of_none texts::another
-[ "$1 $REFUSED_ALLOCATION" != "texts::memory_of_one 1" ] || printf ! > "/dev/fd/$REFUSAL_TOLD"
-"""
-
-
 # Rows that allocate twice if the argument is `short`, first to be read.
 COUNTS_ROWS = """\
 #!/bin/sh
@@ -292,23 +279,6 @@ class Allocations(unittest.TestCase):
                 (crate / "program").chmod(0o755)
                 count, wrong = allocations.follow_program(crate / "program", crate, "")
                 self.assertEqual((count, not wrong), (2, is_well))
-
-    def test_ends(self):
-        self.assertEqual([allocations.is_own_end(it) for it in (0, 1, -6, -11, None)], [True, True, True, False, False])
-
-    def test_of_memory(self):
-        names = ("tests::memory", "tests::memory_of_lists", "memory::lists", "tests::memories")
-        self.assertEqual([allocations.is_of_memory(it) for it in names], [True, True, False, False])
-
-    def test_of_memory_that_takes_none(self):
-        with tempfile.TemporaryDirectory() as folder:
-            program = Path(folder) / "low_tests"
-            program.write_text(TAKES_ONE, encoding="utf-8")
-            program.chmod(0o755)
-            found = dict(allocations.follow_tests(program, ""))
-        text = "low_tests texts::memory_of_none: its name has the word memory, and it does not allocate"
-        wanted = {"texts::memory_of_one": (1, []), "texts::memory_of_none": (0, [text]), "texts::another": (0, [])}
-        self.assertEqual(found, wanted)
 
 
 SOURCE = """\

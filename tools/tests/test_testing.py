@@ -62,11 +62,6 @@ class Finding(unittest.TestCase):
         self.assertEqual(self.items(files), ["program", "program/cases", "program/modules"])
         self.assertEqual(self.items(files, is_full=True)[-1], "program/allocations")
 
-    def test_tests(self):
-        files = {"crates/low/src/inner/tests.rt": "#[test]\nfn one() {}\n"}
-        self.assertEqual(self.items(files), ["low/tests"])
-        self.assertEqual(self.items(files, is_full=True), ["low/tests", "low/tests/allocations"])
-
     def test_what_needs_the_library(self):
         listed = {"crates.txt": CRATES + "wasm_c_exports staticlib: low\n", "crates/wasm_c_exports/src/lib.rt": ""}
         self.assertEqual(self.items(listed), [items.REPLAY, items.BLOCKS])
@@ -82,7 +77,7 @@ class Building(unittest.TestCase):
     def test_digest(self):
         with tempfile.TemporaryDirectory() as folder:
             top = Path(folder)
-            digest = lambda: Builder(top, Crates(top), top, top, False).digest("program", False)
+            digest = lambda: Builder(top, Crates(top), top, top, False).digest("program")
             repository(folder, {})
             first = digest()
             (top / "crates/library/src/lib.rt").write_text("one", encoding="utf-8")
@@ -119,16 +114,14 @@ class Pool(unittest.TestCase):
 
     def results(self, *jobs, count=2):
         wanted = {it for job in jobs for it in job.items}
-        return {item: (found.passed, found.failed) for item, found, _, _ in pool.results(jobs, None, wanted, count)}
+        return {item: not faults for item, faults, _, _ in pool.results(jobs, None, wanted, count)}
 
     def test_results(self):
-        good, bad = outcome.Outcome(3, 0), outcome.Outcome.of(["wrong"])
-        self.assertEqual(self.results(Job("a", good, bad), Job("b", good)), {"a": (3, 0), "a/1": (0, 1), "b": (3, 0)})
+        self.assertEqual(self.results(Job("a", [], ["wrong"]), Job("b", [])), {"a": True, "a/1": False, "b": True})
 
     def test_a_job_that_breaks_down(self):
-        good = outcome.Outcome.of([])
-        found = self.results(Job("a", good, ValueError("no"), good), Job("b", good), count=1)
-        self.assertEqual(found, {"a": (1, 0), "a/1": (0, 1), "a/2": (0, 1), "b": (1, 0)})
+        found = self.results(Job("a", [], ValueError("no"), []), Job("b", []), count=1)
+        self.assertEqual(found, {"a": True, "a/1": False, "a/2": False, "b": True})
 
 
 class Reporting(unittest.TestCase):
@@ -192,8 +185,8 @@ class SelfTest(unittest.TestCase):
             self.assertNotEqual(broken.change(before), before, broken.path)
 
     def test_lines(self):
-        lines = "ok 3 s low/tests: 4 tests\nFAILED 12 s expected-reading\n    ok\n7 passed, 1 failed\n"
-        self.assertEqual(selftest.LINE.findall(lines), [("ok", "low/tests"), ("FAILED", "expected-reading")])
+        lines = "ok 3 s low/cases\nFAILED 12 s expected-reading\n    ok\n7 passed, 1 failed\n"
+        self.assertEqual(selftest.LINE.findall(lines), [("ok", "low/cases"), ("FAILED", "expected-reading")])
 
 
 if __name__ == "__main__":
