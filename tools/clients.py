@@ -25,7 +25,7 @@ import sys
 import tempfile
 from pathlib import Path
 
-import sections
+from shared.leb128 import unsigned
 
 TOP = Path(__file__).resolve().parent.parent
 CLIENTS = TOP / "bindings/clients"
@@ -146,11 +146,11 @@ def module_of_bodies(data):
     bodies = []
     while data:
         length = int.from_bytes(data[:4], "little")
-        bodies.append(sections.number(length) + data[4 : 4 + length])
+        bodies.append(unsigned(length) + data[4 : 4 + length])
         data = data[4 + length :]
-    count = sections.number(len(bodies))
+    count = unsigned(len(bodies))
     parts = [(1, b"\x01\x60\0\0"), (3, count + bytes(len(bodies))), (10, count + b"".join(bodies))]
-    return b"\0asm\1\0\0\0" + b"".join(bytes([id]) + sections.number(len(part)) + part for id, part in parts)
+    return b"\0asm\1\0\0\0" + b"".join(bytes([id]) + unsigned(len(part)) + part for id, part in parts)
 
 
 def smith(engines, work, count):

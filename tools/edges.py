@@ -14,11 +14,8 @@ It fails on
 
 import re
 import sys
-from pathlib import Path
 
-sys.path.insert(0, str(Path(__file__).resolve().parent / "generate"))
-
-from paths import TOP, crates
+from shared.crates import TOP, crates
 
 # Programs, static libraries and proved callers. Tests are known by their names.
 OUTSIDE = ("wasm_objdump", "wasm_dump", "wasm_compact", "wasm_c_exports", "wasm_bench", "uses")

@@ -14,8 +14,9 @@ from pathlib import Path
 
 sys.path.insert(0, str(Path(__file__).resolve().parent / "generate"))
 
-from expected_reading import FRAMED, unsigned, write_or_check
+from expected_reading import FRAMED, write_or_check
 from original import originals, signatures
+from shared.leb128 import unsigned
 
 TOP = Path(__file__).resolve().parent.parent
 CRATE = TOP / "crates" / "wasm_tests_lists"
@@ -101,7 +102,7 @@ def values(op):
 
 def row(op):
     """Returns the line of the input: the innermost frame and the bytes."""
-    code = op.prefix + unsigned(op.code) if op.prefix else f"{op.code:02x}"
+    code = op.prefix + unsigned(op.code).hex() if op.prefix else f"{op.code:02x}"
     flags = CAST if "cast" in op.immediates else ""
     return f"{FRAMES.get(op.name, 'Block')} {code}{flags}{''.join(encoded for _, encoded, _ in values(op))}"
 

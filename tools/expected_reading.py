@@ -16,6 +16,7 @@ from pathlib import Path
 sys.path.insert(0, str(Path(__file__).resolve().parent / "generate"))
 
 from original import FOLDER, GROUPS, originals
+from shared.leb128 import unsigned
 
 TOP = Path(__file__).resolve().parent.parent
 CRATE = TOP / "crates" / "wasm_tests_decode"
@@ -133,14 +134,6 @@ def lengthened(task):
     return Task(longer.hex(), task.answer, frame=task.frame, before=task.before.hex(), behind=task.behind.hex())
 
 
-def unsigned(value):
-    out = []
-    while value >= 0x80:
-        out.append(value % 0x80 | 0x80)
-        value //= 0x80
-    return bytes([*out, value]).hex()
-
-
 def unknown(ops):
     known = {op.code for op in ops if not op.prefix} | {int(prefix, 16) for prefix in GROUPS}
     for code in range(0x100):
@@ -151,7 +144,7 @@ def unknown(ops):
         beside = {code + step for code in codes for step in (-1, 1)} | {2 ** 32 - 1}
         for code in sorted(beside - codes - {-1}):
             text = f"E13 at 1: unknown 0x{prefix} subopcode: 0x{code:x}"
-            yield Task(prefix + unsigned(code), text, before="00", behind="00")
+            yield Task(prefix + unsigned(code).hex(), text, before="00", behind="00")
 
 
 def framed():

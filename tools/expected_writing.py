@@ -11,8 +11,9 @@ Instructions). Each LEB128 number gets its fewest bytes, an abstract reference t
 
 import sys
 
-from expected_reading import TOP, samples, unsigned, write_or_check
+from expected_reading import TOP, samples, write_or_check
 from original import GROUPS, originals
+from shared.leb128 import read, signed, unsigned
 
 CRATE = TOP / "crates" / "wasm_tests_encode"
 ABSTRACT = {*range(0x68, 0x76)}
@@ -40,24 +41,13 @@ class Reader:
 
     def number(self):
         """Returns the value of an unsigned number, and its count of bits."""
-        value, bits = 0, 0
-        while True:
-            byte = self.take(1)[0]
-            value, bits = value | (byte & 0x7F) << bits, bits + 7
-            if byte < 0x80:
-                return value, bits
-
-
-def signed(value):
-    out = []
-    while not -0x40 <= value < 0x40:
-        out.append(value & 0x7F | 0x80)
-        value >>= 7
-    return bytes([*out, value & 0x7F])
+        start = self.at
+        value, self.at = read(self.text, start)
+        return value, 7 * (self.at - start)
 
 
 def short_unsigned(reader):
-    return bytes.fromhex(unsigned(reader.number()[0]))
+    return unsigned(reader.number()[0])
 
 
 def short_signed(reader):
@@ -102,7 +92,7 @@ def many(member):
 
     def of(reader):
         count = reader.number()[0]
-        return bytes.fromhex(unsigned(count)) + b"".join(member(reader) for _ in range(count))
+        return unsigned(count) + b"".join(member(reader) for _ in range(count))
 
     return of
 
@@ -122,7 +112,7 @@ def targets(reader):
     start = reader.at
     for _ in range(count):
         reader.number()
-    return bytes.fromhex(unsigned(count)) + reader.text[start : reader.at] + short_unsigned(reader)
+    return unsigned(count) + reader.text[start : reader.at] + short_unsigned(reader)
 
 
 SHORT = {

@@ -16,6 +16,8 @@ import tempfile
 import time
 from pathlib import Path
 
+from shared.leb128 import unsigned
+
 TOP = Path(__file__).resolve().parent.parent
 PROGRAM = TOP / "crates" / "wasm_dump" / "out" / "wasm_dump"
 LIBRARY = TOP / "crates" / "wasm_bench" / "out" / "libwasm_bench.a"
@@ -33,14 +35,6 @@ VISITS = {
     "alternating": (30000000, lambda n: 2 * n + 1),
     "nops": (100000000, lambda n: n + 1),
 }
-
-
-def unsigned(value):
-    out = []
-    while value >= 0x80:
-        out.append(value % 0x80 | 0x80)
-        value //= 0x80
-    return bytes([*out, value])
 
 
 def nested(n):

@@ -11,6 +11,8 @@ import random
 import sys
 from pathlib import Path
 
+from shared.leb128 import unsigned
+
 # A type, 1 if mutable, and an expression. The last one does not end where its block does.
 GLOBALS = [
     "7f 00 41 05 0b",
@@ -42,11 +44,6 @@ def prefixed(bodies):
     return b"".join(len(body).to_bytes(4, "little") + body for body in bodies)
 
 
-def number(value):
-    more = value >> 7
-    return bytes([value & 0x7F | 0x80]) + number(more) if more else bytes([value])
-
-
 def rows(text):
     return [line.split("\t") for line in text.split("\n")[1:] if line]
 
@@ -62,11 +59,11 @@ def main():
         "samples": [bytes.fromhex("".join(cells[2:5])) for cells in rows(samples)],
     }
     for name, bodies in files.items():
-        section = number(len(bodies)) + b"".join(number(len(body)) + body for body in bodies)
+        section = unsigned(len(bodies)) + b"".join(unsigned(len(body)) + body for body in bodies)
         (folder / f"{name}.bodies").write_bytes(prefixed(bodies))
         (folder / f"{name}.section").write_bytes(section)
     (folder / "random.bodies").write_bytes(prefixed(random_bodies(4000)))
-    globals_section = number(len(GLOBALS)) + b"".join(bytes.fromhex(one) for one in GLOBALS)
+    globals_section = unsigned(len(GLOBALS)) + b"".join(bytes.fromhex(one) for one in GLOBALS)
     (folder / "globals.section").write_bytes(globals_section)
 
 

@@ -16,6 +16,7 @@ from pathlib import Path
 sys.path.insert(0, str(Path(__file__).resolve().parent / "generate"))
 
 from immediates import KINDS
+from shared.leb128 import unsigned
 from table import TOP, table
 
 BY_HAND = TOP / "tools" / "original" / "text_names.tsv"
@@ -30,16 +31,8 @@ BEFORE = {"turns_else": "0440", "turns_catch": "0640", "turns_catch_all": "0640"
 INSIDE = {"Rethrow": "064019"}
 
 
-def leb128(number):
-    out = bytearray()
-    while number >= 0x80:
-        out.append(number & 0x7F | 0x80)
-        number >>= 7
-    return bytes(out + bytes([number]))
-
-
 def encoding(op):
-    out = bytes.fromhex(op.prefix) + (leb128(op.code) if op.prefix else bytes([op.code]))
+    out = bytes.fromhex(op.prefix) + (unsigned(op.code) if op.prefix else bytes([op.code]))
     for immediate in op.immediates:
         word, *more = immediate.split()
         out += bytes.fromhex(KINDS[word].least.format(**dict(zip(("sort", "align"), more))))
@@ -47,7 +40,7 @@ def encoding(op):
 
 
 def section(number, contents):
-    return bytes([number]) + leb128(len(contents)) + contents
+    return bytes([number]) + unsigned(len(contents)) + contents
 
 
 def module(op):
@@ -62,7 +55,7 @@ def module(op):
     out = bytes.fromhex("0061736d01000000")
     for number, contents in parts:
         out += section(number, bytes.fromhex(contents))
-    out += section(10, b"\x01" + leb128(len(body)) + body)
+    out += section(10, b"\x01" + unsigned(len(body)) + body)
     return out + section(11, bytes.fromhex("010100"))
 
 

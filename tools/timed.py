@@ -24,9 +24,9 @@ import subprocess
 import sys
 import threading
 import time
-from pathlib import Path
 
-TOP = Path(__file__).resolve().parent.parent
+from shared.crates import TOP, crates
+
 TICKS = os.sysconf("SC_CLK_TCK")
 EVERY = 1
 
@@ -105,10 +105,6 @@ class Costs:
         return [f"cost {crate} {part} {p:.0f} {w:.0f}" for (crate, part), (p, w) in sorted(sums.items())]
 
 
-def count_of_crates(text):
-    return sum(bool(line.split("#")[0].strip()) for line in text.split("\n"))
-
-
 def expected_minutes(page, processors):
     """Returns the wall-clock minutes to expect by docs/GATE.md, or None."""
     found = re.findall(r"took ([\d.]+) minutes wall-clock on (\d+) processors", page)
@@ -164,7 +160,7 @@ def watch(costs, progress, top, is_done):
 def progress_of_repository():
     page = TOP / "docs" / "GATE.md"
     expected = expected_minutes(page.read_text(encoding="utf-8"), len(os.sched_getaffinity(0))) if page.exists() else None
-    return Progress(count_of_crates((TOP / "crates.txt").read_text(encoding="utf-8")), expected)
+    return Progress(len(crates()), expected)
 
 
 def main():

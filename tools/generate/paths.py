@@ -1,35 +1,16 @@
-"""The crates of crates.txt, and how a generated file names what they define.
+"""How a generated file names what the crates define.
 
 The generators may import a type of operators from `wasm_instr`, and name a crate in its own files. `by_defined` rewrites
 both: a name is imported from the crate that defines it, which is `crate` in that crate's files.
 """
 
 import re
-from pathlib import Path
 
-TOP = Path(__file__).resolve().parent.parent.parent
+from shared.crates import TOP, below, crates
+
 # A re-export of a root file, and an import of names from the root of a crate.
 EXPORT = re.compile(r"^pub use (\w+)::(?:\w+::)*(?:\{([^}]*)\}|(\w+));", re.M)
 IMPORT = re.compile(r"^use (wasm_\w+)::\{?([\w\s,]+?),?\s*\}?;", re.M)
-
-
-def crates():
-    listed = {}
-    for line in (TOP / "crates.txt").read_text(encoding="utf-8").splitlines():
-        found = re.match(r"(\w+)(?: \w+)?:(.*)$", line)
-        if found:
-            listed[found[1]] = found[2].split()
-    return listed
-
-
-def below(listed, name):
-    found, left = set(), list(listed.get(name, []))
-    while left:
-        one = left.pop()
-        if one not in found:
-            found.add(one)
-            left += listed.get(one, [])
-    return found
 
 
 def exports(text, listed):

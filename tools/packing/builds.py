@@ -9,6 +9,7 @@ import tarfile
 from concurrent.futures import ThreadPoolExecutor
 from pathlib import Path
 
+from shared.crates import listed
 from testing.crates import Crates
 from testing.pool import jobs_at_once
 from testing.programs import Builder
@@ -60,8 +61,7 @@ def commit_of(top):
 
 
 def lines_of(text, names):
-    heads = [(line, line.split("#")[0].split(":")[0].split()) for line in text.splitlines()]
-    return "".join(f"{line}\n" for line, head in heads if head and head[0] in names)
+    return "".join(f"{line}\n" for line in text.splitlines() if listed(line).keys() & set(names))
 
 
 def export(top, commit, folder):

@@ -4,7 +4,6 @@ from pathlib import Path
 
 import doc_examples
 import header
-import sections
 from table import shared, table
 
 TOP = Path(__file__).resolve().parent.parent.parent
@@ -47,9 +46,6 @@ fn one() {}
 """
         found = [(3, ["let one = 1;"]), (10, ["two();"])]
         self.assertEqual(doc_examples.examples(source), found)
-
-    def test_numbers_of_sections(self):
-        self.assertEqual([sections.number(n).hex() for n in (0, 127, 128, 1256)], ["00", "7f", "8001", "e809"])
 
     def test_lists_replace_lists(self):
         lines = HEADER.splitlines(keepends=True)

@@ -5,7 +5,7 @@ import unittest
 from pathlib import Path
 
 from immediates import KINDS
-from paths import crates
+from shared.crates import crates
 from table import COLUMNS, FEATURES, INLINE, ROLES, table
 from visits import GROUPS
 

@@ -4,6 +4,7 @@ import unittest
 import expected_reading as reading
 from original import originals
 from printed_fields import printed_field_files
+from shared.leb128 import read
 from table import table
 
 
@@ -13,12 +14,7 @@ ORIGINALS = originals()
 def prefix_and_code(operator):
     if f"{operator[0]:02x}" not in reading.GROUPS:
         return "", operator[0]
-    code, shift = 0, 0
-    for byte in operator[1:]:
-        code, shift = code | (byte & 0x7F) << shift, shift + 7
-        if byte < 0x80:
-            return f"{operator[0]:02x}", code
-    raise AssertionError("the opcode is cut")
+    return f"{operator[0]:02x}", read(operator, 1)[0]
 
 
 class Samples(unittest.TestCase):

@@ -122,9 +122,6 @@ class Progress(unittest.TestCase):
         self.assertAlmostEqual(timed.expected_minutes(page, 8), 2.1)
         self.assertIsNone(timed.expected_minutes("no minutes", 4))
 
-    def test_count_of_crates(self):
-        self.assertEqual(timed.count_of_crates("# NAME: those\nlow:\nhigh staticlib: low\n\n"), 2)
-
 
 LISTED = {"low": ["kit"], "middle": ["low"], "high": ["middle", "low"], "tests": ["high"]}
 
@@ -138,9 +135,6 @@ class Paths(unittest.TestCase):
 
     def defined(self, crate, text):
         return paths.defined(crate, text, self.HOMES)
-
-    def test_below(self):
-        self.assertEqual(paths.below(self.LISTED, "wasm_instr_ops"), {"wasm_imm", "wasm_below"})
 
     def test_exports(self):
         root = "pub use error::{Error, Result};\npub use gc::GcOperator;\npub use wasm_below::Offset;\nuse gc::Other;\n"
@@ -383,7 +377,7 @@ class Touches(unittest.TestCase):
 
     def test_lowest_first(self):
         touches = tool("touches")
-        below = touches.crates()
+        below = touches.crates(touches.TOP)
         ordered = touches.lowest_first(below)
         self.assertEqual(sorted(ordered), sorted(below))
         for at, name in enumerate(ordered):

@@ -5,7 +5,7 @@ import unittest
 from pathlib import Path
 
 from testing import built, items, outcome, pool, running, selftest
-from testing.crates import Crates, listed
+from testing.crates import Crates
 from testing.programs import Builder
 
 CRATES = """\
@@ -48,7 +48,6 @@ class Finding(unittest.TestCase):
         return [it for job in jobs for it in job.items if it not in items.CHECKS]
 
     def test_crates(self):
-        self.assertEqual(listed(CRATES), {"low": ["bitflags"], "middle": ["low"], "library": ["middle"], "program": ["middle"]})
         with tempfile.TemporaryDirectory() as folder:
             crates = repository(folder, {})
             self.assertEqual(crates.below("program"), ["low", "middle"])

@@ -1,0 +1,57 @@
+import contextlib
+import io
+import unittest
+from pathlib import Path
+
+from shared import arguments, crates, leb128
+
+DOC = "Does it.\n\n    tools/it.py 100%\n"
+
+
+class Arguments(unittest.TestCase):
+    def read(self, *words):
+        return arguments.read(DOC, "--check", "--count N", "--to DIR", "NAME..", words=words)
+
+    def test_read(self):
+        given = self.read("--count", "3", "--to", "a", "low", "high")
+        self.assertEqual((given.check, given.count, given.to, given.names), (False, 3, Path("a"), ["low", "high"]))
+        given = self.read("--check")
+        self.assertEqual((given.check, given.count, given.names), (True, None, []))
+        self.assertIsNone(arguments.read(DOC, "[FILE]", words=[]).file)
+
+    def ended(self, *words):
+        with contextlib.redirect_stdout(io.StringIO()) as out, contextlib.redirect_stderr(io.StringIO()) as err:
+            with self.assertRaises(SystemExit) as end:
+                self.read(*words)
+        return end.exception.code, out.getvalue(), err.getvalue()
+
+    def test_help(self):
+        self.assertEqual(self.ended("--help"), (0, DOC, ""))
+
+    def test_wrong(self):
+        for word in ("--other", "--chec", "--count"):
+            status, out, err = self.ended(word)
+            self.assertEqual((status, out), (2, ""))
+            self.assertTrue(err.startswith(DOC) and word in err)
+
+
+class CratesTxt(unittest.TestCase):
+    def test_listed(self):
+        listed = crates.listed("# NAME: those\nlow: kit # for it\nhigh staticlib: low\ntop: high low\n\n")
+        self.assertEqual(listed, {"low": ["kit"], "high": ["low"], "top": ["high", "low"]})
+        self.assertEqual(crates.below(listed, "top"), ["low", "high"])
+
+
+class Leb128(unittest.TestCase):
+    def test_unsigned(self):
+        for value, text in ((0, "00"), (127, "7f"), (128, "8001"), (624485, "e58e26")):
+            self.assertEqual(leb128.unsigned(value).hex(), text)
+            self.assertEqual(leb128.read(b"\xff" + bytes.fromhex(text), 1), (value, 1 + len(text) // 2))
+
+    def test_signed(self):
+        for value, text in ((0, "00"), (-1, "7f"), (63, "3f"), (64, "c000"), (-123456, "c0bb78")):
+            self.assertEqual(leb128.signed(value).hex(), text)
+
+
+if __name__ == "__main__":
+    unittest.main()
