@@ -25,7 +25,8 @@ import sys
 import tempfile
 from pathlib import Path
 
-from testing.built import built, missing, program_of
+from shared.arguments import read
+from testing.built import built, missing
 
 TOP = Path(__file__).resolve().parent.parent
 SECONDS = 60
@@ -145,11 +146,8 @@ def follow_crate(crate, given, library):
 
 
 def main():
-    given, names = program_of(sys.argv[1:])
-    if any(word.startswith("-") for word in names) or (given and len(names) != 1):
-        print(__doc__)
-        sys.exit(names not in (["--help"], ["-h"]))
-    names = names or sorted(path.name for path in (TOP / "crates").iterdir())
+    words = read(__doc__, "--program PATH", "NAME..")
+    given, names = words.program, words.names or sorted(path.name for path in (TOP / "crates").iterdir())
     wrong, runs = [], 0
     # a program that aborts leaves no core file
     resource.setrlimit(resource.RLIMIT_CORE, (0, 0))

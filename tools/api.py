@@ -15,7 +15,10 @@ import re
 import sys
 from pathlib import Path
 
-TOP = Path(__file__).resolve().parent.parent
+from shared.arguments import read
+from shared.crates import TOP
+from shared.written import write_or_check
+
 TABLE = TOP / "tools/api.tsv"
 PAGE = TOP / "bindings/rust/API.md"
 HEADER = TOP / "include/wasm_operators.h"
@@ -148,19 +151,11 @@ def missing(folder):
 
 
 def main():
-    words = sys.argv[1:]
-    if words[:1] == ["--original"] and len(words) == 2:
-        sys.exit("\n".join(missing(words[1])) or None)
-    if words not in ([], ["--check"]):
-        print(__doc__)
-        sys.exit(words not in (["--help"], ["-h"]))
-    found = faults()
-    if words and PAGE.read_text(encoding="utf-8") != page():
-        found.append("bindings/rust/API.md: not what tools/api.tsv gives: run tools/api.py")
-    if found:
+    given = read(__doc__, "--check", "--original FOLDER")
+    if found := missing(given.original) if given.original else faults():
         sys.exit("\n".join(found))
-    if not words:
-        PAGE.write_text(page(), encoding="utf-8")
+    if not given.original:
+        write_or_check({PAGE.relative_to(TOP): page()}, given.check, "tools/api.py")
 
 
 if __name__ == "__main__":

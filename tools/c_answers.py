@@ -22,10 +22,11 @@ crates/wasm_objdump/data. VALUES and FUNCTIONS are made by hand.
 """
 
 import re
-import sys
-from pathlib import Path
 
-TOP = Path(__file__).resolve().parent.parent
+from shared.arguments import read
+from shared.crates import TOP
+from shared.written import write_or_check
+
 ANSWERS = TOP / "crates/wasm_tests_replay/stdin"
 ROWS = TOP / "crates/wasm_tests_bodies/stdin"
 MODULES = TOP / "crates/wasm_objdump/data"
@@ -228,18 +229,9 @@ def files_of(text):
 
 
 def main():
-    check = sys.argv[1:] == ["--check"]
-    if sys.argv[1:] and not check:
-        print(__doc__)
-        sys.exit(sys.argv[1:] not in (["--help"], ["-h"]))
-    for name, text in files_of(ANSWERS.read_text(encoding="utf-8")).items():
-        path = CRATE / name
-        if path.exists() and path.read_text(encoding="utf-8") == text:
-            continue
-        if check:
-            sys.exit(f"{path.relative_to(TOP)}: not what its sources give: run tools/c_answers.py")
-        path.write_text(text, encoding="utf-8")
-        print(path.relative_to(TOP))
+    found = files_of(ANSWERS.read_text(encoding="utf-8"))
+    wanted = {CRATE.relative_to(TOP) / name: text for name, text in found.items()}
+    write_or_check(wanted, read(__doc__, "--check").check, "tools/c_answers.py")
 
 
 if __name__ == "__main__":

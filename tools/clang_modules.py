@@ -11,6 +11,8 @@ import subprocess
 import sys
 from pathlib import Path
 
+from shared.arguments import read
+
 WASI = ["--target=wasm32-wasi"]
 BARE = ["--target=wasm32", "-nostdlib", "-Wl,--no-entry", "-Wl,--export-all"]
 CPP = [*WASI, "-fno-exceptions", "-std=c++20"]
@@ -39,10 +41,7 @@ def make(folder, name):
 
 
 def main():
-    if len(sys.argv) != 2 or sys.argv[1].startswith("-"):
-        print(__doc__)
-        sys.exit(sys.argv[1:] not in (["--help"], ["-h"]))
-    folder = Path(sys.argv[1])
+    folder = read(__doc__, "FOLDER").folder
     folder.mkdir(parents=True, exist_ok=True)
     for name in MODULES:
         make(folder, name)

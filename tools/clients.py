@@ -25,6 +25,7 @@ import sys
 import tempfile
 from pathlib import Path
 
+from shared.arguments import read
 from shared.leb128 import unsigned
 
 TOP = Path(__file__).resolve().parent.parent
@@ -211,20 +212,20 @@ def compare(programs, modules, work):
 
 
 def main():
-    words = sys.argv[1:]
-    if words == ["--lines"]:
+    words = read(__doc__, "--lines", "WORD..")
+    if words.lines:
         for client, lines in counted().items():
             print(f"{client}: {', '.join(f'{count} {CAUSES[cause]}' for cause, count in lines.items() if count)}")
         return
-    if not words or words[0].startswith("-"):
-        print(__doc__)
-        sys.exit(words not in (["--help"], ["-h"]))
-    engines = Path(words[0]).resolve()
+    if not words.words:
+        sys.exit(__doc__)
+    engines, *others = words.words
+    engines = Path(engines).resolve()
     with tempfile.TemporaryDirectory() as folder:
         work = Path(os.environ.get("WORK", folder)).resolve()
         programs = build(engines / "root/usr/share/cargo/registry", work)
         modules = sorted((TOP / "crates").glob("*/data/*.wasm"))
-        modules += smith(engines, work, int(os.environ.get("SMITH", "300"))) + given(words[1:], work)
+        modules += smith(engines, work, int(os.environ.get("SMITH", "300"))) + given(others, work)
         lines, faults = compare(programs, modules, work)
     print("\n".join(lines + faults))
     sys.exit(bool(faults))

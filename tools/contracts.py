@@ -18,6 +18,8 @@ import re
 import sys
 from pathlib import Path
 
+from shared.arguments import read
+
 TOP = Path(__file__).resolve().parent.parent
 QUOTE = re.compile(r"(<!-- contracts\n(.*?)-->\n\n```text\n)(.*?)(```\n)", re.S)
 SHORTER = [(r"\bself\.old\b", "S"), (r"\bself\.new\b", "S'"), (r"\bself\.now\b", "S"), (r"\b(\w+)\.entry\b", r"\1")]
@@ -90,10 +92,7 @@ def with_quotes(page, top=TOP):
 
 
 def main():
-    if sys.argv[1:] not in ([], ["--write"]):
-        print(__doc__)
-        sys.exit(sys.argv[1:] not in (["--help"], ["-h"]))
-    faults, count = [], 0
+    given, faults, count = read(__doc__, "--write"), [], 0
     for path in sorted(TOP.glob("crates/*/CALLING.md")):
         page, name = path.read_text(encoding="utf-8"), path.relative_to(TOP)
         try:
@@ -104,7 +103,7 @@ def main():
         count += some
         if page.count("<!-- contracts") != some:
             faults.append(f"{name}: a comment `contracts` has no block after it")
-        if sys.argv[1:]:
+        if given.write:
             path.write_text(text, encoding="utf-8")
         elif text != page:
             faults.append(f"{name}: a quote differs from src/; `tools/run contracts --write` writes it")

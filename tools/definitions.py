@@ -22,6 +22,7 @@ from pathlib import Path
 from pages.definitions_page import group_of, page
 from pages.rows import LIMIT, count, faults_of, given_of, rows_of, with_referred
 from pages.specs import WORD, file_at, files_of, names_of
+from shared.arguments import read
 
 TOP = Path(__file__).resolve().parent.parent
 PAGE, TABLE = TOP / "docs" / "DEFINITIONS.md", TOP / "tools" / "definitions.tsv"
@@ -138,9 +139,7 @@ def report(rows, found, wanting, misplaced):
 
 
 def main():
-    if sys.argv[1:] not in ([], ["--write"]):
-        print(__doc__)
-        sys.exit(sys.argv[1:] not in (["--help"], ["-h"]))
+    is_written = read(__doc__, "--write").write
     files, given = files_of(TOP), given_of(TABLE.read_text(encoding="utf-8"))
     found = used(names_of(TOP))
     rows, wanting = rows_by_file(files, given, found)
@@ -149,7 +148,7 @@ def main():
     if wanting or misplaced or not found:
         sys.exit(1)
     text = page(rows, PAGE.read_text(encoding="utf-8"))
-    if sys.argv[1:]:
+    if is_written:
         PAGE.write_text(text, encoding="utf-8")
     at = first_difference(PAGE.read_text(encoding="utf-8"), text)
     sys.exit(f"docs/DEFINITIONS.md:{at}: differs from what tools/definitions.py --write writes" if at else 0)

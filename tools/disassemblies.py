@@ -15,7 +15,8 @@ import subprocess
 import sys
 from pathlib import Path
 
-from testing.built import built, missing, program_of
+from shared.arguments import read
+from testing.built import built, missing
 
 TOP = Path(__file__).resolve().parent.parent
 CRATE = TOP / "crates" / "wasm_objdump"
@@ -72,10 +73,7 @@ def compared(program, path):
 
 
 def main():
-    given, words = program_of(sys.argv[1:])
-    if words not in ([], [CRATE.name]):
-        print(__doc__)
-        sys.exit(words not in (["--help"], ["-h"]))
+    given = read(__doc__, "--program PATH", "[NAME]").program
     programs = built(CRATE.name, given)
     if not programs:
         print(missing(CRATE.name, given))

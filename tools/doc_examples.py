@@ -1,14 +1,15 @@
 #!/usr/bin/env python3
 """Writes the examples in the documentation of wasmparser's operators layer as documentation of a Rust file.
 
-    tools/doc_examples.py WASMPARSER > lib.rs
+    tools/doc_examples.py FOLDER > lib.rs     FOLDER has the sources of wasmparser
 
 `cargo test --doc` then runs them over the crate that is the dependency `wasmparser` (tools/bindings).
 """
 
 import re
 import sys
-from pathlib import Path
+
+from shared.arguments import read
 
 FILES = ["lib.rs", "binary_reader.rs", "readers/core/code.rs", "readers/core/init.rs", "readers/core/operators.rs"]
 COMMENT = re.compile(r"\s*//[/!] ?(.*)$")
@@ -35,18 +36,15 @@ def examples(text):
 
 
 def main():
-    if len(sys.argv) != 2 or sys.argv[1].startswith("-"):
-        print(__doc__)
-        sys.exit(sys.argv[1:] not in (["--help"], ["-h"]))
-    number = 0
+    folder, number = read(__doc__, "FOLDER").folder, 0
     for name in FILES:
-        for line, block in examples((Path(sys.argv[1]) / "src" / name).read_text(encoding="utf-8")):
+        for line, block in examples((folder / "src" / name).read_text(encoding="utf-8")):
             number += 1
             print(f"/// {name}, line {line}\n///\n/// ```")
             print("\n".join(f"/// {text}".rstrip() for text in block))
             print(f"/// ```\npub fn example_{number}() {{}}\n")
     if not number:
-        sys.exit(f"doc_examples: no examples in {sys.argv[1]}")
+        sys.exit(f"doc_examples: no examples in {folder}")
 
 
 if __name__ == "__main__":

@@ -15,6 +15,7 @@ It fails on
 import re
 import sys
 
+from shared.arguments import read
 from shared.crates import TOP, crates
 
 # Programs, static libraries and proved callers. Tests are known by their names.
@@ -102,9 +103,7 @@ def citations(listed, top=TOP):
 
 
 def main():
-    if sys.argv[1:]:
-        print(__doc__)
-        sys.exit(sys.argv[1:] not in (["--help"], ["-h"]))
+    read(__doc__)
     listed, may = crates(), allowed()
     found = citations(listed)
     texts = {name: "\n".join(files_of(name).values()) for name in listed}

@@ -1,19 +1,41 @@
 #!/usr/bin/env python3
-"""Checks that every edit still applies to the sources.
+"""Checks that every edit still applies to the sources, or tries the must-fail edits that the gate leaves out.
 
     tools/edits.py [--log LOG]
+    tools/edits.py --more [--keep DIR] [--record] [NAME..]
 
-It reads `crates/NAME/must-fail/X.edit`, which the gate tries, and the edits in `more-must-fail` and `tests-catch`, which
-`tools/run more_must_fail` and `tools/run tests_catch` try. Each replaces texts of a file, which must occur once, in
-order. With `--log` it also fails if the log of `rt ci` has a `BAD EDIT`, which `rt ci` skips.
+It reads `crates/NAME/must-fail/X.edit`, which the gate tries, the edits in `more-must-fail`, which `--more` tries, and those
+in `tests-catch`, which `tools/run tests_catch` tries. Each replaces texts of a file, which must occur once, in order. With
+`--log` it also fails if the log of `rt ci` has a `BAD EDIT`, which `rt ci` skips.
+
+The gate does not try `more-must-fail`, since a second edit costs another proof of the crate. `--more` copies the crates,
+puts these edits in the place of the gate's, and runs `rt ci NAME..` there. Without NAME it takes every crate with such
+edits. After the gate, `rt ci` proves no crate below NAME again. `--keep DIR` keeps the copy, in a folder that is new, empty
+or such a copy. `RT_JOBS=N` has `rt` do N things at a time. `--record` writes the crates whose edits were all rejected into
+tools/more_must_fail.tsv, with the commit and the date, for docs/GATE.md. It needs a checkout without changes in crates/.
+
+The last line has the numbers of edits and of wrong ones; the status is 0 if none is wrong.
 """
 
+import csv
+import datetime
+import os
+import re
+import shutil
+import subprocess
 import sys
+import tempfile
 from pathlib import Path
 
-TOP = Path(__file__).resolve().parent.parent
+from shared.arguments import read
+from shared.crates import TOP
+
 FOLDERS = ("must-fail", "more-must-fail", "tests-catch")
 PARTS = ("src/", "specs/", "proofs/")
+RECORD = TOP / "tools" / "more_must_fail.tsv"
+COLUMNS = ["crate", "edits", "commit", "date"]
+COPIED = ["crates", "crates.txt", "HANDLES"]
+REJECTED = re.compile(r"(?:rt: )?must-fail (\w+)/(\S+): refused")
 
 
 class BadEdit(Exception):
@@ -78,17 +100,111 @@ def bad_in_log(text):
     return [line for line in text.split("\n") if "BAD EDIT" in line]
 
 
+def copied(folder):
+    """Copies the crates without what is built. Exits if the folder holds something else."""
+    left = [path.name for path in folder.iterdir() if path.name not in COPIED] if folder.exists() else []
+    if left:
+        sys.exit(f"{folder} has {left[0]}, and is no copy that this tool made: choose an empty folder")
+    shutil.rmtree(folder / "crates", ignore_errors=True)
+    listed = subprocess.run(
+        ["git", "-C", TOP, "ls-files", "-coz", "--exclude-standard", *COPIED], capture_output=True, check=True
+    )
+    for name in (name.decode() for name in listed.stdout.split(b"\0") if name):
+        if (TOP / name).is_file():
+            (folder / name).parent.mkdir(parents=True, exist_ok=True)
+            shutil.copy2(TOP / name, folder / name)
+
+
+def exchanged(folder, names):
+    """Replaces the gate's edits by the further ones in these crates, and takes all from the others."""
+    for crate in (folder / "crates").iterdir():
+        shutil.rmtree(crate / "must-fail", ignore_errors=True)
+        if crate.name in names:
+            (crate / "more-must-fail").rename(crate / "must-fail")
+
+
+def rejected_in(lines):
+    """Yields each line of `rt ci`, with the crate and the edit that it reports as rejected."""
+    for line in lines:
+        found = REJECTED.match(line)
+        yield line, (found[1], found[2]) if found else None
+
+
+def tried(folder, names):
+    """Returns the number of rejected edits, and the others."""
+    # (rt ci refuses names if CI is set)
+    env = {name: value for name, value in os.environ.items() if name != "CI"}
+    how = {"stdout": subprocess.PIPE, "stderr": subprocess.STDOUT, "text": True, "errors": "replace"}
+    seen = set()
+    with subprocess.Popen(["rt", "ci", *names], cwd=folder, env=env, **how) as ran:
+        for line, edit in rejected_in(ran.stdout):
+            print(line, end="", flush=True)
+            seen |= {edit} - {None}
+    wanted = {(name, path.name) for name in names for path in edits_of(folder / "crates" / name, ["must-fail"])}
+    wrong = [f"{name}/{edit}" for name, edit in sorted(wanted - seen)]
+    if ran.returncode and not wrong:
+        wrong = [f"{name}/ (rt ci failed)" for name in names]
+    return len(wanted & seen), wrong
+
+
+def recorded():
+    if not RECORD.exists():
+        return []
+    with open(RECORD, encoding="utf-8", newline="") as lines:
+        return list(csv.DictReader(lines, delimiter="\t"))
+
+
+def committed():
+    """Returns the commit. Exits if crates/ has uncommitted changes."""
+    run = lambda *words: subprocess.run(["git", "-C", TOP, *words], capture_output=True, text=True, check=True).stdout.strip()
+    if run("status", "--porcelain", "crates", "crates.txt"):
+        sys.exit("crates/ has uncommitted changes: commit them before --record")
+    return run("rev-parse", "--short", "HEAD")
+
+
+def record(names, commit):
+    rows = {row["crate"]: row for row in recorded()}
+    today = datetime.date.today().isoformat()
+    for name in names:
+        count = len(edits_of(TOP / "crates" / name, ["more-must-fail"]))
+        rows[name] = {"crate": name, "edits": str(count), "commit": commit, "date": today}
+    with open(RECORD, "w", encoding="utf-8", newline="") as out:
+        writer = csv.DictWriter(out, COLUMNS, delimiter="\t", lineterminator="\n")
+        writer.writeheader()
+        writer.writerows(rows[name] for name in sorted(rows) if (TOP / "crates" / name / "more-must-fail").exists())
+
+
+def try_more(names, kept, is_recorded):
+    """Tries the edits that the gate leaves out. Returns how many were rejected, and the others."""
+    every = [path.parent.name for path in sorted(TOP.glob("crates/*/more-must-fail"))]
+    unknown = [name for name in names if name not in every]
+    if unknown:
+        sys.exit(f"no edits in crates/{unknown[0]}/more-must-fail")
+    names = names or every
+    commit = committed() if is_recorded else None
+    with tempfile.TemporaryDirectory(prefix="more-must-fail-") as scratch:
+        folder = kept or Path(scratch) / "copy"
+        copied(folder)
+        exchanged(folder, names)
+        rejected, wrong = tried(folder, names)
+    if is_recorded:
+        failed = {edit.split("/")[0] for edit in wrong}
+        record([name for name in names if name not in failed], commit)
+    return rejected, wrong
+
+
 def main():
-    words = sys.argv[1:]
-    if words and (words[0] != "--log" or len(words) != 2):
-        print(__doc__)
-        sys.exit(words not in (["--help"], ["-h"]))
-    found, count = faults(TOP)
-    if words:
-        found += bad_in_log(Path(words[1]).read_text(encoding="utf-8", errors="replace"))
+    given = read(__doc__, "--log LOG", "--more", "--keep DIR", "--record", "NAME..")
+    if given.more:
+        count, found = try_more(given.names, given.keep, given.record)
+        found, done = [f"NOT REJECTED: {edit}" for edit in found], "rejected"
+    else:
+        found, count = faults(TOP)
+        found += bad_in_log(given.log.read_text(encoding="utf-8", errors="replace")) if given.log else []
+        done = "checked"
     for fault in found:
         print(fault)
-    print(f"edits: {count} checked, {len(found)} wrong")
+    print(f"edits: {count} {done}, {len(found)} wrong")
     sys.exit(1 if found or not count else 0)
 
 

@@ -14,9 +14,11 @@ from pathlib import Path
 
 sys.path.insert(0, str(Path(__file__).resolve().parent / "generate"))
 
-from expected_reading import FRAMED, write_or_check
+from expected_reading import FRAMED
 from original import originals, signatures
+from shared.arguments import read
 from shared.leb128 import unsigned
+from shared.written import write_or_check
 
 TOP = Path(__file__).resolve().parent.parent
 CRATE = TOP / "crates" / "wasm_tests_lists"
@@ -160,11 +162,11 @@ def files():
         sys.exit(f"crates/wasm_tests_lists/by_rule.tsv has no row for {', '.join(lost)}")
     edges = (CRATE / "edges.txt").read_text(encoding="utf-8")
     return {
-        "stdin": "".join(row(op) + "\n" for op in ops),
-        "stdout": "".join(f"{line_of(op, by_rule)}\n{typing_lines(op, types_of[op.name])}" for op in ops) + edges,
+        "crates/wasm_tests_lists/stdin": "".join(row(op) + "\n" for op in ops),
+        "crates/wasm_tests_lists/stdout": "".join(f"{line_of(op, by_rule)}\n{typing_lines(op, types_of[op.name])}" for op in ops) + edges,
     }
 
 
 if __name__ == "__main__":
     sys.dont_write_bytecode = True
-    write_or_check(CRATE, files(), __doc__)
+    write_or_check(files(), read(__doc__, "--check").check, "tools/expected.py")

@@ -16,11 +16,12 @@ from pathlib import Path
 sys.path.insert(0, str(Path(__file__).resolve().parent / "generate"))
 
 from original import FOLDER, GROUPS, originals
+from shared.arguments import read
 from shared.leb128 import unsigned
+from shared.written import write_or_check
 
 TOP = Path(__file__).resolve().parent.parent
 CRATE = TOP / "crates" / "wasm_tests_decode"
-DUMP = TOP / "crates" / "wasm_dump"
 
 # In the order of their bits.
 FEATURES = [
@@ -203,34 +204,19 @@ def dumped():
     for name, operator in whole_body():
         lines.append(f"{len(body)} {name}\n")
         body += operator
-    return {"stdin": body, "stdout": "".join(lines)}
+    return {"crates/wasm_dump/stdin": body, "crates/wasm_dump/stdout": "".join(lines)}
 
 
 def files():
     kinds = {op.name: op.immediates for op in originals()}
     asked = tasks()
     return {
-        "stdin": "".join(task.line() + "\n" for task in asked),
-        "stdout": "".join(wanted(task, kinds) + "\n" for task in asked),
+        "crates/wasm_tests_decode/stdin": "".join(task.line() + "\n" for task in asked),
+        "crates/wasm_tests_decode/stdout": "".join(wanted(task, kinds) + "\n" for task in asked),
+        **dumped(),
     }
-
-
-def write_or_check(crate, wanted, doc):
-    """Writes files of a crate. With the option --check, fails if one is not as wanted."""
-    check = sys.argv[1:] == ["--check"]
-    if sys.argv[1:] and not check:
-        sys.exit(doc)
-    for name, text in wanted.items():
-        path, data = crate / name, text.encode() if isinstance(text, str) else text
-        if path.exists() and path.read_bytes() == data:
-            continue
-        if check:
-            sys.exit(f"{path.relative_to(TOP)} is not what tools/original gives: run tools/{Path(sys.argv[0]).name}")
-        path.write_bytes(data)
-        print(path.relative_to(TOP))
 
 
 if __name__ == "__main__":
     sys.dont_write_bytecode = True
-    write_or_check(CRATE, files(), __doc__)
-    write_or_check(DUMP, dumped(), __doc__)
+    write_or_check(files(), read(__doc__, "--check").check, "tools/expected_reading.py")

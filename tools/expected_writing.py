@@ -11,11 +11,12 @@ Instructions). Each LEB128 number gets its fewest bytes, an abstract reference t
 
 import sys
 
-from expected_reading import TOP, samples, write_or_check
+from expected_reading import samples
 from original import GROUPS, originals
+from shared import arguments
 from shared.leb128 import read, signed, unsigned
+from shared.written import write_or_check
 
-CRATE = TOP / "crates" / "wasm_tests_encode"
 ABSTRACT = {*range(0x68, 0x76)}
 SHARED, NULL, NOT_NULL, EXACT, EMPTY = 0x65, 0x63, 0x64, 0x62, 0x40
 NUMBER_TYPES = {*range(0x7B, 0x80)}
@@ -150,9 +151,9 @@ def rows():
 
 def files():
     lines = ("\t".join([name, *(part.hex() for part in parts)]) for name, *parts in rows())
-    return {"stdin": "".join(f"{line}\n" for line in lines)}
+    return {"crates/wasm_tests_encode/stdin": "".join(f"{line}\n" for line in lines)}
 
 
 if __name__ == "__main__":
     sys.dont_write_bytecode = True
-    write_or_check(CRATE, files(), __doc__)
+    write_or_check(files(), arguments.read(__doc__, "--check").check, "tools/expected_writing.py")

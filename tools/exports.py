@@ -16,6 +16,8 @@ TOP = Path(__file__).resolve().parent.parent
 sys.path.insert(0, str(TOP / "tools" / "generate"))
 
 from layout import laid_out
+from shared.arguments import read
+from shared.written import write_or_check
 
 LIBRARY = TOP / "crates/wasm_c/src/lib.rt"
 EXPORTS = "crates/wasm_c_exports/src/lib.rt"
@@ -54,19 +56,8 @@ def exports_of(library):
 
 
 def main():
-    check = sys.argv[1:] == ["--check"]
-    if sys.argv[1:] and not check:
-        print(__doc__)
-        sys.exit(sys.argv[1:] not in (["--help"], ["-h"]))
-    wanted = laid_out({EXPORTS: exports_of(LIBRARY.read_text(encoding="utf-8"))})[EXPORTS]
-    path = TOP / EXPORTS
-    if path.exists() and path.read_text(encoding="utf-8") == wanted:
-        return
-    if check:
-        sys.exit(f"{EXPORTS}: not what crates/wasm_c/src/lib.rt gives: run tools/exports.py")
-    path.parent.mkdir(parents=True, exist_ok=True)
-    path.write_text(wanted, encoding="utf-8")
-    print(EXPORTS)
+    wanted = laid_out({EXPORTS: exports_of(LIBRARY.read_text(encoding="utf-8"))})
+    write_or_check(wanted, read(__doc__, "--check").check, "tools/exports.py")
 
 
 if __name__ == "__main__":

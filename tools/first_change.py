@@ -13,6 +13,8 @@ import sys
 import tempfile
 from pathlib import Path
 
+from shared.arguments import read
+
 TOP = Path(__file__).resolve().parent.parent
 PAGE = TOP / "CONTRIBUTING.md"
 STEP = re.compile(r"^\*\*(\d)\. ", re.M)
@@ -99,9 +101,7 @@ def follow(clone):
 
 
 def main():
-    if sys.argv[1:]:
-        print(__doc__)
-        return sys.argv[1:] not in (["--help"], ["-h"])
+    read(__doc__)
     with tempfile.TemporaryDirectory(prefix="first-change-") as scratch:
         clone = Path(scratch) / "clone"
         subprocess.run(["git", "clone", "--quiet", TOP, clone], check=True)

@@ -16,7 +16,8 @@ from pathlib import Path
 
 sys.path[:0] = [str(Path(__file__).resolve().parent / "generate"), str(Path(__file__).resolve().parent)]
 
-from more_must_fail import recorded
+from edits import recorded
+from shared import arguments
 
 TOP = Path(__file__).resolve().parent.parent
 PAGE = TOP / "docs" / "GATE.md"
@@ -44,7 +45,7 @@ MADE_OF = """
 OUTSIDE = """
 ## Must-fail edits outside the gate
 
-`tools/run more_must_fail` tries the edits in `crates/*/more-must-fail/`. The prover rejected all of them at these commits:
+`tools/run edits --more` tries the edits in `crates/*/more-must-fail/`. The prover rejected all of them at these commits:
 
 | Crate | Edits | Commit | Date |
 |---|---|---|---|
@@ -162,13 +163,13 @@ def text_of(path):
 
 def main():
     sys.dont_write_bytecode = True
-    words = sys.argv[1:]
-    if words[:1] == ["--summary"] and len(words) == 2:
-        print(summary(text_of(words[1])))
+    given = arguments.read(__doc__, "--summary LOG", "WORD..")
+    if given.summary:
+        print(summary(text_of(given.summary)))
         return
-    if not words or len(words) % 2 or words[0].startswith("-"):
-        print(__doc__)
-        sys.exit(words not in (["--help"], ["-h"]))
+    words = given.words
+    if not words or len(words) % 2:
+        sys.exit(__doc__)
     runs = [(text_of(log), note) for log, note in zip(words[::2], words[1::2])]
     PAGE.write_text(page(runs, recorded()), encoding="utf-8")
     print("docs/GATE.md")

@@ -10,15 +10,13 @@ counts. It prints nanoseconds per operator (for branch tables per byte) and memo
 """
 
 import math
-import os
 import subprocess
 import sys
 import tempfile
 from html import escape
-from pathlib import Path
 
-sys.path.insert(0, str(Path(__file__).resolve().parent))
 import large_bodies
+from shared.arguments import read
 
 FIGURE = large_bodies.TOP / "docs" / "growth.svg"
 ROUNDS = 20
@@ -100,20 +98,15 @@ def figure(series):
 
 
 def main():
-    words, given = sys.argv[1:], {"--rounds": str(ROUNDS), "--passes": str(PASSES), "--figure": str(FIGURE)}
-    while words[1:] and words[0] in given:
-        given[words[0]], words = words[1], words[2:]
-    if words:
-        print(__doc__)
-        sys.exit(words not in (["--help"], ["-h"]))
+    given = read(__doc__, "--rounds N", "--passes N", "--figure FILE")
     if not large_bodies.LIBRARY.exists():
         sys.exit(f"{large_bodies.LIBRARY}: not built; run `rt lib` in crates/wasm_bench")
     with tempfile.TemporaryDirectory() as folder:
         driver = large_bodies.built_driver(folder)
-        series = passes(int(given["--passes"]), lambda name: measured(driver, name, int(given["--rounds"])))
+        series = passes(given.passes or PASSES, lambda name: measured(driver, name, given.rounds or ROUNDS))
     print("| Body | Bytes | Time | Memory without the body |\n|---|---|---|---|")
     print("\n".join(row for name, found in series.items() for row in rows(name, found)))
-    Path(given["--figure"]).write_text(figure(series), encoding="utf-8")
+    (given.figure or FIGURE).write_text(figure(series), encoding="utf-8")
 
 
 if __name__ == "__main__":

@@ -16,6 +16,7 @@ import tempfile
 import time
 from pathlib import Path
 
+from shared.arguments import read
 from shared.leb128 import unsigned
 
 TOP = Path(__file__).resolve().parent.parent
@@ -150,10 +151,7 @@ def all_visited():
 
 
 def main():
-    if sys.argv[2:] or sys.argv[1:2] and sys.argv[1].startswith("-"):
-        print(__doc__)
-        sys.exit(sys.argv[1:] not in (["--help"], ["-h"]))
-    program = Path(sys.argv[1]).resolve() if sys.argv[1:] else PROGRAM
+    program = (read(__doc__, "[PROGRAM]").program or PROGRAM).resolve()
     if not program.exists():
         sys.exit(f"{program}: not built; run `rt run` in crates/wasm_dump")
     found = [fault for name in BODIES for fault in listed(program, name)]

@@ -37,6 +37,8 @@ from routes import route_files
 from rows import enum_by_opcode, enum_rows, equality_answer, operator_rows, operators_by_opcode
 from rules import faults
 from source import Shape, enum_source, operator_source
+from shared.arguments import read
+from shared.written import write_or_check
 from table import ENUMS, HEAD, TOP, table
 from signature_rows import row_files, too_long
 from signatures import signature_files
@@ -81,11 +83,6 @@ def files(ops):
     return laid_out(by_defined(out))
 
 
-def stale(wanted, top=TOP):
-    paths = {name: top / name for name in wanted}
-    return [it for it, path in paths.items() if not path.exists() or path.read_bytes() != wanted[it].encode()]
-
-
 def left_over(wanted, top=TOP):
     """Returns generated files that no generator writes."""
     found = [*top.glob("crates/*/src/**/*.rt"), *top.glob("crates/*/specs/*.antt"), *top.glob("crates/*/proofs/**/*.antt")]
@@ -94,24 +91,15 @@ def left_over(wanted, top=TOP):
 
 
 def main():
-    check = sys.argv[1:] == ["--check"]
-    if sys.argv[1:] and not check:
-        print(__doc__)
-        sys.exit(sys.argv[1:] not in (["--help"], ["-h"]))
+    check = read(__doc__, "--check").check
     found = faults() or differences(table()) or unread(table()) or unshaped(table()) or too_long(table())
     if found:
         sys.exit("\n".join(found))
     wanted = files(table())
-    wrong = stale(wanted)
+    write_or_check(wanted, check, "tools/lists.py")
     if check:
-        found = [f"{name}: not what the table gives: run tools/lists.py" for name in wrong]
-        found += [f"{name}: no generator writes this file: remove it" for name in left_over(wanted)]
+        found = [f"{name}: no generator writes this file: remove it" for name in left_over(wanted)]
         sys.exit("\n".join(found + wrong_counts(table())) or None)
-    for name in wrong:
-        path = TOP / name
-        path.parent.mkdir(parents=True, exist_ok=True)
-        path.write_bytes(wanted[name].encode())
-        print(name)
 
 
 if __name__ == "__main__":

@@ -1,16 +1,15 @@
 #!/usr/bin/env python3
 """Writes the bodies of crates/wasm_tests_replay/stdin as inputs of the Rust programs in bindings.
 
-    tools/sections.py STDIN FOLDER
+    tools/sections.py FILE FOLDER     FILE is crates/wasm_tests_replay/stdin
 
 FOLDER gets samples, replay and random.bodies, each body after its length in four bytes, little-endian; samples and
 replay.section, code sections of the same bodies; and globals.section.
 """
 
 import random
-import sys
-from pathlib import Path
 
+from shared.arguments import read
 from shared.leb128 import unsigned
 
 # A type, 1 if mutable, and an expression. The last one does not end where its block does.
@@ -49,11 +48,9 @@ def rows(text):
 
 
 def main():
-    if len(sys.argv) != 3 or sys.argv[1].startswith("-"):
-        print(__doc__)
-        sys.exit(sys.argv[1:] not in (["--help"], ["-h"]))
-    replay, samples = Path(sys.argv[1]).read_text(encoding="utf-8").split("\nname\t")
-    folder = Path(sys.argv[2])
+    given = read(__doc__, "FILE", "FOLDER")
+    replay, samples = given.file.read_text(encoding="utf-8").split("\nname\t")
+    folder = given.folder
     files = {
         "replay": [bytes.fromhex(cells[2]) for cells in rows(replay)],
         "samples": [bytes.fromhex("".join(cells[2:5])) for cells in rows(samples)],

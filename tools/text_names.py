@@ -16,6 +16,7 @@ from pathlib import Path
 sys.path.insert(0, str(Path(__file__).resolve().parent / "generate"))
 
 from immediates import KINDS
+from shared.arguments import read
 from shared.leb128 import unsigned
 from table import TOP, table
 
@@ -76,9 +77,7 @@ def by_hand():
 
 
 def main():
-    if sys.argv[1:]:
-        print(__doc__)
-        sys.exit(sys.argv[1:] not in (["--help"], ["-h"]))
+    read(__doc__)
     written = by_hand()
     known, faults = 0, []
     with tempfile.TemporaryDirectory() as folder:

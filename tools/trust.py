@@ -27,6 +27,7 @@ sys.path.insert(0, str(TOP / "tools"))
 sys.dont_write_bytecode = True
 
 from packing import builds, texts
+from shared.arguments import read
 from testing.crates import Crates, Missing, find_kit
 
 # What it means, the files, and the pattern in their text without comments.
@@ -137,20 +138,17 @@ def build_unproved_again():
 
 
 def main():
-    words = sys.argv[1:]
-    if words not in ([], ["--quick"], ["--unproved"]):
-        print(__doc__)
-        return words not in (["--help"], ["-h"])
+    given = read(__doc__, "--quick", "--unproved")
     kit, crates = find_kit(), Crates(TOP)
     heading("Kit")
     print(builds.identity_of(kit), end="")
     heading("Searched")
     is_well = search(crates, [*builds.libraries_of(crates), *builds.programs_of(crates), builds.EXPORTS])
-    if words == ["--unproved"]:
+    if given.unproved:
         is_well = build_unproved_again() and is_well
-    elif words == [] and (TOP / "dist/rattle/libraries.tar.xz").exists():
+    elif not given.quick and (TOP / "dist/rattle/libraries.tar.xz").exists():
         is_well = prove_again(kit) and is_well
-    elif words == []:
+    elif not given.quick:
         heading("Assumed")
         print("There is no dist/rattle: run tools/dist for the prover's account and a second build.")
     heading("Besides")

@@ -18,16 +18,20 @@ class Reader(argparse.ArgumentParser):
         sys.exit(2)
 
 
+def absolute(text):
+    return Path(text).absolute()
+
+
 def read(doc, *forms, words=None):
     """Returns the arguments by name. A form is `--FLAG`, `--FLAG VALUE`, `VALUE`, `[VALUE]`, or `VALUE..` for a list.
 
-    A value is a path if it is one of PATHS, a whole number if it is `N`, else a text. `--as-is` has the name `as_is`, `FILE`
+    A value is an absolute path if it is one of PATHS, a whole number if it is `N`, else a text. `--as-is` has the name `as_is`, `FILE`
     the name `file`, and `FILE..` the name `files`.
     """
     reader = Reader(description=doc, allow_abbrev=False, formatter_class=argparse.RawDescriptionHelpFormatter)
     for form in forms:
         flag, optional, value, several = FORM.fullmatch(form).groups()
-        kind = Path if value in PATHS else int if value == "N" else str
+        kind = absolute if value in PATHS else int if value == "N" else str
         if flag and value:
             reader.add_argument(flag, type=kind, metavar=value)
         elif flag:

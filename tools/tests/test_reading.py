@@ -111,7 +111,7 @@ class Dumped(unittest.TestCase):
 
     def test_each_operator(self):
         self.assertEqual({op.name for op in ORIGINALS}, set(self.names))
-        self.assertEqual(reading.dumped()["stdin"][:3].hex(), "000001")
+        self.assertEqual(reading.dumped()["crates/wasm_dump/stdin"][:3].hex(), "000001")
 
     def test_no_capacity_is_left_where_no_frame_opens(self):
         frames, capacity, full = 0, 0, set()
