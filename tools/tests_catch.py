@@ -11,7 +11,6 @@ programs that are built. An edit takes a minute or two: the program is built aga
 The last line is `tests_catch: N caught, M wrong`. The status is 0 if none is wrong.
 """
 
-import argparse
 import re
 import shutil
 import sys
@@ -19,6 +18,7 @@ import tempfile
 from pathlib import Path
 
 from edits import TOP, BadEdit, edited, edits_of
+from shared.arguments import read
 from testing.outcome import tail
 from testing.running import Clock
 from testing.selftest import LEFT_OUT, run_tool
@@ -86,13 +86,7 @@ def tried(copy, kept, paths):
 
 
 def main():
-    if sys.argv[1:] in (["--help"], ["-h"]):
-        print(__doc__)
-        return
-    reader = argparse.ArgumentParser(usage=__doc__, add_help=False)
-    reader.add_argument("--keep", type=Path)
-    reader.add_argument("names", nargs="*")
-    given = reader.parse_args()
+    given = read(__doc__, "--keep DIR", "NAME..")
     every = sorted({path.parent.name for path in TOP.glob(f"crates/*/{FOLDER}")})
     unknown = [name for name in given.names if name not in every]
     if unknown:
@@ -100,7 +94,7 @@ def main():
     with tempfile.TemporaryDirectory(prefix="tests-catch-") as folder:
         copy = Path(folder) / "copy"
         shutil.copytree(TOP, copy, symlinks=True, ignore=shutil.ignore_patterns(*LEFT_OUT))
-        kept = (given.keep or Path(folder) / "kept").resolve()
+        kept = given.keep or Path(folder) / "kept"
         caught, wrong = tried(copy, kept, found_edits(TOP, given.names or every))
     print(f"tests_catch: {caught} caught, {wrong} wrong")
     sys.exit(1 if wrong or not caught else 0)
