@@ -5,8 +5,9 @@ from pathlib import Path
 import layout
 from counts import wrong_counts
 from immediates import KINDS
-from lists import files, left_over, stale
+from lists import files, left_over
 from rules import faults
+from shared.written import stale
 from table import COLUMNS, HEAD, rows_of, table
 
 # Prefix byte and proposal of the groups that may grow. There are 256 SIMD operators already.
