@@ -1,3 +1,4 @@
+/* SPDX-License-Identifier: Apache-2.0 WITH LLVM-exception OR Apache-2.0 OR MIT */
 /* The operators of WebAssembly function bodies: the header of libwasm_c.a, a decoder that is proved. C99 and C++.
  * docs/CALLERS.md has a first program. tools/lists.py writes the lists over the operators.
  *

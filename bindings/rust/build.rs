@@ -1,6 +1,7 @@
 //! Links the proved static library, `libwasm_c.a`, and the archive by which it allocates, `liblibc_c.a`.
 //!
-//! Both are in the folder that WASM_OPERATORS_LIBRARIES names, or else in `native`.
+//! Both are in the folder that WASM_OPERATORS_LIBRARIES names, or else in `native`. They are for Linux on x86-64, for
+//! processors of the level x86-64-v2.
 
 use std::env;
 use std::path::{Path, PathBuf};
@@ -17,6 +18,7 @@ const WHAT_TO_RUN: [&str; 4] = [
 ];
 
 fn main() {
+    check_target();
     println!("cargo::rerun-if-env-changed=WASM_OPERATORS_LIBRARIES");
     let folder = match env::var_os("WASM_OPERATORS_LIBRARIES") {
         Some(folder) => PathBuf::from(folder),
@@ -30,6 +32,23 @@ fn main() {
             report_missing(&file);
         }
         println!("cargo::rustc-link-lib=static={library}");
+    }
+}
+
+/// Ends the build with an error if it is for another target than the libraries are.
+fn check_target() {
+    let of_target = |name: &str| env::var(format!("CARGO_CFG_TARGET_{name}")).unwrap_or_default();
+    let target = [
+        of_target("OS"),
+        of_target("ARCH"),
+        of_target("POINTER_WIDTH"),
+    ];
+    if target != ["linux", "x86_64", "64"] {
+        let [os, arch, _] = target;
+        println!(
+            "cargo::error=The library of wasm-operators is for Linux on x86-64 (x86-64-v2), and this build is for {os} on {arch}."
+        );
+        exit(0)
     }
 }
 

@@ -50,9 +50,6 @@ def make(folder, libraries, notices):
     for page in package.glob("*.md"):
         text = page.read_text(encoding="utf-8")
         page.write_text(texts.relinked(f"{FOLDER}/{page.name}", text, place_of), encoding="utf-8")
-    # (as cargo does, for a file outside of the crate's folder)
-    manifest = package / "Cargo.toml"
-    manifest.write_text(manifest.read_text(encoding="utf-8").replace('"../../LICENSE"', '"LICENSE"'), encoding="utf-8")
     shutil.copyfile(TOP / "LICENSE", package / "LICENSE")
     (package / "native").mkdir()
     for name, path in {**{path.name: path for path in libraries}, **notices}.items():

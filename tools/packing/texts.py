@@ -10,6 +10,7 @@ from packing.builds import TOP
 
 # For `str.format`.
 PKG_CONFIG = (TOP / "tools/packing/wasm_operators.pc").read_text(encoding="utf-8")
+CMAKE = {path.name: path.read_text(encoding="utf-8") for path in sorted((TOP / "tools/packing").glob("*.cmake"))}
 PROVED = """\
 commit  {commit}
 kit     {kit}

@@ -11,7 +11,7 @@ from pathlib import Path
 from packing import installed, package, texts
 from packing.builds import TOP
 
-COMMANDS = ["cc", "cargo", "rustc", "rustup", "pkg-config", "tar", "ld", "as"]
+COMMANDS = ["cc", "cargo", "rustc", "rustup", "pkg-config", "cmake", "make", "tar", "ld", "as"]
 BODY = bytes([0x00, 0x01, 0x0B])
 LISTED = "1 Nop\n2 End\n"
 MANIFEST = """\
@@ -22,6 +22,13 @@ edition = "2024"
 
 [dependencies]
 {name} = {{ path = "{path}" }}
+"""
+CMAKE = """\
+cmake_minimum_required(VERSION 3.13)
+project(first C)
+find_package(wasm_operators REQUIRED)
+add_executable(by_cmake {source})
+target_link_libraries(by_cmake PRIVATE wasm_operators::wasm_operators)
 """
 MAIN = (TOP / "tools/packing/trial.rs").read_text(encoding="utf-8")
 
@@ -87,6 +94,16 @@ def try_c(prefix, folder, env):
     ran([folder / "list", "body"], folder, env, LISTED)
 
 
+def try_cmake(prefix, folder, env):
+    (folder / "cmake").mkdir()
+    text = CMAKE.format(source=prefix / installed.DOC / "list.c")
+    (folder / "cmake/CMakeLists.txt").write_text(text, encoding="utf-8")
+    (folder / "body").write_bytes(BODY)
+    ran(["cmake", "-S", "cmake", "-B", "made", f"-DCMAKE_PREFIX_PATH={prefix}"], folder, env)
+    ran(["cmake", "--build", "made"], folder, env)
+    ran([folder / "made/by_cmake", "body"], folder, env, LISTED)
+
+
 def try_cargo(prefix, folder, env):
     name = f"{package.field('name')}-{package.field('version')}"
     crate = prefix / "share/wasm-operators" / name
@@ -110,7 +127,7 @@ def run(out):
         installed.install(out, prefix)
         try_tree(prefix, env)
         try_programs(prefix)
-        for command, tries in (("cc", try_c), ("cargo", try_cargo)):
+        for command, tries in (("cc", try_c), ("cmake", try_cmake), ("cargo", try_cargo)):
             if shutil.which(command, path=env["PATH"]):
                 tries(prefix, folder, env)
             else:

@@ -148,7 +148,6 @@ class Package(Folders):
         self.assertEqual(made.name, f"wasm-operators-{package.field('version')}")
         self.assertEqual((made / "native/libwasm_c.a").read_text(), "archive")
         self.assertEqual((made / "native/low-LICENSE").read_text(), "free")
-        self.assertIn('license-file = "LICENSE"', (made / "Cargo.toml").read_text())
         self.assertEqual((made / "LICENSE").read_text(), (TOP / "LICENSE").read_text())
         self.assertEqual(list(trial.dead_links(made)), [])
         outside = [path for path in made.rglob("*.rs") if package.OUTSIDE.search(path.read_text(encoding="utf-8"))]

@@ -31,7 +31,7 @@ fn main() -> ExitCode {
     let module = match std::fs::read(&path) {
         Ok(module) => module,
         Err(error) => {
-            eprintln!("{}: {error}", path.display());
+            eprintln!("{}: {error}", std::path::Path::new(&path).display());
             return ExitCode::from(2);
         }
     };

@@ -141,18 +141,33 @@ pub struct TryTable {
     pub catches: Vec<Catch>,
 }
 
-/// A clause of a `try_table`. `tag` is the index of a tag, and `label` a depth.
-#[allow(missing_docs)]
+/// A clause of a `try_table`.
 #[derive(Clone, Copy, Debug, PartialEq, Eq, Hash)]
 pub enum Catch {
     /// `catch`
-    One { tag: u32, label: u32 },
+    One {
+        /// The index of the tag.
+        tag: u32,
+        /// The label that the exception branches to.
+        label: u32,
+    },
     /// `catch_ref`
-    OneRef { tag: u32, label: u32 },
+    OneRef {
+        /// The index of the tag.
+        tag: u32,
+        /// The label that the exception branches to.
+        label: u32,
+    },
     /// `catch_all`
-    All { label: u32 },
+    All {
+        /// The label that the exception branches to.
+        label: u32,
+    },
     /// `catch_all_ref`
-    AllRef { label: u32 },
+    AllRef {
+        /// The label that the exception branches to.
+        label: u32,
+    },
 }
 
 impl Catch {
@@ -182,14 +197,21 @@ impl ResumeTable {
     }
 }
 
-/// A clause of a [`ResumeTable`]. `tag` is the index of a tag, and `label` a depth.
-#[allow(missing_docs)]
+/// A clause of a [`ResumeTable`].
 #[derive(Clone, Copy, Debug, PartialEq, Eq, Hash)]
 pub enum Handle {
     /// A suspension with this tag branches to the label.
-    OnLabel { tag: u32, label: u32 },
+    OnLabel {
+        /// The index of the tag.
+        tag: u32,
+        /// The label that the suspension branches to.
+        label: u32,
+    },
     /// A suspension with this tag switches to another continuation.
-    OnSwitch { tag: u32 },
+    OnSwitch {
+        /// The index of the tag.
+        tag: u32,
+    },
 }
 
 impl Handle {

@@ -12,24 +12,38 @@ use std::mem::MaybeUninit;
 const VERSION: u32 = 4;
 
 /// An operator as a C struct: `wasm_operator` of the header, which describes the fields.
-#[allow(missing_docs)]
 #[repr(C)]
 #[derive(Clone, Copy, Debug, Default, PartialEq, Eq)]
 pub struct PlainOperator {
+    /// The offset of the first byte.
     pub offset: u64,
+    /// An integer, sign-extended; the bits of a float; or the static offset of a memory argument in bytes.
     pub wide: u64,
+    /// The opcode, or the subopcode plus 65536 times the prefix byte.
     pub opcode: u32,
+    /// The first index in the order of the binary format, or the number of elements of a list.
     pub first: u32,
+    /// The second index.
     pub second: u32,
+    /// The third index.
     pub third: u32,
+    /// A type: `wasm_kind` of the header. Its index, if any, is in the field that the comment of the opcode names.
     pub kind: u32,
+    /// The target type of a cast.
     pub other_kind: u32,
+    /// Which fields have a meaning: `wasm_shape` of the header.
     pub shape: u8,
+    /// The alignment of a memory argument, as the exponent of a power of two.
     pub align: u8,
+    /// The natural alignment, as the exponent of a power of two.
     pub max_align: u8,
+    /// The index of a lane.
     pub lane: u8,
+    /// For a memory argument, 0 if it accesses the memory `first`, and 1 if an array of the type `first`.
     pub target: u16,
+    /// The memory ordering: 0 none, 1 sequentially consistent, 2 acquire and release; 3 and 4 in a read-modify-write.
     pub ordering: u16,
+    /// A vector, little-endian, or the lane indices of a shuffle.
     pub bytes: [u8; 16],
 }
 

@@ -5,639 +5,1266 @@ use crate::lists::{self, BrTable, ResumeTable, Source, TryTable};
 use crate::native::PlainOperator;
 use crate::types::{HeapType, RefType, ValType, heap_type, ref_type, val_type};
 
-/// An operator with its immediates.
+/// An operator with its immediates. The comment of each is its name in the text format.
 #[derive(Clone, Debug, PartialEq, Eq)]
-#[allow(missing_docs)]
 #[non_exhaustive]
 #[rustfmt::skip]
 pub enum Operator<'a> {
+    /// `unreachable`
     Unreachable,
+    /// `nop`
     Nop,
-    Block { blockty: BlockType },
-    Loop { blockty: BlockType },
-    If { blockty: BlockType },
+    /// `block`
+    Block { /** The type of the block. */ blockty: BlockType },
+    /// `loop`
+    Loop { /** The type of the block. */ blockty: BlockType },
+    /// `if`
+    If { /** The type of the block. */ blockty: BlockType },
+    /// `else`
     Else,
+    /// `end`
     End,
-    Br { relative_depth: u32 },
-    BrIf { relative_depth: u32 },
-    BrTable { targets: BrTable<'a> },
+    /// `br`
+    Br { /** The label: how many open frames are further in. */ relative_depth: u32 },
+    /// `br_if`
+    BrIf { /** The label: how many open frames are further in. */ relative_depth: u32 },
+    /// `br_table`
+    BrTable { /** The labels. */ targets: BrTable<'a> },
+    /// `return`
     Return,
-    Call { function_index: u32 },
-    CallIndirect { type_index: u32, table_index: u32 },
+    /// `call`
+    Call { /** The index of the function. */ function_index: u32 },
+    /// `call_indirect`
+    CallIndirect { /** The index of the type. */ type_index: u32, /** The index of the table. */ table_index: u32 },
+    /// `drop`
     Drop,
+    /// `select`
     Select,
-    LocalGet { local_index: u32 },
-    LocalSet { local_index: u32 },
-    LocalTee { local_index: u32 },
-    GlobalGet { global_index: u32 },
-    GlobalSet { global_index: u32 },
-    I32Load { memarg: MemArg },
-    I64Load { memarg: MemArg },
-    F32Load { memarg: MemArg },
-    F64Load { memarg: MemArg },
-    I32Load8S { memarg: MemArg },
-    I32Load8U { memarg: MemArg },
-    I32Load16S { memarg: MemArg },
-    I32Load16U { memarg: MemArg },
-    I64Load8S { memarg: MemArg },
-    I64Load8U { memarg: MemArg },
-    I64Load16S { memarg: MemArg },
-    I64Load16U { memarg: MemArg },
-    I64Load32S { memarg: MemArg },
-    I64Load32U { memarg: MemArg },
-    I32Store { memarg: MemArg },
-    I64Store { memarg: MemArg },
-    F32Store { memarg: MemArg },
-    F64Store { memarg: MemArg },
-    I32Store8 { memarg: MemArg },
-    I32Store16 { memarg: MemArg },
-    I64Store8 { memarg: MemArg },
-    I64Store16 { memarg: MemArg },
-    I64Store32 { memarg: MemArg },
-    MemorySize { mem: u32 },
-    MemoryGrow { mem: u32 },
-    I32Const { value: i32 },
-    I64Const { value: i64 },
-    F32Const { value: Ieee32 },
-    F64Const { value: Ieee64 },
+    /// `local.get`
+    LocalGet { /** The index of the local. */ local_index: u32 },
+    /// `local.set`
+    LocalSet { /** The index of the local. */ local_index: u32 },
+    /// `local.tee`
+    LocalTee { /** The index of the local. */ local_index: u32 },
+    /// `global.get`
+    GlobalGet { /** The index of the global. */ global_index: u32 },
+    /// `global.set`
+    GlobalSet { /** The index of the global. */ global_index: u32 },
+    /// `i32.load`
+    I32Load { /** The memory argument. */ memarg: MemArg },
+    /// `i64.load`
+    I64Load { /** The memory argument. */ memarg: MemArg },
+    /// `f32.load`
+    F32Load { /** The memory argument. */ memarg: MemArg },
+    /// `f64.load`
+    F64Load { /** The memory argument. */ memarg: MemArg },
+    /// `i32.load8_s`
+    I32Load8S { /** The memory argument. */ memarg: MemArg },
+    /// `i32.load8_u`
+    I32Load8U { /** The memory argument. */ memarg: MemArg },
+    /// `i32.load16_s`
+    I32Load16S { /** The memory argument. */ memarg: MemArg },
+    /// `i32.load16_u`
+    I32Load16U { /** The memory argument. */ memarg: MemArg },
+    /// `i64.load8_s`
+    I64Load8S { /** The memory argument. */ memarg: MemArg },
+    /// `i64.load8_u`
+    I64Load8U { /** The memory argument. */ memarg: MemArg },
+    /// `i64.load16_s`
+    I64Load16S { /** The memory argument. */ memarg: MemArg },
+    /// `i64.load16_u`
+    I64Load16U { /** The memory argument. */ memarg: MemArg },
+    /// `i64.load32_s`
+    I64Load32S { /** The memory argument. */ memarg: MemArg },
+    /// `i64.load32_u`
+    I64Load32U { /** The memory argument. */ memarg: MemArg },
+    /// `i32.store`
+    I32Store { /** The memory argument. */ memarg: MemArg },
+    /// `i64.store`
+    I64Store { /** The memory argument. */ memarg: MemArg },
+    /// `f32.store`
+    F32Store { /** The memory argument. */ memarg: MemArg },
+    /// `f64.store`
+    F64Store { /** The memory argument. */ memarg: MemArg },
+    /// `i32.store8`
+    I32Store8 { /** The memory argument. */ memarg: MemArg },
+    /// `i32.store16`
+    I32Store16 { /** The memory argument. */ memarg: MemArg },
+    /// `i64.store8`
+    I64Store8 { /** The memory argument. */ memarg: MemArg },
+    /// `i64.store16`
+    I64Store16 { /** The memory argument. */ memarg: MemArg },
+    /// `i64.store32`
+    I64Store32 { /** The memory argument. */ memarg: MemArg },
+    /// `memory.size`
+    MemorySize { /** The index of the memory. */ mem: u32 },
+    /// `memory.grow`
+    MemoryGrow { /** The index of the memory. */ mem: u32 },
+    /// `i32.const`
+    I32Const { /** The constant. */ value: i32 },
+    /// `i64.const`
+    I64Const { /** The constant. */ value: i64 },
+    /// `f32.const`
+    F32Const { /** The constant. */ value: Ieee32 },
+    /// `f64.const`
+    F64Const { /** The constant. */ value: Ieee64 },
+    /// `i32.eqz`
     I32Eqz,
+    /// `i32.eq`
     I32Eq,
+    /// `i32.ne`
     I32Ne,
+    /// `i32.lt_s`
     I32LtS,
+    /// `i32.lt_u`
     I32LtU,
+    /// `i32.gt_s`
     I32GtS,
+    /// `i32.gt_u`
     I32GtU,
+    /// `i32.le_s`
     I32LeS,
+    /// `i32.le_u`
     I32LeU,
+    /// `i32.ge_s`
     I32GeS,
+    /// `i32.ge_u`
     I32GeU,
+    /// `i64.eqz`
     I64Eqz,
+    /// `i64.eq`
     I64Eq,
+    /// `i64.ne`
     I64Ne,
+    /// `i64.lt_s`
     I64LtS,
+    /// `i64.lt_u`
     I64LtU,
+    /// `i64.gt_s`
     I64GtS,
+    /// `i64.gt_u`
     I64GtU,
+    /// `i64.le_s`
     I64LeS,
+    /// `i64.le_u`
     I64LeU,
+    /// `i64.ge_s`
     I64GeS,
+    /// `i64.ge_u`
     I64GeU,
+    /// `f32.eq`
     F32Eq,
+    /// `f32.ne`
     F32Ne,
+    /// `f32.lt`
     F32Lt,
+    /// `f32.gt`
     F32Gt,
+    /// `f32.le`
     F32Le,
+    /// `f32.ge`
     F32Ge,
+    /// `f64.eq`
     F64Eq,
+    /// `f64.ne`
     F64Ne,
+    /// `f64.lt`
     F64Lt,
+    /// `f64.gt`
     F64Gt,
+    /// `f64.le`
     F64Le,
+    /// `f64.ge`
     F64Ge,
+    /// `i32.clz`
     I32Clz,
+    /// `i32.ctz`
     I32Ctz,
+    /// `i32.popcnt`
     I32Popcnt,
+    /// `i32.add`
     I32Add,
+    /// `i32.sub`
     I32Sub,
+    /// `i32.mul`
     I32Mul,
+    /// `i32.div_s`
     I32DivS,
+    /// `i32.div_u`
     I32DivU,
+    /// `i32.rem_s`
     I32RemS,
+    /// `i32.rem_u`
     I32RemU,
+    /// `i32.and`
     I32And,
+    /// `i32.or`
     I32Or,
+    /// `i32.xor`
     I32Xor,
+    /// `i32.shl`
     I32Shl,
+    /// `i32.shr_s`
     I32ShrS,
+    /// `i32.shr_u`
     I32ShrU,
+    /// `i32.rotl`
     I32Rotl,
+    /// `i32.rotr`
     I32Rotr,
+    /// `i64.clz`
     I64Clz,
+    /// `i64.ctz`
     I64Ctz,
+    /// `i64.popcnt`
     I64Popcnt,
+    /// `i64.add`
     I64Add,
+    /// `i64.sub`
     I64Sub,
+    /// `i64.mul`
     I64Mul,
+    /// `i64.div_s`
     I64DivS,
+    /// `i64.div_u`
     I64DivU,
+    /// `i64.rem_s`
     I64RemS,
+    /// `i64.rem_u`
     I64RemU,
+    /// `i64.and`
     I64And,
+    /// `i64.or`
     I64Or,
+    /// `i64.xor`
     I64Xor,
+    /// `i64.shl`
     I64Shl,
+    /// `i64.shr_s`
     I64ShrS,
+    /// `i64.shr_u`
     I64ShrU,
+    /// `i64.rotl`
     I64Rotl,
+    /// `i64.rotr`
     I64Rotr,
+    /// `f32.abs`
     F32Abs,
+    /// `f32.neg`
     F32Neg,
+    /// `f32.ceil`
     F32Ceil,
+    /// `f32.floor`
     F32Floor,
+    /// `f32.trunc`
     F32Trunc,
+    /// `f32.nearest`
     F32Nearest,
+    /// `f32.sqrt`
     F32Sqrt,
+    /// `f32.add`
     F32Add,
+    /// `f32.sub`
     F32Sub,
+    /// `f32.mul`
     F32Mul,
+    /// `f32.div`
     F32Div,
+    /// `f32.min`
     F32Min,
+    /// `f32.max`
     F32Max,
+    /// `f32.copysign`
     F32Copysign,
+    /// `f64.abs`
     F64Abs,
+    /// `f64.neg`
     F64Neg,
+    /// `f64.ceil`
     F64Ceil,
+    /// `f64.floor`
     F64Floor,
+    /// `f64.trunc`
     F64Trunc,
+    /// `f64.nearest`
     F64Nearest,
+    /// `f64.sqrt`
     F64Sqrt,
+    /// `f64.add`
     F64Add,
+    /// `f64.sub`
     F64Sub,
+    /// `f64.mul`
     F64Mul,
+    /// `f64.div`
     F64Div,
+    /// `f64.min`
     F64Min,
+    /// `f64.max`
     F64Max,
+    /// `f64.copysign`
     F64Copysign,
+    /// `i32.wrap_i64`
     I32WrapI64,
+    /// `i32.trunc_f32_s`
     I32TruncF32S,
+    /// `i32.trunc_f32_u`
     I32TruncF32U,
+    /// `i32.trunc_f64_s`
     I32TruncF64S,
+    /// `i32.trunc_f64_u`
     I32TruncF64U,
+    /// `i64.extend_i32_s`
     I64ExtendI32S,
+    /// `i64.extend_i32_u`
     I64ExtendI32U,
+    /// `i64.trunc_f32_s`
     I64TruncF32S,
+    /// `i64.trunc_f32_u`
     I64TruncF32U,
+    /// `i64.trunc_f64_s`
     I64TruncF64S,
+    /// `i64.trunc_f64_u`
     I64TruncF64U,
+    /// `f32.convert_i32_s`
     F32ConvertI32S,
+    /// `f32.convert_i32_u`
     F32ConvertI32U,
+    /// `f32.convert_i64_s`
     F32ConvertI64S,
+    /// `f32.convert_i64_u`
     F32ConvertI64U,
+    /// `f32.demote_f64`
     F32DemoteF64,
+    /// `f64.convert_i32_s`
     F64ConvertI32S,
+    /// `f64.convert_i32_u`
     F64ConvertI32U,
+    /// `f64.convert_i64_s`
     F64ConvertI64S,
+    /// `f64.convert_i64_u`
     F64ConvertI64U,
+    /// `f64.promote_f32`
     F64PromoteF32,
+    /// `i32.reinterpret_f32`
     I32ReinterpretF32,
+    /// `i64.reinterpret_f64`
     I64ReinterpretF64,
+    /// `f32.reinterpret_i32`
     F32ReinterpretI32,
+    /// `f64.reinterpret_i64`
     F64ReinterpretI64,
+    /// `i32.extend8_s`
     I32Extend8S,
+    /// `i32.extend16_s`
     I32Extend16S,
+    /// `i64.extend8_s`
     I64Extend8S,
+    /// `i64.extend16_s`
     I64Extend16S,
+    /// `i64.extend32_s`
     I64Extend32S,
+    /// `ref.eq`
     RefEq,
-    StructNew { struct_type_index: u32 },
-    StructNewDefault { struct_type_index: u32 },
-    StructGet { struct_type_index: u32, field_index: u32 },
-    StructGetS { struct_type_index: u32, field_index: u32 },
-    StructGetU { struct_type_index: u32, field_index: u32 },
-    StructSet { struct_type_index: u32, field_index: u32 },
-    ArrayNew { array_type_index: u32 },
-    ArrayNewDefault { array_type_index: u32 },
-    ArrayNewFixed { array_type_index: u32, array_size: u32 },
-    ArrayNewData { array_type_index: u32, array_data_index: u32 },
-    ArrayNewElem { array_type_index: u32, array_elem_index: u32 },
-    ArrayGet { array_type_index: u32 },
-    ArrayGetS { array_type_index: u32 },
-    ArrayGetU { array_type_index: u32 },
-    ArraySet { array_type_index: u32 },
+    /// `struct.new`
+    StructNew { /** The index of the structure type. */ struct_type_index: u32 },
+    /// `struct.new_default`
+    StructNewDefault { /** The index of the structure type. */ struct_type_index: u32 },
+    /// `struct.get`
+    StructGet { /** The index of the structure type. */ struct_type_index: u32, /** The index of the field. */ field_index: u32 },
+    /// `struct.get_s`
+    StructGetS { /** The index of the structure type. */ struct_type_index: u32, /** The index of the field. */ field_index: u32 },
+    /// `struct.get_u`
+    StructGetU { /** The index of the structure type. */ struct_type_index: u32, /** The index of the field. */ field_index: u32 },
+    /// `struct.set`
+    StructSet { /** The index of the structure type. */ struct_type_index: u32, /** The index of the field. */ field_index: u32 },
+    /// `array.new`
+    ArrayNew { /** The index of the array type. */ array_type_index: u32 },
+    /// `array.new_default`
+    ArrayNewDefault { /** The index of the array type. */ array_type_index: u32 },
+    /// `array.new_fixed`
+    ArrayNewFixed { /** The index of the array type. */ array_type_index: u32, /** The number of elements. */ array_size: u32 },
+    /// `array.new_data`
+    ArrayNewData { /** The index of the array type. */ array_type_index: u32, /** The index of the data segment. */ array_data_index: u32 },
+    /// `array.new_elem`
+    ArrayNewElem { /** The index of the array type. */ array_type_index: u32, /** The index of the element segment. */ array_elem_index: u32 },
+    /// `array.get`
+    ArrayGet { /** The index of the array type. */ array_type_index: u32 },
+    /// `array.get_s`
+    ArrayGetS { /** The index of the array type. */ array_type_index: u32 },
+    /// `array.get_u`
+    ArrayGetU { /** The index of the array type. */ array_type_index: u32 },
+    /// `array.set`
+    ArraySet { /** The index of the array type. */ array_type_index: u32 },
+    /// `array.len`
     ArrayLen,
-    ArrayFill { array_type_index: u32 },
-    ArrayCopy { array_type_index_dst: u32, array_type_index_src: u32 },
-    ArrayInitData { array_type_index: u32, array_data_index: u32 },
-    ArrayInitElem { array_type_index: u32, array_elem_index: u32 },
-    RefTestNonNull { hty: HeapType },
-    RefTestNullable { hty: HeapType },
-    RefCastNonNull { hty: HeapType },
-    RefCastNullable { hty: HeapType },
-    BrOnCast { relative_depth: u32, from_ref_type: RefType, to_ref_type: RefType },
-    BrOnCastFail { relative_depth: u32, from_ref_type: RefType, to_ref_type: RefType },
+    /// `array.fill`
+    ArrayFill { /** The index of the array type. */ array_type_index: u32 },
+    /// `array.copy`
+    ArrayCopy { /** The index of the array type that is written. */ array_type_index_dst: u32, /** The index of the array type that is read. */ array_type_index_src: u32 },
+    /// `array.init_data`
+    ArrayInitData { /** The index of the array type. */ array_type_index: u32, /** The index of the data segment. */ array_data_index: u32 },
+    /// `array.init_elem`
+    ArrayInitElem { /** The index of the array type. */ array_type_index: u32, /** The index of the element segment. */ array_elem_index: u32 },
+    /// `ref.test`
+    RefTestNonNull { /** The heap type. */ hty: HeapType },
+    /// `ref.test`
+    RefTestNullable { /** The heap type. */ hty: HeapType },
+    /// `ref.cast`
+    RefCastNonNull { /** The heap type. */ hty: HeapType },
+    /// `ref.cast`
+    RefCastNullable { /** The heap type. */ hty: HeapType },
+    /// `br_on_cast`
+    BrOnCast { /** The label: how many open frames are further in. */ relative_depth: u32, /** The type of the operand. */ from_ref_type: RefType, /** The type that is tested for. */ to_ref_type: RefType },
+    /// `br_on_cast_fail`
+    BrOnCastFail { /** The label: how many open frames are further in. */ relative_depth: u32, /** The type of the operand. */ from_ref_type: RefType, /** The type that is tested for. */ to_ref_type: RefType },
+    /// `any.convert_extern`
     AnyConvertExtern,
+    /// `extern.convert_any`
     ExternConvertAny,
+    /// `ref.i31`
     RefI31,
+    /// `i31.get_s`
     I31GetS,
+    /// `i31.get_u`
     I31GetU,
-    StructNewDesc { struct_type_index: u32 },
-    StructNewDefaultDesc { struct_type_index: u32 },
-    RefGetDesc { type_index: u32 },
-    RefCastDescEqNonNull { hty: HeapType },
-    RefCastDescEqNullable { hty: HeapType },
-    BrOnCastDescEq { relative_depth: u32, from_ref_type: RefType, to_ref_type: RefType },
-    BrOnCastDescEqFail { relative_depth: u32, from_ref_type: RefType, to_ref_type: RefType },
+    /// `struct.new_desc`
+    StructNewDesc { /** The index of the structure type. */ struct_type_index: u32 },
+    /// `struct.new_default_desc`
+    StructNewDefaultDesc { /** The index of the structure type. */ struct_type_index: u32 },
+    /// `ref.get_desc`
+    RefGetDesc { /** The index of the type. */ type_index: u32 },
+    /// `ref.cast_desc_eq`
+    RefCastDescEqNonNull { /** The heap type. */ hty: HeapType },
+    /// `ref.cast_desc_eq`
+    RefCastDescEqNullable { /** The heap type. */ hty: HeapType },
+    /// `br_on_cast_desc_eq`
+    BrOnCastDescEq { /** The label: how many open frames are further in. */ relative_depth: u32, /** The type of the operand. */ from_ref_type: RefType, /** The type that is tested for. */ to_ref_type: RefType },
+    /// `br_on_cast_desc_eq_fail`
+    BrOnCastDescEqFail { /** The label: how many open frames are further in. */ relative_depth: u32, /** The type of the operand. */ from_ref_type: RefType, /** The type that is tested for. */ to_ref_type: RefType },
+    /// `i32.trunc_sat_f32_s`
     I32TruncSatF32S,
+    /// `i32.trunc_sat_f32_u`
     I32TruncSatF32U,
+    /// `i32.trunc_sat_f64_s`
     I32TruncSatF64S,
+    /// `i32.trunc_sat_f64_u`
     I32TruncSatF64U,
+    /// `i64.trunc_sat_f32_s`
     I64TruncSatF32S,
+    /// `i64.trunc_sat_f32_u`
     I64TruncSatF32U,
+    /// `i64.trunc_sat_f64_s`
     I64TruncSatF64S,
+    /// `i64.trunc_sat_f64_u`
     I64TruncSatF64U,
-    MemoryInit { data_index: u32, mem: u32 },
-    DataDrop { data_index: u32 },
-    MemoryCopy { dst_mem: u32, src_mem: u32 },
-    MemoryFill { mem: u32 },
-    TableInit { elem_index: u32, table: u32 },
-    ElemDrop { elem_index: u32 },
-    TableCopy { dst_table: u32, src_table: u32 },
-    TypedSelect { ty: ValType },
-    TypedSelectMulti { tys: Vec<ValType> },
-    RefNull { hty: HeapType },
+    /// `memory.init`
+    MemoryInit { /** The index of the data segment. */ data_index: u32, /** The index of the memory. */ mem: u32 },
+    /// `data.drop`
+    DataDrop { /** The index of the data segment. */ data_index: u32 },
+    /// `memory.copy`
+    MemoryCopy { /** The index of the memory that is written. */ dst_mem: u32, /** The index of the memory that is read. */ src_mem: u32 },
+    /// `memory.fill`
+    MemoryFill { /** The index of the memory. */ mem: u32 },
+    /// `table.init`
+    TableInit { /** The index of the element segment. */ elem_index: u32, /** The index of the table. */ table: u32 },
+    /// `elem.drop`
+    ElemDrop { /** The index of the element segment. */ elem_index: u32 },
+    /// `table.copy`
+    TableCopy { /** The index of the table that is written. */ dst_table: u32, /** The index of the table that is read. */ src_table: u32 },
+    /// `select`
+    TypedSelect { /** The type of the operands. */ ty: ValType },
+    /// `select`
+    TypedSelectMulti { /** The types of the operands. */ tys: Vec<ValType> },
+    /// `ref.null`
+    RefNull { /** The heap type. */ hty: HeapType },
+    /// `ref.is_null`
     RefIsNull,
-    RefFunc { function_index: u32 },
-    TableFill { table: u32 },
-    TableGet { table: u32 },
-    TableSet { table: u32 },
-    TableGrow { table: u32 },
-    TableSize { table: u32 },
-    ReturnCall { function_index: u32 },
-    ReturnCallIndirect { type_index: u32, table_index: u32 },
-    MemoryDiscard { mem: u32 },
-    MemoryAtomicNotify { memarg: MemArg },
-    MemoryAtomicWait32 { memarg: MemArg },
-    MemoryAtomicWait64 { memarg: MemArg },
-    AtomicFence { ordering: Ordering },
-    I32AtomicLoad { memarg: MemArg },
-    I64AtomicLoad { memarg: MemArg },
-    I32AtomicLoad8U { memarg: MemArg },
-    I32AtomicLoad16U { memarg: MemArg },
-    I64AtomicLoad8U { memarg: MemArg },
-    I64AtomicLoad16U { memarg: MemArg },
-    I64AtomicLoad32U { memarg: MemArg },
-    I32AtomicStore { memarg: MemArg },
-    I64AtomicStore { memarg: MemArg },
-    I32AtomicStore8 { memarg: MemArg },
-    I32AtomicStore16 { memarg: MemArg },
-    I64AtomicStore8 { memarg: MemArg },
-    I64AtomicStore16 { memarg: MemArg },
-    I64AtomicStore32 { memarg: MemArg },
-    I32AtomicRmwAdd { memarg: MemArg },
-    I64AtomicRmwAdd { memarg: MemArg },
-    I32AtomicRmw8AddU { memarg: MemArg },
-    I32AtomicRmw16AddU { memarg: MemArg },
-    I64AtomicRmw8AddU { memarg: MemArg },
-    I64AtomicRmw16AddU { memarg: MemArg },
-    I64AtomicRmw32AddU { memarg: MemArg },
-    I32AtomicRmwSub { memarg: MemArg },
-    I64AtomicRmwSub { memarg: MemArg },
-    I32AtomicRmw8SubU { memarg: MemArg },
-    I32AtomicRmw16SubU { memarg: MemArg },
-    I64AtomicRmw8SubU { memarg: MemArg },
-    I64AtomicRmw16SubU { memarg: MemArg },
-    I64AtomicRmw32SubU { memarg: MemArg },
-    I32AtomicRmwAnd { memarg: MemArg },
-    I64AtomicRmwAnd { memarg: MemArg },
-    I32AtomicRmw8AndU { memarg: MemArg },
-    I32AtomicRmw16AndU { memarg: MemArg },
-    I64AtomicRmw8AndU { memarg: MemArg },
-    I64AtomicRmw16AndU { memarg: MemArg },
-    I64AtomicRmw32AndU { memarg: MemArg },
-    I32AtomicRmwOr { memarg: MemArg },
-    I64AtomicRmwOr { memarg: MemArg },
-    I32AtomicRmw8OrU { memarg: MemArg },
-    I32AtomicRmw16OrU { memarg: MemArg },
-    I64AtomicRmw8OrU { memarg: MemArg },
-    I64AtomicRmw16OrU { memarg: MemArg },
-    I64AtomicRmw32OrU { memarg: MemArg },
-    I32AtomicRmwXor { memarg: MemArg },
-    I64AtomicRmwXor { memarg: MemArg },
-    I32AtomicRmw8XorU { memarg: MemArg },
-    I32AtomicRmw16XorU { memarg: MemArg },
-    I64AtomicRmw8XorU { memarg: MemArg },
-    I64AtomicRmw16XorU { memarg: MemArg },
-    I64AtomicRmw32XorU { memarg: MemArg },
-    I32AtomicRmwXchg { memarg: MemArg },
-    I64AtomicRmwXchg { memarg: MemArg },
-    I32AtomicRmw8XchgU { memarg: MemArg },
-    I32AtomicRmw16XchgU { memarg: MemArg },
-    I64AtomicRmw8XchgU { memarg: MemArg },
-    I64AtomicRmw16XchgU { memarg: MemArg },
-    I64AtomicRmw32XchgU { memarg: MemArg },
-    I32AtomicRmwCmpxchg { memarg: MemArg },
-    I64AtomicRmwCmpxchg { memarg: MemArg },
-    I32AtomicRmw8CmpxchgU { memarg: MemArg },
-    I32AtomicRmw16CmpxchgU { memarg: MemArg },
-    I64AtomicRmw8CmpxchgU { memarg: MemArg },
-    I64AtomicRmw16CmpxchgU { memarg: MemArg },
-    I64AtomicRmw32CmpxchgU { memarg: MemArg },
-    V128Load { memarg: MemArg },
-    V128Load8x8S { memarg: MemArg },
-    V128Load8x8U { memarg: MemArg },
-    V128Load16x4S { memarg: MemArg },
-    V128Load16x4U { memarg: MemArg },
-    V128Load32x2S { memarg: MemArg },
-    V128Load32x2U { memarg: MemArg },
-    V128Load8Splat { memarg: MemArg },
-    V128Load16Splat { memarg: MemArg },
-    V128Load32Splat { memarg: MemArg },
-    V128Load64Splat { memarg: MemArg },
-    V128Load32Zero { memarg: MemArg },
-    V128Load64Zero { memarg: MemArg },
-    V128Store { memarg: MemArg },
-    V128Load8Lane { memarg: MemArg, lane: u8 },
-    V128Load16Lane { memarg: MemArg, lane: u8 },
-    V128Load32Lane { memarg: MemArg, lane: u8 },
-    V128Load64Lane { memarg: MemArg, lane: u8 },
-    V128Store8Lane { memarg: MemArg, lane: u8 },
-    V128Store16Lane { memarg: MemArg, lane: u8 },
-    V128Store32Lane { memarg: MemArg, lane: u8 },
-    V128Store64Lane { memarg: MemArg, lane: u8 },
-    V128Const { value: V128 },
-    I8x16Shuffle { lanes: [u8; 16] },
-    I8x16ExtractLaneS { lane: u8 },
-    I8x16ExtractLaneU { lane: u8 },
-    I8x16ReplaceLane { lane: u8 },
-    I16x8ExtractLaneS { lane: u8 },
-    I16x8ExtractLaneU { lane: u8 },
-    I16x8ReplaceLane { lane: u8 },
-    I32x4ExtractLane { lane: u8 },
-    I32x4ReplaceLane { lane: u8 },
-    I64x2ExtractLane { lane: u8 },
-    I64x2ReplaceLane { lane: u8 },
-    F32x4ExtractLane { lane: u8 },
-    F32x4ReplaceLane { lane: u8 },
-    F64x2ExtractLane { lane: u8 },
-    F64x2ReplaceLane { lane: u8 },
+    /// `ref.func`
+    RefFunc { /** The index of the function. */ function_index: u32 },
+    /// `table.fill`
+    TableFill { /** The index of the table. */ table: u32 },
+    /// `table.get`
+    TableGet { /** The index of the table. */ table: u32 },
+    /// `table.set`
+    TableSet { /** The index of the table. */ table: u32 },
+    /// `table.grow`
+    TableGrow { /** The index of the table. */ table: u32 },
+    /// `table.size`
+    TableSize { /** The index of the table. */ table: u32 },
+    /// `return_call`
+    ReturnCall { /** The index of the function. */ function_index: u32 },
+    /// `return_call_indirect`
+    ReturnCallIndirect { /** The index of the type. */ type_index: u32, /** The index of the table. */ table_index: u32 },
+    /// `memory.discard`
+    MemoryDiscard { /** The index of the memory. */ mem: u32 },
+    /// `memory.atomic.notify`
+    MemoryAtomicNotify { /** The memory argument. */ memarg: MemArg },
+    /// `memory.atomic.wait32`
+    MemoryAtomicWait32 { /** The memory argument. */ memarg: MemArg },
+    /// `memory.atomic.wait64`
+    MemoryAtomicWait64 { /** The memory argument. */ memarg: MemArg },
+    /// `atomic.fence`
+    AtomicFence { /** The memory ordering. */ ordering: Ordering },
+    /// `i32.atomic.load`
+    I32AtomicLoad { /** The memory argument. */ memarg: MemArg },
+    /// `i64.atomic.load`
+    I64AtomicLoad { /** The memory argument. */ memarg: MemArg },
+    /// `i32.atomic.load8_u`
+    I32AtomicLoad8U { /** The memory argument. */ memarg: MemArg },
+    /// `i32.atomic.load16_u`
+    I32AtomicLoad16U { /** The memory argument. */ memarg: MemArg },
+    /// `i64.atomic.load8_u`
+    I64AtomicLoad8U { /** The memory argument. */ memarg: MemArg },
+    /// `i64.atomic.load16_u`
+    I64AtomicLoad16U { /** The memory argument. */ memarg: MemArg },
+    /// `i64.atomic.load32_u`
+    I64AtomicLoad32U { /** The memory argument. */ memarg: MemArg },
+    /// `i32.atomic.store`
+    I32AtomicStore { /** The memory argument. */ memarg: MemArg },
+    /// `i64.atomic.store`
+    I64AtomicStore { /** The memory argument. */ memarg: MemArg },
+    /// `i32.atomic.store8`
+    I32AtomicStore8 { /** The memory argument. */ memarg: MemArg },
+    /// `i32.atomic.store16`
+    I32AtomicStore16 { /** The memory argument. */ memarg: MemArg },
+    /// `i64.atomic.store8`
+    I64AtomicStore8 { /** The memory argument. */ memarg: MemArg },
+    /// `i64.atomic.store16`
+    I64AtomicStore16 { /** The memory argument. */ memarg: MemArg },
+    /// `i64.atomic.store32`
+    I64AtomicStore32 { /** The memory argument. */ memarg: MemArg },
+    /// `i32.atomic.rmw.add`
+    I32AtomicRmwAdd { /** The memory argument. */ memarg: MemArg },
+    /// `i64.atomic.rmw.add`
+    I64AtomicRmwAdd { /** The memory argument. */ memarg: MemArg },
+    /// `i32.atomic.rmw8.add_u`
+    I32AtomicRmw8AddU { /** The memory argument. */ memarg: MemArg },
+    /// `i32.atomic.rmw16.add_u`
+    I32AtomicRmw16AddU { /** The memory argument. */ memarg: MemArg },
+    /// `i64.atomic.rmw8.add_u`
+    I64AtomicRmw8AddU { /** The memory argument. */ memarg: MemArg },
+    /// `i64.atomic.rmw16.add_u`
+    I64AtomicRmw16AddU { /** The memory argument. */ memarg: MemArg },
+    /// `i64.atomic.rmw32.add_u`
+    I64AtomicRmw32AddU { /** The memory argument. */ memarg: MemArg },
+    /// `i32.atomic.rmw.sub`
+    I32AtomicRmwSub { /** The memory argument. */ memarg: MemArg },
+    /// `i64.atomic.rmw.sub`
+    I64AtomicRmwSub { /** The memory argument. */ memarg: MemArg },
+    /// `i32.atomic.rmw8.sub_u`
+    I32AtomicRmw8SubU { /** The memory argument. */ memarg: MemArg },
+    /// `i32.atomic.rmw16.sub_u`
+    I32AtomicRmw16SubU { /** The memory argument. */ memarg: MemArg },
+    /// `i64.atomic.rmw8.sub_u`
+    I64AtomicRmw8SubU { /** The memory argument. */ memarg: MemArg },
+    /// `i64.atomic.rmw16.sub_u`
+    I64AtomicRmw16SubU { /** The memory argument. */ memarg: MemArg },
+    /// `i64.atomic.rmw32.sub_u`
+    I64AtomicRmw32SubU { /** The memory argument. */ memarg: MemArg },
+    /// `i32.atomic.rmw.and`
+    I32AtomicRmwAnd { /** The memory argument. */ memarg: MemArg },
+    /// `i64.atomic.rmw.and`
+    I64AtomicRmwAnd { /** The memory argument. */ memarg: MemArg },
+    /// `i32.atomic.rmw8.and_u`
+    I32AtomicRmw8AndU { /** The memory argument. */ memarg: MemArg },
+    /// `i32.atomic.rmw16.and_u`
+    I32AtomicRmw16AndU { /** The memory argument. */ memarg: MemArg },
+    /// `i64.atomic.rmw8.and_u`
+    I64AtomicRmw8AndU { /** The memory argument. */ memarg: MemArg },
+    /// `i64.atomic.rmw16.and_u`
+    I64AtomicRmw16AndU { /** The memory argument. */ memarg: MemArg },
+    /// `i64.atomic.rmw32.and_u`
+    I64AtomicRmw32AndU { /** The memory argument. */ memarg: MemArg },
+    /// `i32.atomic.rmw.or`
+    I32AtomicRmwOr { /** The memory argument. */ memarg: MemArg },
+    /// `i64.atomic.rmw.or`
+    I64AtomicRmwOr { /** The memory argument. */ memarg: MemArg },
+    /// `i32.atomic.rmw8.or_u`
+    I32AtomicRmw8OrU { /** The memory argument. */ memarg: MemArg },
+    /// `i32.atomic.rmw16.or_u`
+    I32AtomicRmw16OrU { /** The memory argument. */ memarg: MemArg },
+    /// `i64.atomic.rmw8.or_u`
+    I64AtomicRmw8OrU { /** The memory argument. */ memarg: MemArg },
+    /// `i64.atomic.rmw16.or_u`
+    I64AtomicRmw16OrU { /** The memory argument. */ memarg: MemArg },
+    /// `i64.atomic.rmw32.or_u`
+    I64AtomicRmw32OrU { /** The memory argument. */ memarg: MemArg },
+    /// `i32.atomic.rmw.xor`
+    I32AtomicRmwXor { /** The memory argument. */ memarg: MemArg },
+    /// `i64.atomic.rmw.xor`
+    I64AtomicRmwXor { /** The memory argument. */ memarg: MemArg },
+    /// `i32.atomic.rmw8.xor_u`
+    I32AtomicRmw8XorU { /** The memory argument. */ memarg: MemArg },
+    /// `i32.atomic.rmw16.xor_u`
+    I32AtomicRmw16XorU { /** The memory argument. */ memarg: MemArg },
+    /// `i64.atomic.rmw8.xor_u`
+    I64AtomicRmw8XorU { /** The memory argument. */ memarg: MemArg },
+    /// `i64.atomic.rmw16.xor_u`
+    I64AtomicRmw16XorU { /** The memory argument. */ memarg: MemArg },
+    /// `i64.atomic.rmw32.xor_u`
+    I64AtomicRmw32XorU { /** The memory argument. */ memarg: MemArg },
+    /// `i32.atomic.rmw.xchg`
+    I32AtomicRmwXchg { /** The memory argument. */ memarg: MemArg },
+    /// `i64.atomic.rmw.xchg`
+    I64AtomicRmwXchg { /** The memory argument. */ memarg: MemArg },
+    /// `i32.atomic.rmw8.xchg_u`
+    I32AtomicRmw8XchgU { /** The memory argument. */ memarg: MemArg },
+    /// `i32.atomic.rmw16.xchg_u`
+    I32AtomicRmw16XchgU { /** The memory argument. */ memarg: MemArg },
+    /// `i64.atomic.rmw8.xchg_u`
+    I64AtomicRmw8XchgU { /** The memory argument. */ memarg: MemArg },
+    /// `i64.atomic.rmw16.xchg_u`
+    I64AtomicRmw16XchgU { /** The memory argument. */ memarg: MemArg },
+    /// `i64.atomic.rmw32.xchg_u`
+    I64AtomicRmw32XchgU { /** The memory argument. */ memarg: MemArg },
+    /// `i32.atomic.rmw.cmpxchg`
+    I32AtomicRmwCmpxchg { /** The memory argument. */ memarg: MemArg },
+    /// `i64.atomic.rmw.cmpxchg`
+    I64AtomicRmwCmpxchg { /** The memory argument. */ memarg: MemArg },
+    /// `i32.atomic.rmw8.cmpxchg_u`
+    I32AtomicRmw8CmpxchgU { /** The memory argument. */ memarg: MemArg },
+    /// `i32.atomic.rmw16.cmpxchg_u`
+    I32AtomicRmw16CmpxchgU { /** The memory argument. */ memarg: MemArg },
+    /// `i64.atomic.rmw8.cmpxchg_u`
+    I64AtomicRmw8CmpxchgU { /** The memory argument. */ memarg: MemArg },
+    /// `i64.atomic.rmw16.cmpxchg_u`
+    I64AtomicRmw16CmpxchgU { /** The memory argument. */ memarg: MemArg },
+    /// `i64.atomic.rmw32.cmpxchg_u`
+    I64AtomicRmw32CmpxchgU { /** The memory argument. */ memarg: MemArg },
+    /// `v128.load`
+    V128Load { /** The memory argument. */ memarg: MemArg },
+    /// `v128.load8x8_s`
+    V128Load8x8S { /** The memory argument. */ memarg: MemArg },
+    /// `v128.load8x8_u`
+    V128Load8x8U { /** The memory argument. */ memarg: MemArg },
+    /// `v128.load16x4_s`
+    V128Load16x4S { /** The memory argument. */ memarg: MemArg },
+    /// `v128.load16x4_u`
+    V128Load16x4U { /** The memory argument. */ memarg: MemArg },
+    /// `v128.load32x2_s`
+    V128Load32x2S { /** The memory argument. */ memarg: MemArg },
+    /// `v128.load32x2_u`
+    V128Load32x2U { /** The memory argument. */ memarg: MemArg },
+    /// `v128.load8_splat`
+    V128Load8Splat { /** The memory argument. */ memarg: MemArg },
+    /// `v128.load16_splat`
+    V128Load16Splat { /** The memory argument. */ memarg: MemArg },
+    /// `v128.load32_splat`
+    V128Load32Splat { /** The memory argument. */ memarg: MemArg },
+    /// `v128.load64_splat`
+    V128Load64Splat { /** The memory argument. */ memarg: MemArg },
+    /// `v128.load32_zero`
+    V128Load32Zero { /** The memory argument. */ memarg: MemArg },
+    /// `v128.load64_zero`
+    V128Load64Zero { /** The memory argument. */ memarg: MemArg },
+    /// `v128.store`
+    V128Store { /** The memory argument. */ memarg: MemArg },
+    /// `v128.load8_lane`
+    V128Load8Lane { /** The memory argument. */ memarg: MemArg, /** The index of the lane. */ lane: u8 },
+    /// `v128.load16_lane`
+    V128Load16Lane { /** The memory argument. */ memarg: MemArg, /** The index of the lane. */ lane: u8 },
+    /// `v128.load32_lane`
+    V128Load32Lane { /** The memory argument. */ memarg: MemArg, /** The index of the lane. */ lane: u8 },
+    /// `v128.load64_lane`
+    V128Load64Lane { /** The memory argument. */ memarg: MemArg, /** The index of the lane. */ lane: u8 },
+    /// `v128.store8_lane`
+    V128Store8Lane { /** The memory argument. */ memarg: MemArg, /** The index of the lane. */ lane: u8 },
+    /// `v128.store16_lane`
+    V128Store16Lane { /** The memory argument. */ memarg: MemArg, /** The index of the lane. */ lane: u8 },
+    /// `v128.store32_lane`
+    V128Store32Lane { /** The memory argument. */ memarg: MemArg, /** The index of the lane. */ lane: u8 },
+    /// `v128.store64_lane`
+    V128Store64Lane { /** The memory argument. */ memarg: MemArg, /** The index of the lane. */ lane: u8 },
+    /// `v128.const`
+    V128Const { /** The constant. */ value: V128 },
+    /// `i8x16.shuffle`
+    I8x16Shuffle { /** The index of the lane of both operands for each lane of the result. */ lanes: [u8; 16] },
+    /// `i8x16.extract_lane_s`
+    I8x16ExtractLaneS { /** The index of the lane. */ lane: u8 },
+    /// `i8x16.extract_lane_u`
+    I8x16ExtractLaneU { /** The index of the lane. */ lane: u8 },
+    /// `i8x16.replace_lane`
+    I8x16ReplaceLane { /** The index of the lane. */ lane: u8 },
+    /// `i16x8.extract_lane_s`
+    I16x8ExtractLaneS { /** The index of the lane. */ lane: u8 },
+    /// `i16x8.extract_lane_u`
+    I16x8ExtractLaneU { /** The index of the lane. */ lane: u8 },
+    /// `i16x8.replace_lane`
+    I16x8ReplaceLane { /** The index of the lane. */ lane: u8 },
+    /// `i32x4.extract_lane`
+    I32x4ExtractLane { /** The index of the lane. */ lane: u8 },
+    /// `i32x4.replace_lane`
+    I32x4ReplaceLane { /** The index of the lane. */ lane: u8 },
+    /// `i64x2.extract_lane`
+    I64x2ExtractLane { /** The index of the lane. */ lane: u8 },
+    /// `i64x2.replace_lane`
+    I64x2ReplaceLane { /** The index of the lane. */ lane: u8 },
+    /// `f32x4.extract_lane`
+    F32x4ExtractLane { /** The index of the lane. */ lane: u8 },
+    /// `f32x4.replace_lane`
+    F32x4ReplaceLane { /** The index of the lane. */ lane: u8 },
+    /// `f64x2.extract_lane`
+    F64x2ExtractLane { /** The index of the lane. */ lane: u8 },
+    /// `f64x2.replace_lane`
+    F64x2ReplaceLane { /** The index of the lane. */ lane: u8 },
+    /// `i8x16.swizzle`
     I8x16Swizzle,
+    /// `i8x16.splat`
     I8x16Splat,
+    /// `i16x8.splat`
     I16x8Splat,
+    /// `i32x4.splat`
     I32x4Splat,
+    /// `i64x2.splat`
     I64x2Splat,
+    /// `f32x4.splat`
     F32x4Splat,
+    /// `f64x2.splat`
     F64x2Splat,
+    /// `i8x16.eq`
     I8x16Eq,
+    /// `i8x16.ne`
     I8x16Ne,
+    /// `i8x16.lt_s`
     I8x16LtS,
+    /// `i8x16.lt_u`
     I8x16LtU,
+    /// `i8x16.gt_s`
     I8x16GtS,
+    /// `i8x16.gt_u`
     I8x16GtU,
+    /// `i8x16.le_s`
     I8x16LeS,
+    /// `i8x16.le_u`
     I8x16LeU,
+    /// `i8x16.ge_s`
     I8x16GeS,
+    /// `i8x16.ge_u`
     I8x16GeU,
+    /// `i16x8.eq`
     I16x8Eq,
+    /// `i16x8.ne`
     I16x8Ne,
+    /// `i16x8.lt_s`
     I16x8LtS,
+    /// `i16x8.lt_u`
     I16x8LtU,
+    /// `i16x8.gt_s`
     I16x8GtS,
+    /// `i16x8.gt_u`
     I16x8GtU,
+    /// `i16x8.le_s`
     I16x8LeS,
+    /// `i16x8.le_u`
     I16x8LeU,
+    /// `i16x8.ge_s`
     I16x8GeS,
+    /// `i16x8.ge_u`
     I16x8GeU,
+    /// `i32x4.eq`
     I32x4Eq,
+    /// `i32x4.ne`
     I32x4Ne,
+    /// `i32x4.lt_s`
     I32x4LtS,
+    /// `i32x4.lt_u`
     I32x4LtU,
+    /// `i32x4.gt_s`
     I32x4GtS,
+    /// `i32x4.gt_u`
     I32x4GtU,
+    /// `i32x4.le_s`
     I32x4LeS,
+    /// `i32x4.le_u`
     I32x4LeU,
+    /// `i32x4.ge_s`
     I32x4GeS,
+    /// `i32x4.ge_u`
     I32x4GeU,
+    /// `i64x2.eq`
     I64x2Eq,
+    /// `i64x2.ne`
     I64x2Ne,
+    /// `i64x2.lt_s`
     I64x2LtS,
+    /// `i64x2.gt_s`
     I64x2GtS,
+    /// `i64x2.le_s`
     I64x2LeS,
+    /// `i64x2.ge_s`
     I64x2GeS,
+    /// `f32x4.eq`
     F32x4Eq,
+    /// `f32x4.ne`
     F32x4Ne,
+    /// `f32x4.lt`
     F32x4Lt,
+    /// `f32x4.gt`
     F32x4Gt,
+    /// `f32x4.le`
     F32x4Le,
+    /// `f32x4.ge`
     F32x4Ge,
+    /// `f64x2.eq`
     F64x2Eq,
+    /// `f64x2.ne`
     F64x2Ne,
+    /// `f64x2.lt`
     F64x2Lt,
+    /// `f64x2.gt`
     F64x2Gt,
+    /// `f64x2.le`
     F64x2Le,
+    /// `f64x2.ge`
     F64x2Ge,
+    /// `v128.not`
     V128Not,
+    /// `v128.and`
     V128And,
+    /// `v128.andnot`
     V128AndNot,
+    /// `v128.or`
     V128Or,
+    /// `v128.xor`
     V128Xor,
+    /// `v128.bitselect`
     V128Bitselect,
+    /// `v128.any_true`
     V128AnyTrue,
+    /// `i8x16.abs`
     I8x16Abs,
+    /// `i8x16.neg`
     I8x16Neg,
+    /// `i8x16.popcnt`
     I8x16Popcnt,
+    /// `i8x16.all_true`
     I8x16AllTrue,
+    /// `i8x16.bitmask`
     I8x16Bitmask,
+    /// `i8x16.narrow_i16x8_s`
     I8x16NarrowI16x8S,
+    /// `i8x16.narrow_i16x8_u`
     I8x16NarrowI16x8U,
+    /// `i8x16.shl`
     I8x16Shl,
+    /// `i8x16.shr_s`
     I8x16ShrS,
+    /// `i8x16.shr_u`
     I8x16ShrU,
+    /// `i8x16.add`
     I8x16Add,
+    /// `i8x16.add_sat_s`
     I8x16AddSatS,
+    /// `i8x16.add_sat_u`
     I8x16AddSatU,
+    /// `i8x16.sub`
     I8x16Sub,
+    /// `i8x16.sub_sat_s`
     I8x16SubSatS,
+    /// `i8x16.sub_sat_u`
     I8x16SubSatU,
+    /// `i8x16.min_s`
     I8x16MinS,
+    /// `i8x16.min_u`
     I8x16MinU,
+    /// `i8x16.max_s`
     I8x16MaxS,
+    /// `i8x16.max_u`
     I8x16MaxU,
+    /// `i8x16.avgr_u`
     I8x16AvgrU,
+    /// `i16x8.extadd_pairwise_i8x16_s`
     I16x8ExtAddPairwiseI8x16S,
+    /// `i16x8.extadd_pairwise_i8x16_u`
     I16x8ExtAddPairwiseI8x16U,
+    /// `i16x8.abs`
     I16x8Abs,
+    /// `i16x8.neg`
     I16x8Neg,
+    /// `i16x8.q15mulr_sat_s`
     I16x8Q15MulrSatS,
+    /// `i16x8.all_true`
     I16x8AllTrue,
+    /// `i16x8.bitmask`
     I16x8Bitmask,
+    /// `i16x8.narrow_i32x4_s`
     I16x8NarrowI32x4S,
+    /// `i16x8.narrow_i32x4_u`
     I16x8NarrowI32x4U,
+    /// `i16x8.extend_low_i8x16_s`
     I16x8ExtendLowI8x16S,
+    /// `i16x8.extend_high_i8x16_s`
     I16x8ExtendHighI8x16S,
+    /// `i16x8.extend_low_i8x16_u`
     I16x8ExtendLowI8x16U,
+    /// `i16x8.extend_high_i8x16_u`
     I16x8ExtendHighI8x16U,
+    /// `i16x8.shl`
     I16x8Shl,
+    /// `i16x8.shr_s`
     I16x8ShrS,
+    /// `i16x8.shr_u`
     I16x8ShrU,
+    /// `i16x8.add`
     I16x8Add,
+    /// `i16x8.add_sat_s`
     I16x8AddSatS,
+    /// `i16x8.add_sat_u`
     I16x8AddSatU,
+    /// `i16x8.sub`
     I16x8Sub,
+    /// `i16x8.sub_sat_s`
     I16x8SubSatS,
+    /// `i16x8.sub_sat_u`
     I16x8SubSatU,
+    /// `i16x8.mul`
     I16x8Mul,
+    /// `i16x8.min_s`
     I16x8MinS,
+    /// `i16x8.min_u`
     I16x8MinU,
+    /// `i16x8.max_s`
     I16x8MaxS,
+    /// `i16x8.max_u`
     I16x8MaxU,
+    /// `i16x8.avgr_u`
     I16x8AvgrU,
+    /// `i16x8.extmul_low_i8x16_s`
     I16x8ExtMulLowI8x16S,
+    /// `i16x8.extmul_high_i8x16_s`
     I16x8ExtMulHighI8x16S,
+    /// `i16x8.extmul_low_i8x16_u`
     I16x8ExtMulLowI8x16U,
+    /// `i16x8.extmul_high_i8x16_u`
     I16x8ExtMulHighI8x16U,
+    /// `i32x4.extadd_pairwise_i16x8_s`
     I32x4ExtAddPairwiseI16x8S,
+    /// `i32x4.extadd_pairwise_i16x8_u`
     I32x4ExtAddPairwiseI16x8U,
+    /// `i32x4.abs`
     I32x4Abs,
+    /// `i32x4.neg`
     I32x4Neg,
+    /// `i32x4.all_true`
     I32x4AllTrue,
+    /// `i32x4.bitmask`
     I32x4Bitmask,
+    /// `i32x4.extend_low_i16x8_s`
     I32x4ExtendLowI16x8S,
+    /// `i32x4.extend_high_i16x8_s`
     I32x4ExtendHighI16x8S,
+    /// `i32x4.extend_low_i16x8_u`
     I32x4ExtendLowI16x8U,
+    /// `i32x4.extend_high_i16x8_u`
     I32x4ExtendHighI16x8U,
+    /// `i32x4.shl`
     I32x4Shl,
+    /// `i32x4.shr_s`
     I32x4ShrS,
+    /// `i32x4.shr_u`
     I32x4ShrU,
+    /// `i32x4.add`
     I32x4Add,
+    /// `i32x4.sub`
     I32x4Sub,
+    /// `i32x4.mul`
     I32x4Mul,
+    /// `i32x4.min_s`
     I32x4MinS,
+    /// `i32x4.min_u`
     I32x4MinU,
+    /// `i32x4.max_s`
     I32x4MaxS,
+    /// `i32x4.max_u`
     I32x4MaxU,
+    /// `i32x4.dot_i16x8_s`
     I32x4DotI16x8S,
+    /// `i32x4.extmul_low_i16x8_s`
     I32x4ExtMulLowI16x8S,
+    /// `i32x4.extmul_high_i16x8_s`
     I32x4ExtMulHighI16x8S,
+    /// `i32x4.extmul_low_i16x8_u`
     I32x4ExtMulLowI16x8U,
+    /// `i32x4.extmul_high_i16x8_u`
     I32x4ExtMulHighI16x8U,
+    /// `i64x2.abs`
     I64x2Abs,
+    /// `i64x2.neg`
     I64x2Neg,
+    /// `i64x2.all_true`
     I64x2AllTrue,
+    /// `i64x2.bitmask`
     I64x2Bitmask,
+    /// `i64x2.extend_low_i32x4_s`
     I64x2ExtendLowI32x4S,
+    /// `i64x2.extend_high_i32x4_s`
     I64x2ExtendHighI32x4S,
+    /// `i64x2.extend_low_i32x4_u`
     I64x2ExtendLowI32x4U,
+    /// `i64x2.extend_high_i32x4_u`
     I64x2ExtendHighI32x4U,
+    /// `i64x2.shl`
     I64x2Shl,
+    /// `i64x2.shr_s`
     I64x2ShrS,
+    /// `i64x2.shr_u`
     I64x2ShrU,
+    /// `i64x2.add`
     I64x2Add,
+    /// `i64x2.sub`
     I64x2Sub,
+    /// `i64x2.mul`
     I64x2Mul,
+    /// `i64x2.extmul_low_i32x4_s`
     I64x2ExtMulLowI32x4S,
+    /// `i64x2.extmul_high_i32x4_s`
     I64x2ExtMulHighI32x4S,
+    /// `i64x2.extmul_low_i32x4_u`
     I64x2ExtMulLowI32x4U,
+    /// `i64x2.extmul_high_i32x4_u`
     I64x2ExtMulHighI32x4U,
+    /// `f32x4.ceil`
     F32x4Ceil,
+    /// `f32x4.floor`
     F32x4Floor,
+    /// `f32x4.trunc`
     F32x4Trunc,
+    /// `f32x4.nearest`
     F32x4Nearest,
+    /// `f32x4.abs`
     F32x4Abs,
+    /// `f32x4.neg`
     F32x4Neg,
+    /// `f32x4.sqrt`
     F32x4Sqrt,
+    /// `f32x4.add`
     F32x4Add,
+    /// `f32x4.sub`
     F32x4Sub,
+    /// `f32x4.mul`
     F32x4Mul,
+    /// `f32x4.div`
     F32x4Div,
+    /// `f32x4.min`
     F32x4Min,
+    /// `f32x4.max`
     F32x4Max,
+    /// `f32x4.pmin`
     F32x4PMin,
+    /// `f32x4.pmax`
     F32x4PMax,
+    /// `f64x2.ceil`
     F64x2Ceil,
+    /// `f64x2.floor`
     F64x2Floor,
+    /// `f64x2.trunc`
     F64x2Trunc,
+    /// `f64x2.nearest`
     F64x2Nearest,
+    /// `f64x2.abs`
     F64x2Abs,
+    /// `f64x2.neg`
     F64x2Neg,
+    /// `f64x2.sqrt`
     F64x2Sqrt,
+    /// `f64x2.add`
     F64x2Add,
+    /// `f64x2.sub`
     F64x2Sub,
+    /// `f64x2.mul`
     F64x2Mul,
+    /// `f64x2.div`
     F64x2Div,
+    /// `f64x2.min`
     F64x2Min,
+    /// `f64x2.max`
     F64x2Max,
+    /// `f64x2.pmin`
     F64x2PMin,
+    /// `f64x2.pmax`
     F64x2PMax,
+    /// `i32x4.trunc_sat_f32x4_s`
     I32x4TruncSatF32x4S,
+    /// `i32x4.trunc_sat_f32x4_u`
     I32x4TruncSatF32x4U,
+    /// `f32x4.convert_i32x4_s`
     F32x4ConvertI32x4S,
+    /// `f32x4.convert_i32x4_u`
     F32x4ConvertI32x4U,
+    /// `i32x4.trunc_sat_f64x2_s_zero`
     I32x4TruncSatF64x2SZero,
+    /// `i32x4.trunc_sat_f64x2_u_zero`
     I32x4TruncSatF64x2UZero,
+    /// `f64x2.convert_low_i32x4_s`
     F64x2ConvertLowI32x4S,
+    /// `f64x2.convert_low_i32x4_u`
     F64x2ConvertLowI32x4U,
+    /// `f32x4.demote_f64x2_zero`
     F32x4DemoteF64x2Zero,
+    /// `f64x2.promote_low_f32x4`
     F64x2PromoteLowF32x4,
+    /// `i8x16.relaxed_swizzle`
     I8x16RelaxedSwizzle,
+    /// `i32x4.relaxed_trunc_f32x4_s`
     I32x4RelaxedTruncF32x4S,
+    /// `i32x4.relaxed_trunc_f32x4_u`
     I32x4RelaxedTruncF32x4U,
+    /// `i32x4.relaxed_trunc_f64x2_s_zero`
     I32x4RelaxedTruncF64x2SZero,
+    /// `i32x4.relaxed_trunc_f64x2_u_zero`
     I32x4RelaxedTruncF64x2UZero,
+    /// `f32x4.relaxed_madd`
     F32x4RelaxedMadd,
+    /// `f32x4.relaxed_nmadd`
     F32x4RelaxedNmadd,
+    /// `f64x2.relaxed_madd`
     F64x2RelaxedMadd,
+    /// `f64x2.relaxed_nmadd`
     F64x2RelaxedNmadd,
+    /// `i8x16.relaxed_laneselect`
     I8x16RelaxedLaneselect,
+    /// `i16x8.relaxed_laneselect`
     I16x8RelaxedLaneselect,
+    /// `i32x4.relaxed_laneselect`
     I32x4RelaxedLaneselect,
+    /// `i64x2.relaxed_laneselect`
     I64x2RelaxedLaneselect,
+    /// `f32x4.relaxed_min`
     F32x4RelaxedMin,
+    /// `f32x4.relaxed_max`
     F32x4RelaxedMax,
+    /// `f64x2.relaxed_min`
     F64x2RelaxedMin,
+    /// `f64x2.relaxed_max`
     F64x2RelaxedMax,
+    /// `i16x8.relaxed_q15mulr_s`
     I16x8RelaxedQ15mulrS,
+    /// `i16x8.relaxed_dot_i8x16_i7x16_s`
     I16x8RelaxedDotI8x16I7x16S,
+    /// `i32x4.relaxed_dot_i8x16_i7x16_add_s`
     I32x4RelaxedDotI8x16I7x16AddS,
-    TryTable { try_table: TryTable },
-    Throw { tag_index: u32 },
+    /// `try_table`
+    TryTable { /** The type of the block and the clauses for exceptions. */ try_table: TryTable },
+    /// `throw`
+    Throw { /** The index of the tag. */ tag_index: u32 },
+    /// `throw_ref`
     ThrowRef,
-    Try { blockty: BlockType },
-    Catch { tag_index: u32 },
-    Rethrow { relative_depth: u32 },
-    Delegate { relative_depth: u32 },
+    /// `try`
+    Try { /** The type of the block. */ blockty: BlockType },
+    /// `catch`
+    Catch { /** The index of the tag. */ tag_index: u32 },
+    /// `rethrow`
+    Rethrow { /** The label: how many open frames are further in. */ relative_depth: u32 },
+    /// `delegate`
+    Delegate { /** The label: how many open frames are further in. */ relative_depth: u32 },
+    /// `catch_all`
     CatchAll,
-    GlobalAtomicGet { ordering: Ordering, global_index: u32 },
-    GlobalAtomicSet { ordering: Ordering, global_index: u32 },
-    GlobalAtomicRmwAdd { ordering: Ordering, global_index: u32 },
-    GlobalAtomicRmwSub { ordering: Ordering, global_index: u32 },
-    GlobalAtomicRmwAnd { ordering: Ordering, global_index: u32 },
-    GlobalAtomicRmwOr { ordering: Ordering, global_index: u32 },
-    GlobalAtomicRmwXor { ordering: Ordering, global_index: u32 },
-    GlobalAtomicRmwXchg { ordering: Ordering, global_index: u32 },
-    GlobalAtomicRmwCmpxchg { ordering: Ordering, global_index: u32 },
-    TableAtomicGet { ordering: Ordering, table_index: u32 },
-    TableAtomicSet { ordering: Ordering, table_index: u32 },
-    TableAtomicRmwXchg { ordering: Ordering, table_index: u32 },
-    TableAtomicRmwCmpxchg { ordering: Ordering, table_index: u32 },
-    StructAtomicGet { ordering: Ordering, struct_type_index: u32, field_index: u32 },
-    StructAtomicGetS { ordering: Ordering, struct_type_index: u32, field_index: u32 },
-    StructAtomicGetU { ordering: Ordering, struct_type_index: u32, field_index: u32 },
-    StructAtomicSet { ordering: Ordering, struct_type_index: u32, field_index: u32 },
-    StructAtomicRmwAdd { ordering: Ordering, struct_type_index: u32, field_index: u32 },
-    StructAtomicRmwSub { ordering: Ordering, struct_type_index: u32, field_index: u32 },
-    StructAtomicRmwAnd { ordering: Ordering, struct_type_index: u32, field_index: u32 },
-    StructAtomicRmwOr { ordering: Ordering, struct_type_index: u32, field_index: u32 },
-    StructAtomicRmwXor { ordering: Ordering, struct_type_index: u32, field_index: u32 },
-    StructAtomicRmwXchg { ordering: Ordering, struct_type_index: u32, field_index: u32 },
-    StructAtomicRmwCmpxchg { ordering: Ordering, struct_type_index: u32, field_index: u32 },
-    ArrayAtomicGet { ordering: Ordering, array_type_index: u32 },
-    ArrayAtomicGetS { ordering: Ordering, array_type_index: u32 },
-    ArrayAtomicGetU { ordering: Ordering, array_type_index: u32 },
-    ArrayAtomicSet { ordering: Ordering, array_type_index: u32 },
-    ArrayAtomicRmwAdd { ordering: Ordering, array_type_index: u32 },
-    ArrayAtomicRmwSub { ordering: Ordering, array_type_index: u32 },
-    ArrayAtomicRmwAnd { ordering: Ordering, array_type_index: u32 },
-    ArrayAtomicRmwOr { ordering: Ordering, array_type_index: u32 },
-    ArrayAtomicRmwXor { ordering: Ordering, array_type_index: u32 },
-    ArrayAtomicRmwXchg { ordering: Ordering, array_type_index: u32 },
-    ArrayAtomicRmwCmpxchg { ordering: Ordering, array_type_index: u32 },
+    /// `global.atomic.get`
+    GlobalAtomicGet { /** The memory ordering. */ ordering: Ordering, /** The index of the global. */ global_index: u32 },
+    /// `global.atomic.set`
+    GlobalAtomicSet { /** The memory ordering. */ ordering: Ordering, /** The index of the global. */ global_index: u32 },
+    /// `global.atomic.rmw.add`
+    GlobalAtomicRmwAdd { /** The memory ordering. */ ordering: Ordering, /** The index of the global. */ global_index: u32 },
+    /// `global.atomic.rmw.sub`
+    GlobalAtomicRmwSub { /** The memory ordering. */ ordering: Ordering, /** The index of the global. */ global_index: u32 },
+    /// `global.atomic.rmw.and`
+    GlobalAtomicRmwAnd { /** The memory ordering. */ ordering: Ordering, /** The index of the global. */ global_index: u32 },
+    /// `global.atomic.rmw.or`
+    GlobalAtomicRmwOr { /** The memory ordering. */ ordering: Ordering, /** The index of the global. */ global_index: u32 },
+    /// `global.atomic.rmw.xor`
+    GlobalAtomicRmwXor { /** The memory ordering. */ ordering: Ordering, /** The index of the global. */ global_index: u32 },
+    /// `global.atomic.rmw.xchg`
+    GlobalAtomicRmwXchg { /** The memory ordering. */ ordering: Ordering, /** The index of the global. */ global_index: u32 },
+    /// `global.atomic.rmw.cmpxchg`
+    GlobalAtomicRmwCmpxchg { /** The memory ordering. */ ordering: Ordering, /** The index of the global. */ global_index: u32 },
+    /// `table.atomic.get`
+    TableAtomicGet { /** The memory ordering. */ ordering: Ordering, /** The index of the table. */ table_index: u32 },
+    /// `table.atomic.set`
+    TableAtomicSet { /** The memory ordering. */ ordering: Ordering, /** The index of the table. */ table_index: u32 },
+    /// `table.atomic.rmw.xchg`
+    TableAtomicRmwXchg { /** The memory ordering. */ ordering: Ordering, /** The index of the table. */ table_index: u32 },
+    /// `table.atomic.rmw.cmpxchg`
+    TableAtomicRmwCmpxchg { /** The memory ordering. */ ordering: Ordering, /** The index of the table. */ table_index: u32 },
+    /// `struct.atomic.get`
+    StructAtomicGet { /** The memory ordering. */ ordering: Ordering, /** The index of the structure type. */ struct_type_index: u32, /** The index of the field. */ field_index: u32 },
+    /// `struct.atomic.get_s`
+    StructAtomicGetS { /** The memory ordering. */ ordering: Ordering, /** The index of the structure type. */ struct_type_index: u32, /** The index of the field. */ field_index: u32 },
+    /// `struct.atomic.get_u`
+    StructAtomicGetU { /** The memory ordering. */ ordering: Ordering, /** The index of the structure type. */ struct_type_index: u32, /** The index of the field. */ field_index: u32 },
+    /// `struct.atomic.set`
+    StructAtomicSet { /** The memory ordering. */ ordering: Ordering, /** The index of the structure type. */ struct_type_index: u32, /** The index of the field. */ field_index: u32 },
+    /// `struct.atomic.rmw.add`
+    StructAtomicRmwAdd { /** The memory ordering. */ ordering: Ordering, /** The index of the structure type. */ struct_type_index: u32, /** The index of the field. */ field_index: u32 },
+    /// `struct.atomic.rmw.sub`
+    StructAtomicRmwSub { /** The memory ordering. */ ordering: Ordering, /** The index of the structure type. */ struct_type_index: u32, /** The index of the field. */ field_index: u32 },
+    /// `struct.atomic.rmw.and`
+    StructAtomicRmwAnd { /** The memory ordering. */ ordering: Ordering, /** The index of the structure type. */ struct_type_index: u32, /** The index of the field. */ field_index: u32 },
+    /// `struct.atomic.rmw.or`
+    StructAtomicRmwOr { /** The memory ordering. */ ordering: Ordering, /** The index of the structure type. */ struct_type_index: u32, /** The index of the field. */ field_index: u32 },
+    /// `struct.atomic.rmw.xor`
+    StructAtomicRmwXor { /** The memory ordering. */ ordering: Ordering, /** The index of the structure type. */ struct_type_index: u32, /** The index of the field. */ field_index: u32 },
+    /// `struct.atomic.rmw.xchg`
+    StructAtomicRmwXchg { /** The memory ordering. */ ordering: Ordering, /** The index of the structure type. */ struct_type_index: u32, /** The index of the field. */ field_index: u32 },
+    /// `struct.atomic.rmw.cmpxchg`
+    StructAtomicRmwCmpxchg { /** The memory ordering. */ ordering: Ordering, /** The index of the structure type. */ struct_type_index: u32, /** The index of the field. */ field_index: u32 },
+    /// `array.atomic.get`
+    ArrayAtomicGet { /** The memory ordering. */ ordering: Ordering, /** The index of the array type. */ array_type_index: u32 },
+    /// `array.atomic.get_s`
+    ArrayAtomicGetS { /** The memory ordering. */ ordering: Ordering, /** The index of the array type. */ array_type_index: u32 },
+    /// `array.atomic.get_u`
+    ArrayAtomicGetU { /** The memory ordering. */ ordering: Ordering, /** The index of the array type. */ array_type_index: u32 },
+    /// `array.atomic.set`
+    ArrayAtomicSet { /** The memory ordering. */ ordering: Ordering, /** The index of the array type. */ array_type_index: u32 },
+    /// `array.atomic.rmw.add`
+    ArrayAtomicRmwAdd { /** The memory ordering. */ ordering: Ordering, /** The index of the array type. */ array_type_index: u32 },
+    /// `array.atomic.rmw.sub`
+    ArrayAtomicRmwSub { /** The memory ordering. */ ordering: Ordering, /** The index of the array type. */ array_type_index: u32 },
+    /// `array.atomic.rmw.and`
+    ArrayAtomicRmwAnd { /** The memory ordering. */ ordering: Ordering, /** The index of the array type. */ array_type_index: u32 },
+    /// `array.atomic.rmw.or`
+    ArrayAtomicRmwOr { /** The memory ordering. */ ordering: Ordering, /** The index of the array type. */ array_type_index: u32 },
+    /// `array.atomic.rmw.xor`
+    ArrayAtomicRmwXor { /** The memory ordering. */ ordering: Ordering, /** The index of the array type. */ array_type_index: u32 },
+    /// `array.atomic.rmw.xchg`
+    ArrayAtomicRmwXchg { /** The memory ordering. */ ordering: Ordering, /** The index of the array type. */ array_type_index: u32 },
+    /// `array.atomic.rmw.cmpxchg`
+    ArrayAtomicRmwCmpxchg { /** The memory ordering. */ ordering: Ordering, /** The index of the array type. */ array_type_index: u32 },
+    /// `ref.i31_shared`
     RefI31Shared,
-    CallRef { type_index: u32 },
-    ReturnCallRef { type_index: u32 },
+    /// `call_ref`
+    CallRef { /** The index of the type. */ type_index: u32 },
+    /// `return_call_ref`
+    ReturnCallRef { /** The index of the type. */ type_index: u32 },
+    /// `ref.as_non_null`
     RefAsNonNull,
-    BrOnNull { relative_depth: u32 },
-    BrOnNonNull { relative_depth: u32 },
-    ContNew { cont_type_index: u32 },
-    ContBind { argument_index: u32, result_index: u32 },
-    Suspend { tag_index: u32 },
-    Resume { cont_type_index: u32, resume_table: ResumeTable },
-    ResumeThrow { cont_type_index: u32, tag_index: u32, resume_table: ResumeTable },
-    ResumeThrowRef { cont_type_index: u32, resume_table: ResumeTable },
-    Switch { cont_type_index: u32, tag_index: u32 },
+    /// `br_on_null`
+    BrOnNull { /** The label: how many open frames are further in. */ relative_depth: u32 },
+    /// `br_on_non_null`
+    BrOnNonNull { /** The label: how many open frames are further in. */ relative_depth: u32 },
+    /// `cont.new`
+    ContNew { /** The index of the continuation type. */ cont_type_index: u32 },
+    /// `cont.bind`
+    ContBind { /** The index of the old continuation type. */ argument_index: u32, /** The index of the new continuation type. */ result_index: u32 },
+    /// `suspend`
+    Suspend { /** The index of the tag. */ tag_index: u32 },
+    /// `resume`
+    Resume { /** The index of the continuation type. */ cont_type_index: u32, /** The clauses for suspensions. */ resume_table: ResumeTable },
+    /// `resume_throw`
+    ResumeThrow { /** The index of the continuation type. */ cont_type_index: u32, /** The index of the tag. */ tag_index: u32, /** The clauses for suspensions. */ resume_table: ResumeTable },
+    /// `resume_throw_ref`
+    ResumeThrowRef { /** The index of the continuation type. */ cont_type_index: u32, /** The clauses for suspensions. */ resume_table: ResumeTable },
+    /// `switch`
+    Switch { /** The index of the continuation type. */ cont_type_index: u32, /** The index of the tag. */ tag_index: u32 },
+    /// `i64.add128`
     I64Add128,
+    /// `i64.sub128`
     I64Sub128,
+    /// `i64.mul_wide_s`
     I64MulWideS,
+    /// `i64.mul_wide_u`
     I64MulWideU,
+    /// `pause`
     Pause,
 }
 

@@ -6,14 +6,14 @@ use crate::{for_each_operator, for_each_visit_operator, for_each_visit_simd_oper
 /// Declares the method of each operator.
 macro_rules! declare {
     ($(@$proposal:ident $op:ident $({ $($field:ident: $ty:ty),* })? => $visit:ident ($($ann:tt)*))*) => {
-        $(fn $visit(&mut self $($(, $field: $ty)*)?) -> Self::Output;)*
+        $(#[doc = concat!("Visits `", stringify!($op), "`.")]
+        fn $visit(&mut self $($(, $field: $ty)*)?) -> Self::Output;)*
     };
 }
 
 /// A visitor with a method for each operator that is not a SIMD operator.
 ///
 /// [`for_each_visit_operator!`](crate::for_each_visit_operator) defines the methods. [`VisitAny`] has one for all operators.
-#[allow(missing_docs)]
 pub trait VisitOperator<'a> {
     /// The type that the methods return.
     type Output: 'a;
@@ -73,7 +73,6 @@ pub trait VisitOperator<'a> {
 }
 
 /// A visitor with a method for each SIMD operator.
-#[allow(missing_docs)]
 pub trait VisitSimdOperator<'a>: VisitOperator<'a> {
     for_each_visit_simd_operator!(declare);
 }
