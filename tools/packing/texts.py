@@ -3,7 +3,6 @@
 import hashlib
 import posixpath
 import re
-import subprocess
 from pathlib import PurePosixPath
 
 from packing.builds import TOP
@@ -38,28 +37,6 @@ The programs and the library have the checks of `rt try`: a run stops at an inde
 def version():
     header = (TOP / "include/wasm_operators.h").read_text(encoding="utf-8")
     return re.search(r"^#define WASM_OPERATORS_VERSION (\d+)u$", header, re.M)[1]
-
-
-def purpose_of(name):
-    text = (TOP / f"crates/{name}/src/main.rt").read_text(encoding="utf-8")
-    return " ".join(re.match(r"(?://! .*\n)+", text)[0].replace("//!", "").split())
-
-
-def help_of(name, program):
-    how = {"stdin": subprocess.DEVNULL, "capture_output": True, "text": True, "errors": "replace"}
-    ran = subprocess.run([program, "--help"], **how)
-    if ran.returncode == 0 and ran.stdout.strip():
-        return ran.stdout
-    text = (TOP / f"crates/{name}/README.md").read_text(encoding="utf-8")
-    return re.sub(r"\[([^\]]*)\]\([^)]*\)", r"\1", text.split("\n", 1)[1]).replace("`", "").strip() + "\n"
-
-
-def man_page(name, text, commit):
-    escape = lambda it: re.sub(r"^([.'])", r"\\&\1", it.replace("\\", "\\e").replace("-", "\\-"), flags=re.M)
-    what = purpose_of(name)
-    what = (what[0].lower() + what[1:]).rstrip(".").replace("`", "")
-    head = f'.TH {name.upper()} 1 "" "{commit[:12]}"\n.SH NAME\n{escape(name)} \\- {escape(what)}\n'
-    return f"{head}.SH DESCRIPTION\n.nf\n{escape(text)}.fi\n"
 
 
 NOTE = """\

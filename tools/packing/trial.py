@@ -8,7 +8,7 @@ import sys
 import tempfile
 from pathlib import Path
 
-from packing import installed, package, texts
+from packing import installed, manual, package, texts
 from packing.builds import TOP
 
 COMMANDS = ["cc", "cargo", "rustc", "rustup", "pkg-config", "cmake", "make", "tar", "ld", "as"]
@@ -85,6 +85,15 @@ def try_programs(prefix):
         print(ran(words, TOP, os.environ), end="")
 
 
+def try_examples(prefix, folder, env):
+    """Runs the examples of the man pages, over a module."""
+    env = {**env, "PATH": f"{prefix / 'bin'}:{env['PATH']}"}
+    for program in sorted((prefix / "bin").iterdir()):
+        for command, _ in manual.examples(program.name):
+            shutil.copyfile(TOP / "crates/wasm_compact/data/padded.wasm", folder / "module.wasm")
+            ran(["sh", "-euc", command], folder, env)
+
+
 def try_c(prefix, folder, env):
     env = {**env, "PKG_CONFIG_PATH": str(prefix / "lib/pkgconfig")}
     flags = ran(["pkg-config", "--cflags", "--libs", "wasm_operators"], folder, env).split()
@@ -127,6 +136,7 @@ def run(out):
         installed.install(out, prefix)
         try_tree(prefix, env)
         try_programs(prefix)
+        try_examples(prefix, folder, env)
         for command, tries in (("cc", try_c), ("cmake", try_cmake), ("cargo", try_cargo)):
             if shutil.which(command, path=env["PATH"]):
                 tries(prefix, folder, env)

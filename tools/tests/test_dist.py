@@ -12,7 +12,7 @@ from pathlib import Path
 from unittest import mock
 
 import trust
-from packing import builds, installed, package, rattle, texts, trial
+from packing import builds, installed, manual, package, rattle, texts, trial
 from testing.crates import Crates
 
 TOP = Path(__file__).resolve().parent.parent.parent
@@ -171,19 +171,56 @@ class Package(Folders):
         self.assertIn("WASM_OPERATORS_LIBRARIES=$PWD/dist/lib", script)
 
 
-class Texts(Folders):
-    def test_man_page(self):
-        page = texts.man_page("wasm_objdump", "wasm_objdump [FILE]\n.dot\n--help\n", "abc")
-        self.assertTrue(page.startswith('.TH WASM_OBJDUMP 1 "" "abc"\n.SH NAME\nwasm_objdump \\- lists the sections '))
-        self.assertIn("\n\\&.dot\n\\-\\-help\n.fi\n", page)
+HELP = """\
+Usage: wasm_objdump [OPTION].. [FILE]..
 
-    def test_help_of_a_program_without_the_option(self):
+Lists modules. Reads
+.dot
+
+  -h, --headers    list the sections
+      --features WORD  all, none, or names: MULTI_MEMORY,
+                   MEMORY64
+
+The exit status is 0.
+"""
+
+
+class Manual(Folders):
+    def test_man_page(self):
+        page = manual.man_page("wasm_objdump", HELP, "abc", ["wasm_objdump", "wasm_dump"])
+        self.assertTrue(page.startswith('.TH WASM_OBJDUMP 1 "" "abc"\n.SH NAME\nwasm_objdump \\- lists the sections '))
+        self.assertIn(".SH SYNOPSIS\nwasm_objdump [OPTION].. [FILE]..\n.SH DESCRIPTION\nLists modules. Reads\n\\&.dot\n", page)
+        self.assertIn(".TP\n\\fB\\-h, \\-\\-headers\\fR\nlist the sections\n.TP\n", page)
+        self.assertIn("names: MULTI_MEMORY, MEMORY64\n.SH EXIT STATUS\nThe exit status is 0.\n.SH EXAMPLES\n", page)
+        self.assertTrue(page.endswith(".SH SEE ALSO\n\\fBwasm_dump\\fR(1)\n"))
+
+    def test_page_of_a_program_without_the_option(self):
         program = self.file("program", "#!/bin/sh\nexit 2\n")
         program.chmod(0o755)
-        self.assertTrue(texts.help_of("wasm_dump", program).startswith("This program reads a function body"))
+        self.assertTrue(manual.help_of("wasm_dump", program).startswith("This program reads a function body"))
         program.write_text("#!/bin/sh\necho how to\n")
-        self.assertEqual(texts.help_of("wasm_dump", program), "how to\n")
+        self.assertEqual(manual.help_of("wasm_dump", program), "how to\n")
 
+    def test_lists_stay(self):
+        page = manual.man_page("wasm_dump", "It reads.\n\n    a\n    b\n\nThe exit status is\n\n- 0 or\n- 1.\n", "abc")
+        self.assertIn(".SH DESCRIPTION\nIt reads.\n.PP\n.nf\n    a\n    b\n.fi\n", page)
+        self.assertIn(".SH EXIT STATUS\nThe exit status is\n.PP\n.nf\n\\- 0 or\n\\- 1.\n.fi\n", page)
+
+    def test_completion(self):
+        path = self.file("completion", manual.completion("wasm_objdump", HELP))
+        for words, found in (("--features M", "MULTI_MEMORY MEMORY64"), ("--f", "--features"), ("file", "")):
+            given = f"COMP_WORDS=(wasm_objdump {words}); COMP_CWORD=$((${{#COMP_WORDS[@]}} - 1)); _wasm_objdump"
+            ran = subprocess.run(["bash", "-c", f'. {path}; {given}; echo "${{COMPREPLY[@]}}"'], capture_output=True, text=True)
+            self.assertEqual(ran.stdout, f"{found}\n")
+        self.assertEqual(manual.completion("wasm_dump", "It reads.\n"), "")
+
+    def test_examples_name_programs(self):
+        for line in manual.EXAMPLES.read_text(encoding="utf-8").splitlines()[1:]:
+            program, command, what = line.split("\t")
+            self.assertTrue((TOP / "crates" / program / "src/main.rt").exists() and program in command and what.endswith("."), line)
+
+
+class Texts(Folders):
     def test_newest_glibc(self):
         program = self.folder / "program"
         program.write_bytes(b"\0GLIBC_2.9\0GLIBC_2.34\0GLIBC_2.2.5\0")

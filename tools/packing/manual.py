@@ -1,0 +1,123 @@
+"""Writes man pages and completions for bash, from what programs print for --help."""
+
+import re
+import subprocess
+
+from packing.builds import TOP
+
+# An option of a help text: what precedes two spaces, and what follows them.
+OPTION = re.compile(r"^ {2,8}(-.*?)(?: {2,}(.*))?$")
+STATUS = "The exit status is"
+EXAMPLES = TOP / "tools/packing/examples.tsv"
+COMPLETION = """\
+# Completion of {name} for bash: its options, the words of an option, and files.
+_{name}() {{
+    local word=${{COMP_WORDS[COMP_CWORD]}}
+    case ${{COMP_WORDS[COMP_CWORD - 1]}} in
+{cases}    *)
+        [[ $word != -* ]] || mapfile -t COMPREPLY < <(compgen -W '{options}' -- "$word")
+        ;;
+    esac
+}}
+complete -o default -F _{name} {name}
+"""
+CASE = """\
+    {option})
+        mapfile -t COMPREPLY < <(compgen -W '{words}' -- "$word")
+        ;;
+"""
+# The words that an option may have, by the name of its value.
+FEATURES = re.compile(r"\b[A-Z][A-Z\d]*_?[A-Z_\d]+\b")
+
+
+def purpose_of(name):
+    text = (TOP / f"crates/{name}/src/main.rt").read_text(encoding="utf-8")
+    return " ".join(re.match(r"(?://! .*\n)+", text)[0].replace("//!", "").split())
+
+
+def help_of(name, program):
+    """Returns what a program prints for --help. Without that option, its page."""
+    how = {"stdin": subprocess.DEVNULL, "capture_output": True, "text": True, "errors": "replace"}
+    ran = subprocess.run([program, "--help"], **how)
+    if ran.returncode == 0 and ran.stdout.strip():
+        return ran.stdout
+    text = (TOP / f"crates/{name}/README.md").read_text(encoding="utf-8")
+    return re.sub(r"\[([^\]]*)\]\([^)]*\)", r"\1", text.split("\n", 1)[1]).replace("`", "").strip() + "\n"
+
+
+class Help:
+    """The parts of a help text: the usage line, options with their texts, paragraphs, and those about the exit status."""
+
+    def __init__(self, name, text):
+        self.usage, self.options, self.paragraphs, self.status, self.last = name, [], [], [], None
+        for paragraph in text.strip("\n").split("\n\n"):
+            lines = paragraph.split("\n")
+            if lines[0].startswith("Usage: "):
+                self.usage = " ".join(line.strip() for line in lines).removeprefix("Usage: ")
+            elif OPTION.match(lines[0]):
+                self.read_options(lines)
+            elif paragraph.startswith(STATUS) or (lines[0].startswith("- ") and self.status == self.last):
+                self.status.append(paragraph)
+                self.last = self.status
+            else:
+                self.paragraphs.append(paragraph)
+                self.last = self.paragraphs
+
+    def read_options(self, lines):
+        for line in lines:
+            if found := OPTION.match(line):
+                self.options.append([found[1], found[2] or ""])
+            else:
+                self.options[-1][1] = f"{self.options[-1][1]} {line.strip()}".strip()
+
+
+def examples(name):
+    rows = [line.split("\t") for line in EXAMPLES.read_text(encoding="utf-8").splitlines()[1:]]
+    return [(command, what) for program, command, what in rows if program == name]
+
+
+def escaped(text):
+    return re.sub(r"^([.'])", r"\\&\1", text.replace("\\", "\\e").replace("-", "\\-"), flags=re.M)
+
+
+def section(title, lines):
+    return "".join(f"{line}\n" for line in [f".SH {title}", *lines]) if lines else ""
+
+
+def filled(paragraphs):
+    """Returns paragraphs. The lines of one that starts with a space or a hyphen stay as they are."""
+    out = []
+    for paragraph in paragraphs:
+        is_shown = paragraph.startswith((" ", "- "))
+        out += [".PP", *[".nf"] * is_shown, escaped(paragraph), *[".fi"] * is_shown]
+    return out[1:]
+
+
+def man_page(name, text, commit, others=()):
+    help_text = Help(name, text)
+    what = purpose_of(name)
+    what = (what[0].lower() + what[1:]).rstrip(".").replace("`", "")
+    options = [line for option, words in help_text.options for line in (".TP", f"\\fB{escaped(option)}\\fR", escaped(words))]
+    shown = [line for command, words in examples(name) for line in (".TP", f"\\fB{escaped(command)}\\fR", escaped(words))]
+    also = [", ".join(f"\\fB{escaped(other)}\\fR(1)" for other in others if other != name)]
+    return "".join([
+        f'.TH {name.upper()} 1 "" "{commit[:12]}"\n',
+        section("NAME", [f"{escaped(name)} \\- {escaped(what)}"]),
+        section("SYNOPSIS", [escaped(help_text.usage)]),
+        section("DESCRIPTION", filled(help_text.paragraphs)),
+        section("OPTIONS", options),
+        section("EXIT STATUS", filled(help_text.status)),
+        section("EXAMPLES", shown),
+        section("SEE ALSO", also if also[0] else []),
+    ])
+
+
+def completion(name, text):
+    """Returns the completion of a program for bash, or nothing if its help has no options."""
+    options, cases = [], ""
+    for option, words in Help(name, text).options:
+        names = re.findall(r"(?<![\w-])--?[\w-]*\w", option)
+        options += names
+        if "--features" in names:
+            cases += CASE.format(option=" | ".join(names), words=" ".join(["all", "none", *FEATURES.findall(words)]))
+    return COMPLETION.format(name=name, cases=cases, options=" ".join(options)) if options else ""
