@@ -60,6 +60,7 @@ def breaks_of_checks(top):
         Break("definitions", top / "docs" / "DEFINITIONS.md", more(WRONG_ROW)),
         Break("contracts", top / "crates" / "wasm_operators" / "CALLING.md", replaced(r"^  ensures: Reads", "  ensures: Read")),
         Break("edges", top / "crates.txt", replaced(r"^(uses:.*)$", r"\1 bitflags")),
+        Break("picture", top / "docs" / "crates.svg", more("<!-- more -->\n")),
         Break("refused", top / "crates" / "wasm_visit_groups" / "src" / "route.rt", more("\nimpl ToOwn for ByAny {}\n")),
         Break("bindings", top / "examples" / "c" / "list.c", more('int broken = "text";\n'), [REPLAY, BLOCKS]),
         Break("edits", edit, more(WRONG_EDIT)),
