@@ -363,6 +363,8 @@ class Run(unittest.TestCase):
             with self.subTest(name):
                 self.assertTrue(os.access(path, os.X_OK))
                 self.assertTrue(run.line_of(path).endswith("."))
+        self.assertTrue({"edits", "lists", "cases", "compactions", "blocks"} <= run.of_gate(found))
+        self.assertFalse({"growth", "bench", "clients"} & run.of_gate(found))
 
 
 class Touches(unittest.TestCase):
