@@ -1,10 +1,10 @@
 #!/usr/bin/env python3
-"""Writes docs/GATE.md, the CPU minutes of each crate in the gate, from logs of `.ci/run`.
+"""Writes docs/GATE.md and docs/gate.svg, what the crates cost in the gate, from logs of `.ci/run`.
 
     tools/gate_table.py LOG NOTE [LOG NOTE ..]
     tools/gate_table.py --summary LOG
 
-NOTE is a sentence for the page. The costs of several logs joined to one, of runs that continued each other, are added.
+NOTE is a sentence for the page: the commit, the machine. The chart is of the first log. The costs of several logs joined to one, of runs that continued each other, are added.
 `--summary` prints the figures of a log. Minutes come from tools/timed.py, functions and edits from `rt`, the edits
 outside the gate from tools/more_must_fail.tsv.
 """
@@ -21,6 +21,10 @@ from shared import arguments
 
 TOP = Path(__file__).resolve().parent.parent
 PAGE = TOP / "docs" / "GATE.md"
+CHART = TOP / "docs" / "gate.svg"
+# The rows of a table, and the bars of the chart; the other crates are one.
+ROWS = 10
+COLOURS = {"proof": "#1f5fa8", "edits": "#b3541e"}
 
 RUN = """
 ## {count} processors
@@ -90,10 +94,44 @@ def minutes(seconds):
     return f"{seconds / 60:.1f}" if seconds else ""
 
 
+def shown(crates):
+    """Returns the most expensive crates, and one that stands for the others."""
+    names = by_cost(crates)
+    rest, out = [crates[name] for name in names[ROWS:]], {f"`{name}`": crates[name] for name in names[:ROWS]}
+    if rest:
+        others = out[f"{len(rest)} others"] = Crate()
+        others.functions = sum(it.functions for it in rest)
+        others.tried = {(at, edit) for at, it in enumerate(rest) for edit in it.tried}
+        others.processor = {part: sum(it.processor.get(part, 0) for it in rest) for part in COLOURS}
+    return out
+
+
+def chart(crates):
+    """Returns a bar for each shown crate: CPU minutes of its proof and of its edits."""
+    rows = shown(crates)
+    most = max(sum(it.processor.get(part, 0) for part in COLOURS) for it in rows.values()) or 1
+    out = [
+        f'<svg xmlns="http://www.w3.org/2000/svg" viewBox="0 0 720 {22 * len(rows) + 44}" font-family="sans-serif" font-size="12">',
+        f'<rect width="720" height="{22 * len(rows) + 44}" fill="#ffffff"/>',
+    ]
+    for at, (name, crate) in enumerate(rows.items()):
+        x, y = 180, 22 * at + 10
+        out.append(f'<text x="172" y="{y + 12}" text-anchor="end">{name.strip("`")}</text>')
+        for part, colour in COLOURS.items():
+            size = 480 * crate.processor.get(part, 0) / most
+            out.append(f'<rect x="{x:.1f}" y="{y}" width="{size:.1f}" height="16" fill="{colour}"/>')
+            x += size
+        out.append(f'<text x="{x + 6:.1f}" y="{y + 12}">{minutes(sum(crate.processor.get(part, 0) for part in COLOURS))}</text>')
+    for at, (part, colour) in enumerate(COLOURS.items()):
+        text = f'<text x="{200 + 160 * at}" y="{22 * len(rows) + 30}">CPU minutes of {part}</text>'
+        out.append(f'<rect x="{180 + 160 * at}" y="{22 * len(rows) + 18}" width="14" height="14" fill="{colour}"/>{text}')
+    return "\n".join([*out, "</svg>", ""])
+
+
 def row(name, crate):
     costs = crate.processor.get("proof", 0), crate.wall.get("proof", 0), crate.processor.get("edits", 0)
     cells = map(minutes, costs)
-    return f"| `{name}` | {crate.functions or ''} | {' | '.join(cells)} | {crate.edits or ''} |"
+    return f"| {name} | {crate.functions or ''} | {' | '.join(cells)} | {crate.edits or ''} |"
 
 
 def made_of(crates):
@@ -139,7 +177,7 @@ def run_section(text, note=""):
     parts = [sum(it.processor.get(part, 0) for it in crates.values()) for part in ("proof", "edits")]
     proof, tried = map(minutes, parts)
     total = f"| all | {functions} | {proof} | | {tried} | {edits} |"
-    table = "\n".join([*[row(name, crates[name]) for name in by_cost(crates)], total, ""])
+    table = "\n".join([*(row(name, crate) for name, crate in shown(crates).items()), total, ""])
     return head + table + made_of(crates)
 
 
@@ -172,7 +210,8 @@ def main():
         sys.exit(__doc__)
     runs = [(text_of(log), note) for log, note in zip(words[::2], words[1::2])]
     PAGE.write_text(page(runs, recorded()), encoding="utf-8")
-    print("docs/GATE.md")
+    CHART.write_text(chart(measured(runs[0][0])[0]), encoding="utf-8")
+    print("docs/GATE.md, docs/gate.svg")
 
 
 if __name__ == "__main__":

@@ -41,6 +41,12 @@ class GateTable(unittest.TestCase):
         self.assertIn("About 0 of the minutes of edits", page)
         self.assertEqual(page.count("| all |"), 2)
 
+    def test_ten_rows(self):
+        log = "".join(f"== low{at}\nlogic=proved functions=2 x\ncost low{at} proof {60 * (at + 1)} 60\n" for at in range(12))
+        section = gate_table.run_section(f"{log}cost all 60 60 4\n2 passed, 0 failed\n")
+        self.assertIn("| `low2` | 2 | 3.0 | 1.0 |  |  |\n| 2 others | 4 | 3.0 |  |  |  |\n| all | 24 | 78.0 |", section)
+        self.assertEqual(gate_table.chart(gate_table.read(log)[0]).count("<text"), 2 * 11 + 2)
+
     def test_outside(self):
         rows = [{"crate": "wasm_low", "edits": "3", "commit": "abc", "date": "2026-01-02"}]
         section = gate_table.outside_section(rows)
