@@ -1,0 +1,74 @@
+"""Compares the structs and calls of the header for C with those of the cargo crate and of the Rattle sources."""
+
+import re
+import unittest
+
+from shared.crates import TOP
+
+HEADER = re.sub(r"/\*.*?\*/", "", (TOP / "include/wasm_operators.h").read_text(encoding="utf-8"), flags=re.S)
+NATIVE = re.sub(r"//.*", "", (TOP / "bindings/rust/src/native.rs").read_text(encoding="utf-8"))
+FILES = [path for name in ("wasm_view", "wasm_c", "wasm_module") for path in TOP.glob(f"crates/{name}/src/**/*.rt")]
+RATTLE = "\n".join(path.read_text(encoding="utf-8") for path in FILES)
+INTEGERS = {f"uint{width}_t": f"u{width}" for width in (8, 16, 32, 64)} | {"size_t": "usize"}
+# The structs of the header, with their names in Rust.
+STRUCTS = {
+    "wasm_operator": "PlainOperator", "wasm_refusal": "Refusal", "wasm_reader": "PlainReader", "wasm_type": "PlainType",
+    "wasm_handler": "PlainHandler", "wasm_value": "PlainValue", "wasm_bodies": "PlainBodies", "wasm_body": "PlainBody",
+}
+
+
+def in_rust(text):
+    """Returns a type of C in Rust."""
+    is_const, name, star = re.fullmatch(r"(const )?(\w+) ?(\*)?", text).groups()
+    kind = INTEGERS.get(name) or STRUCTS[name]
+    return f"*{'const' if is_const else 'mut'} {kind}" if star else kind
+
+
+def fields_of_c(name):
+    body = HEADER.split(f"typedef struct {name} {{")[1].split("}")[0]
+    found = re.findall(r"(\w+) (\w+)(?:\[(\d+)\])?;", body)
+    return [(field, f"[{INTEGERS[kind]}; {count}]" if count else INTEGERS[kind]) for kind, field, count in found]
+
+
+def fields_of_rust(text, name):
+    body = text.split(f"pub struct {name} {{")[1].split("\n}")[0]
+    return re.findall(r"pub (\w+): ([^,]+),", re.sub(r"//.*", "", body))
+
+
+def calls_of_c():
+    found = re.findall(r"^(uint32_t|size_t) (wasm_\w+)\(([^)]*)\);", HEADER, re.M)
+    types = lambda text: [in_rust(re.sub(r"\w+$", "", " ".join(it.split())).strip()) for it in text.split(",") if it.strip() != "void"]
+    return {name: (types(parameters), INTEGERS[result]) for result, name, parameters in found}
+
+
+def calls_of_rust():
+    block = NATIVE.split('unsafe extern "C" {')[1].split("\n}")[0]
+    found = re.findall(r"fn (\w+)\(([^)]*)\) -> (\w+);", block)
+    return {name: (re.findall(r"\w+: ([^,]+)", parameters), result) for name, parameters, result in found}
+
+
+class Layouts(unittest.TestCase):
+    def test_structs(self):
+        self.assertEqual(set(STRUCTS), set(re.findall(r"typedef struct (\w+)", HEADER)))
+        for name, rust in STRUCTS.items():
+            fields = fields_of_c(name)
+            self.assertEqual(fields, fields_of_rust(NATIVE, rust), name)
+            rattle = "".join(part.capitalize() for part in name.split("_"))
+            self.assertEqual(fields, fields_of_rust(RATTLE, rattle), name)
+
+    def test_no_padding(self):
+        for name in STRUCTS:
+            at = 0
+            for field, kind in fields_of_c(name):
+                width, count = re.fullmatch(r"\[?u(\d+)(?:; (\d+)\])?", kind).groups()
+                self.assertEqual(at % (int(width) // 8), 0, (name, field))
+                at += int(width) // 8 * int(count or 1)
+            self.assertEqual(at % max(int(re.search(r"\d+", kind)[0]) // 8 for _, kind in fields_of_c(name)), 0, name)
+
+    def test_calls(self):
+        in_c, in_rust = calls_of_c(), calls_of_rust()
+        self.assertEqual(set(in_rust) - set(in_c), set())
+        for name, call in in_rust.items():
+            self.assertEqual(call, in_c[name], name)
+        # (the crate knows the names of operators)
+        self.assertEqual(set(in_c) - set(in_rust), {"wasm_operator_name"})
