@@ -10,13 +10,13 @@ A row is an item of wasmparser: its type, its name, whether the crate has it, th
 calls, the proved functions (`crate::function`) that these call, and a note.
 """
 
-import csv
 import re
 import sys
 from pathlib import Path
 
 from shared.arguments import read
 from shared.crates import TOP
+from shared.tables import rows_of
 from shared.written import write_or_check
 
 TABLE = TOP / "tools/api.tsv"
@@ -29,8 +29,7 @@ ROWS_HEAD = "|Type|Items|C function|Proved function|Note|\n|---|---|---|---|---|
 
 
 def rows():
-    with open(TABLE, encoding="utf-8", newline="") as lines:
-        return list(csv.DictReader(lines, delimiter="\t", quoting=csv.QUOTE_NONE))
+    return rows_of(TABLE)
 
 
 def listed(cell):

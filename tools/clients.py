@@ -15,7 +15,6 @@ bindings/clients has the programs and `changes.tsv`, the changed lines of each c
 read the modules in crates/*/data, the modules of `wasm-tools smith`, and MODULES.
 """
 
-import csv
 import os
 import random
 import re
@@ -27,6 +26,7 @@ from pathlib import Path
 
 from shared.arguments import read
 from shared.leb128 import unsigned
+from shared.tables import rows_of
 
 TOP = Path(__file__).resolve().parent.parent
 CLIENTS = TOP / "bindings/clients"
@@ -56,8 +56,7 @@ SEED_BYTES = 4000
 
 
 def changes():
-    with open(CLIENTS / "changes.tsv", encoding="utf-8", newline="") as lines:
-        return list(csv.DictReader(lines, delimiter="\t", quoting=csv.QUOTE_NONE))
+    return rows_of(CLIENTS / "changes.tsv")
 
 
 def counted():

@@ -29,6 +29,7 @@ from pathlib import Path
 
 from shared.arguments import read
 from shared.crates import TOP
+from shared.tables import rows_of
 
 FOLDERS = ("must-fail", "more-must-fail", "tests-catch")
 PARTS = ("src/", "specs/", "proofs/")
@@ -148,10 +149,7 @@ def tried(folder, names):
 
 
 def recorded():
-    if not RECORD.exists():
-        return []
-    with open(RECORD, encoding="utf-8", newline="") as lines:
-        return list(csv.DictReader(lines, delimiter="\t"))
+    return rows_of(RECORD) if RECORD.exists() else []
 
 
 def committed():

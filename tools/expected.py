@@ -7,7 +7,6 @@
 The README of the program says what it reads: nothing generated from the table.
 """
 
-import csv
 import re
 import sys
 from pathlib import Path
@@ -18,6 +17,7 @@ from expected_reading import FRAMED
 from original import originals, signatures
 from shared.arguments import read
 from shared.leb128 import unsigned
+from shared.tables import rows_of
 from shared.written import write_or_check
 
 TOP = Path(__file__).resolve().parent.parent
@@ -152,9 +152,7 @@ def typing_lines(op, signature):
 
 
 def files():
-    with open(CRATE / "by_rule.tsv", encoding="utf-8", newline="") as lines:
-        rows = csv.DictReader(lines, delimiter="\t")
-        by_rule = {row["name"]: (row["takes"], row["leaves"]) for row in rows}
+    by_rule = {row["name"]: (row["takes"], row["leaves"]) for row in rows_of(CRATE / "by_rule.tsv")}
     types_of = {row["name"]: row for row in signatures()}
     ops = originals()
     lost = [op.name for op in ops if op.is_by_rule and op.name not in by_rule]

@@ -9,7 +9,6 @@ subopcode lengthened by a byte, unknown opcodes, the subopcodes next to known on
 each frame. wasm_dump reads one body with all operators.
 """
 
-import csv
 import sys
 from pathlib import Path
 
@@ -18,6 +17,7 @@ sys.path.insert(0, str(Path(__file__).resolve().parent / "generate"))
 from original import FOLDER, GROUPS, originals
 from shared.arguments import read
 from shared.leb128 import unsigned
+from shared.tables import rows_of
 from shared.written import write_or_check
 
 TOP = Path(__file__).resolve().parent.parent
@@ -122,10 +122,9 @@ def wanted(task, kinds):
 
 
 def samples():
-    with open(FOLDER / "samples.tsv", encoding="utf-8", newline="") as lines:
-        for row in csv.DictReader(lines, delimiter="\t"):
-            frame = FRAME_BEHIND[row["before"]]
-            yield Task(row["operator"], row["fields"] or row["name"], frame=frame, before=row["before"], behind=row["behind"])
+    for row in rows_of(FOLDER / "samples.tsv"):
+        frame = FRAME_BEHIND[row["before"]]
+        yield Task(row["operator"], row["fields"] or row["name"], frame=frame, before=row["before"], behind=row["behind"])
 
 
 def lengthened(task):
@@ -175,10 +174,9 @@ def features_of(text):
 
 
 def written_by_hand():
-    with open(CRATE / "rows.tsv", encoding="utf-8", newline="") as lines:
-        for row in csv.DictReader(lines, delimiter="\t", quoting=csv.QUOTE_NONE):
-            features = features_of(row["features"])
-            yield Task(row["operator"], row["answer"], features=features, frame=row["frame"], behind=row["behind"])
+    for row in rows_of(CRATE / "rows.tsv"):
+        features = features_of(row["features"])
+        yield Task(row["operator"], row["answer"], features=features, frame=row["frame"], behind=row["behind"])
 
 
 def tasks():

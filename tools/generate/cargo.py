@@ -54,7 +54,8 @@ FIELDS = {
 
 
 def variant(op):
-    fields = ", ".join(f"/** {FIELDS[name]} */ {name}: {TYPES[ty].cargo_type()}" for name, ty in op.fields)
+    what = lambda name: FIELDS.get(name, f"{name.replace('_', ' ').capitalize()}.")
+    fields = ", ".join(f"/** {what(name)} */ {name}: {TYPES[ty].cargo_type()}" for name, ty in op.fields)
     return f"    /// `{op.text}`\n    {op.name}{f' {{ {fields} }}' if fields else ''},"
 
 

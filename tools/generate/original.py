@@ -1,8 +1,9 @@
 """Reads the operators of wasmparser from tools/original, and from nothing else."""
 
-import csv
 import sys
 from pathlib import Path
+
+from shared.tables import rows_of
 
 FOLDER = Path(__file__).resolve().parent.parent / "original"
 
@@ -32,8 +33,7 @@ GROUPS = {"fb": "Gc", "fc": "Misc", "fd": "Simd", "fe": "Atomic"}
 
 
 def lines_of(name):
-    with open(FOLDER / name, encoding="utf-8", newline="") as lines:
-        return list(csv.DictReader(lines, delimiter="\t"))
+    return rows_of(FOLDER / name)
 
 
 def kind_of(word, fields):
@@ -83,8 +83,7 @@ def originals():
 
 def signatures():
     """Returns the rows of the given table of types. Its head describes them."""
-    with open(FOLDER / "signatures.tsv", encoding="utf-8", newline="") as lines:
-        return list(csv.DictReader((line for line in lines if not line.startswith("#")), delimiter="\t"))
+    return rows_of(FOLDER / "signatures.tsv")
 
 
 def proposals():

@@ -4,6 +4,7 @@ import re
 import subprocess
 
 from packing.builds import TOP
+from shared.tables import rows_of
 
 # An option of a help text: what precedes two spaces, and what follows them.
 OPTION = re.compile(r"^ {2,8}(-.*?)(?: {2,}(.*))?$")
@@ -72,8 +73,7 @@ class Help:
 
 
 def examples(name):
-    rows = [line.split("\t") for line in EXAMPLES.read_text(encoding="utf-8").splitlines()[1:]]
-    return [(command, what) for program, command, what in rows if program == name]
+    return [(row["command"], row["what it does"]) for row in rows_of(EXAMPLES) if row["program"] == name]
 
 
 def escaped(text):

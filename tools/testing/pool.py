@@ -6,6 +6,7 @@ import threading
 import traceback
 from pathlib import Path
 
+from shared.tables import rows_of
 from testing.running import Clock, Stopped
 
 # In bytes, of a job.
@@ -14,8 +15,7 @@ COSTS = Path(__file__).resolve().parent / "costs.tsv"
 
 
 def costs():
-    rows = [line.split("\t") for line in COSTS.read_text(encoding="utf-8").splitlines()[1:]]
-    return {row[0]: float(row[1]) for row in rows}
+    return {row["item"]: float(row["CPU seconds"]) for row in rows_of(COSTS)}
 
 
 def store_costs(known):

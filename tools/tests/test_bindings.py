@@ -2,6 +2,7 @@ import re
 import unittest
 from pathlib import Path
 
+import cargo
 import doc_examples
 import header
 from table import shared, table
@@ -28,6 +29,9 @@ class Bindings(unittest.TestCase):
         source = (TOP / "bindings/rust/src/operator.rs").read_text(encoding="utf-8")
         converted = re.findall(r"=> Operator::(\w+)", source)
         self.assertEqual(sorted(converted), sorted(op.name for op in table()))
+
+    def test_each_field_is_described(self):
+        self.assertEqual(cargo.FIELDS.keys(), {name for op in table() for name, _ in op.fields})
 
     def test_examples_in_doc_comments(self):
         source = """\
