@@ -938,7 +938,7 @@ uint32_t wasm_read_body(const uint8_t *bytes, size_t bytes_length, uint64_t offs
                         wasm_operator *out, size_t out_length, size_t *count, wasm_refusal *refusal);
 
 /* Writes the text of a refusal in ASCII, truncated to `text_length` bytes. Returns the length of the whole text in
- * bytes, or 0 if it has none: not a refusal, or one from 100 on. */
+ * bytes, or 0 if it has none: not a refusal, or one from 100 on, which wasm_misuse_text describes. */
 size_t wasm_refusal_text(const wasm_refusal *refusal, uint8_t *text, size_t text_length);
 
 /* Writes the name of an operator in ASCII, truncated to `name_length` bytes. Returns the length of the whole name in
@@ -1698,6 +1698,85 @@ static inline int wasm_operator_proposal(const wasm_operator *op) {
       return WASM_PROPOSAL_ACQUIRE_RELEASE_ATOMICS;
     default:
       return -1;
+  }
+}
+
+/* Returns the name of a proposal of `enum wasm_proposal`, such as "bulk_memory", or NULL for another number. */
+static inline const char *wasm_proposal_name(int proposal) {
+  switch (proposal) {
+    case WASM_PROPOSAL_MVP:
+      return "mvp";
+    case WASM_PROPOSAL_SIGN_EXTENSION:
+      return "sign_extension";
+    case WASM_PROPOSAL_GC:
+      return "gc";
+    case WASM_PROPOSAL_CUSTOM_DESCRIPTORS:
+      return "custom_descriptors";
+    case WASM_PROPOSAL_SATURATING_FLOAT_TO_INT:
+      return "saturating_float_to_int";
+    case WASM_PROPOSAL_BULK_MEMORY:
+      return "bulk_memory";
+    case WASM_PROPOSAL_REFERENCE_TYPES:
+      return "reference_types";
+    case WASM_PROPOSAL_TAIL_CALL:
+      return "tail_call";
+    case WASM_PROPOSAL_MEMORY_CONTROL:
+      return "memory_control";
+    case WASM_PROPOSAL_THREADS:
+      return "threads";
+    case WASM_PROPOSAL_SIMD:
+      return "simd";
+    case WASM_PROPOSAL_RELAXED_SIMD:
+      return "relaxed_simd";
+    case WASM_PROPOSAL_EXCEPTIONS:
+      return "exceptions";
+    case WASM_PROPOSAL_LEGACY_EXCEPTIONS:
+      return "legacy_exceptions";
+    case WASM_PROPOSAL_SHARED_EVERYTHING_THREADS:
+      return "shared_everything_threads";
+    case WASM_PROPOSAL_FUNCTION_REFERENCES:
+      return "function_references";
+    case WASM_PROPOSAL_STACK_SWITCHING:
+      return "stack_switching";
+    case WASM_PROPOSAL_WIDE_ARITHMETIC:
+      return "wide_arithmetic";
+    case WASM_PROPOSAL_ACQUIRE_RELEASE_ATOMICS:
+      return "acquire_release_atomics";
+    default:
+      return NULL;
+  }
+}
+
+/* Returns the text of an error from 100 on, which says nothing of its value, or NULL for another number.
+ * wasm_refusal_text writes the texts of the others. */
+static inline const char *wasm_misuse_text(uint32_t number) {
+  switch (number) {
+    case WASM_REFUSED_UNKNOWN_FEATURES:
+      return "a bit of the features has no meaning";
+    case WASM_REFUSED_PAST_OFFSETS:
+      return "offsets do not fit in 64 bits";
+    case WASM_REFUSED_NO_ROOM:
+      return "an array is too short";
+    case WASM_REFUSED_NOT_A_READER:
+      return "no reader or place of these bytes";
+    case WASM_REFUSED_NO_LIST:
+      return "no operator begins there, or none with such a list";
+    case WASM_REFUSED_NO_VALUE_KIND:
+      return "no kind of value has this number";
+    case WASM_REFUSED_NOT_A_MODULE:
+      return "not a module of version 1";
+    case WASM_REFUSED_IMPORT_KIND:
+      return "invalid kind of an import";
+    case WASM_REFUSED_TYPE_KIND:
+      return "invalid kind of a type";
+    case WASM_REFUSED_COUNTS_DIFFER:
+      return "the numbers of functions and bodies differ";
+    case WASM_REFUSED_NO_FUNCTION:
+      return "the module does not define a function with this index";
+    case WASM_REFUSED_NO_BODY:
+      return "all bodies were read";
+    default:
+      return NULL;
   }
 }
 

@@ -61,6 +61,10 @@ def proposal_cases(ops):
     return "".join(f"{''.join(those)}      return {value};\n" for value, those in cases.items())
 
 
+def proposal_names():
+    return "".join(f'    case WASM_PROPOSAL_{it.upper()}:\n      return "{it}";\n' for it in PROPOSALS)
+
+
 def header(ops, text):
     pair = shared(ops)
     distinct = [op for op in ops if op is not pair[1]]
@@ -72,6 +76,7 @@ def header(ops, text):
         ("enum wasm_opcode {\n", "};", opcodes),
         ("enum wasm_proposal {\n", "};", proposals),
         ("switch (op->opcode) {\n", "    default:", proposal_cases(distinct)),
+        ("switch (proposal) {\n", "    default:", proposal_names()),
     ):
         text, found = re.subn(f"(?s)({re.escape(start)}).*?({re.escape(end)})", lambda it: it[1] + new + it[2], text)
         assert found == 1, f"{PATH} has {found} places after {start!r}"

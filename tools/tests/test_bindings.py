@@ -79,6 +79,11 @@ fn one() {}
         returned = [line.strip() for line in HEADER.splitlines() if line.startswith("      return WASM_PROPOSAL_")]
         self.assertEqual(len(returned), len(set(returned)))
 
+    def test_each_error_of_the_library_for_c_has_a_text(self):
+        errors = re.findall(r"^  (WASM_REFUSED_\w+) = 1\d\d\b", HEADER, re.M)
+        body = HEADER.split("wasm_misuse_text(uint32_t number) {")[1].split("\n}")[0]
+        self.assertEqual(re.findall(r"case (\w+):\n      return \"", body), errors)
+
     def test_the_versions_are_one(self):
         library = (TOP / "crates/wasm_c/src/lib.rt").read_text(encoding="utf-8")
         crate = (TOP / "bindings/rust/src/native.rs").read_text(encoding="utf-8")
