@@ -12,7 +12,7 @@ from pathlib import Path
 from unittest import mock
 
 import trust
-from packing import builds, installed, manual, package, rattle, texts, trial
+from packing import builds, installed, manual, package, rattle, release, texts, trial
 from testing.crates import Crates
 
 TOP = Path(__file__).resolve().parent.parent.parent
@@ -218,6 +218,27 @@ class Manual(Folders):
         for line in manual.EXAMPLES.read_text(encoding="utf-8").splitlines()[1:]:
             program, command, what = line.split("\t")
             self.assertTrue((TOP / "crates" / program / "src/main.rt").exists() and program in command and what.endswith("."), line)
+
+
+class Release(Folders):
+    def test_release(self):
+        self.file("dist/bin/low", "program").chmod(0o755)
+        with self.assertRaises(builds.Failed):
+            release.make(self.folder / "dist")
+        self.file("dist/PROVED", "proved")
+        made = []
+        for _ in range(2):
+            with redirect_stdout(io.StringIO()):
+                release.make(self.folder / "dist")
+            (archive,) = self.folder.glob("*.tar.xz")
+            made.append(archive.read_bytes())
+        self.assertEqual(made[0], made[1])
+        checked = subprocess.run(["sha256sum", "--check", "--quiet", f"{archive.name}.sha256"], cwd=self.folder)
+        self.assertEqual(checked.returncode, 0)
+        name = archive.name.removesuffix(".tar.xz")
+        with tarfile.open(archive) as it:
+            self.assertEqual({one.name: one.mode for one in it}, {f"{name}/PROVED": 0o644, f"{name}/bin/low": 0o755})
+        self.assertTrue((self.folder / f"{name}.md").read_text(encoding="utf-8").startswith("## "))
 
 
 class Texts(Folders):

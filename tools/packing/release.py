@@ -1,0 +1,36 @@
+"""Packs dist/ for handing out: an archive, its checksum, and notes."""
+
+import io
+import re
+import tarfile
+
+from packing import package, texts
+from packing.builds import TOP, Failed
+
+
+def notes():
+    """Returns the newest part of CHANGELOG.md, with its title."""
+    found = re.search(r"^## .*?(?=^## |\Z)", (TOP / "CHANGELOG.md").read_text(encoding="utf-8"), re.M | re.S)
+    return texts.relinked("CHANGELOG.md", found[0], lambda path: None).rstrip() + "\n"
+
+
+def packed(folder, name, archive):
+    """Writes the files of a folder, below `name`. The same files give the same bytes."""
+    with tarfile.open(archive, "w:xz", format=tarfile.GNU_FORMAT) as out:
+        for path in sorted(it for it in folder.rglob("*") if it.is_file()):
+            info = tarfile.TarInfo(f"{name}/{path.relative_to(folder)}")
+            data = path.read_bytes()
+            info.size, info.mode = len(data), path.stat().st_mode & 0o755
+            out.addfile(info, io.BytesIO(data))
+
+
+def make(out):
+    """Writes the archive, its checksum and the notes beside dist/, and prints their names."""
+    if not (out / "PROVED").exists():
+        raise Failed(f"{out} is not proved: a release is made of what is")
+    name = f"wasm-operators-{package.field('version')}-x86_64-linux"
+    archive = out.with_name(f"{name}.tar.xz")
+    packed(out, name, archive)
+    archive.with_name(f"{archive.name}.sha256").write_text(f"{texts.sum_of(archive)}  {archive.name}\n", encoding="utf-8")
+    archive.with_name(f"{name}.md").write_text(notes(), encoding="utf-8")
+    print(f"dist: wrote {archive.name}, {archive.name}.sha256 and {name}.md")
