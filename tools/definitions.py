@@ -1,8 +1,9 @@
 #!/usr/bin/env python3
-"""Checks docs/DEFINITIONS.md, or writes it from the comments in specs/.
+"""Checks docs/DEFINITIONS.md, writes it from the comments in specs/, or prints what definitions say.
 
     tools/definitions.py             checks
     tools/definitions.py --write     writes
+    tools/definitions.py NAME..      prints the words of the page for these definitions, with their files
 
 The page has each definition that a public contract names, and those that the comments of these refer to. A row has the
 comment above the definition, and the section that this comment or the head of the file names.
@@ -138,17 +139,29 @@ def report(rows, found, wanting, misplaced):
     print(f"{len(found)} used, {len(wanting)} wanting, {len(misplaced)} misplaced")
 
 
+def say(rows, names):
+    """Prints the words for the names. Returns whether one has none."""
+    lines = {name: row for of_file in rows.values() for row in of_file for name in row.names}
+    for name in names:
+        row = lines.get(name)
+        place = f"crates/{row.file.crate}/specs/{row.file.name}.antt" if row else "not on the page"
+        print(f"{name} ({place}){f': {row.words}' if row else ''}{f' {row.section}' if row and row.section else ''}")
+    return any(name not in lines for name in names)
+
+
 def main():
-    is_written = read(__doc__, "--write").write
+    wanted = read(__doc__, "--write", "NAME..")
     files, given = files_of(TOP), given_of(TABLE.read_text(encoding="utf-8"))
     found = used(names_of(TOP))
     rows, wanting = rows_by_file(files, given, found)
+    if wanted.names:
+        sys.exit(say(rows, wanted.names))
     misplaced = [f"tools/definitions.tsv:{it.number}: {what}" for it, what in faults_of(files, given, by_file(found))]
     report(rows, found, wanting, misplaced)
     if wanting or misplaced or not found:
         sys.exit(1)
     text = page(rows, PAGE.read_text(encoding="utf-8"))
-    if is_written:
+    if wanted.write:
         PAGE.write_text(text, encoding="utf-8")
     at = first_difference(PAGE.read_text(encoding="utf-8"), text)
     sys.exit(f"docs/DEFINITIONS.md:{at}: differs from what tools/definitions.py --write writes" if at else 0)
