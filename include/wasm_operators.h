@@ -938,7 +938,7 @@ uint32_t wasm_read_body(const uint8_t *bytes, size_t bytes_length, uint64_t offs
                         wasm_operator *out, size_t out_length, size_t *count, wasm_refusal *refusal);
 
 /* Writes the text of a refusal in ASCII, truncated to `text_length` bytes. Returns the length of the whole text in
- * bytes, or 0 if it has none: not a refusal, or one from 100 on, which wasm_misuse_text describes. */
+ * bytes, or 0 if it has none: not a refusal, or one from 100 on, which wasm_c_error_text describes. */
 size_t wasm_refusal_text(const wasm_refusal *refusal, uint8_t *text, size_t text_length);
 
 /* Writes the name of an operator in ASCII, truncated to `name_length` bytes. Returns the length of the whole name in
@@ -1749,7 +1749,7 @@ static inline const char *wasm_proposal_name(int proposal) {
 
 /* Returns the text of an error from 100 on, which says nothing of its value, or NULL for another number.
  * wasm_refusal_text writes the texts of the others. */
-static inline const char *wasm_misuse_text(uint32_t number) {
+static inline const char *wasm_c_error_text(uint32_t number) {
   switch (number) {
     case WASM_REFUSED_UNKNOWN_FEATURES:
       return "a bit of the features has no meaning";

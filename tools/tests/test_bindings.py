@@ -81,7 +81,7 @@ fn one() {}
 
     def test_each_error_of_the_library_for_c_has_a_text(self):
         errors = re.findall(r"^  (WASM_REFUSED_\w+) = 1\d\d\b", HEADER, re.M)
-        body = HEADER.split("wasm_misuse_text(uint32_t number) {")[1].split("\n}")[0]
+        body = HEADER.split("wasm_c_error_text(uint32_t number) {")[1].split("\n}")[0]
         self.assertEqual(re.findall(r"case (\w+):\n      return \"", body), errors)
 
     def test_the_versions_are_one(self):
