@@ -4,7 +4,8 @@
     tools/gate_table.py LOG NOTE [LOG NOTE ..]
     tools/gate_table.py --summary LOG
 
-NOTE is a sentence for the page: the commit, the machine. The chart is of the first log. The costs of several logs joined to one, of runs that continued each other, are added.
+NOTE is a sentence for the page: the commit, the machine. The chart is of the first log. The costs of several logs joined to
+one, of runs that continued each other, are added.
 `--summary` prints the figures of a log. Minutes come from tools/timed.py, functions and edits from `rt`, the edits
 outside the gate from tools/more_must_fail.tsv.
 """
@@ -95,7 +96,7 @@ def minutes(seconds):
 
 
 def shown(crates):
-    """Returns the most expensive crates, and one that stands for the others."""
+    """Returns the most expensive crates, and the sum of the others as one."""
     names = by_cost(crates)
     rest, out = [crates[name] for name in names[ROWS:]], {f"`{name}`": crates[name] for name in names[:ROWS]}
     if rest:

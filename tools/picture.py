@@ -21,7 +21,7 @@ ROUNDS = 40
 
 
 def drawn():
-    """Returns the crates to draw, each with those of the repository that it lists."""
+    """Returns the crates to draw, each with the drawn crates that it lists."""
     listed = {name: uses for name, uses in crates().items() if not name.startswith(f"{PREFIX}tests_")}
     return {name: [it for it in uses if it in listed] for name, uses in listed.items()}
 
@@ -76,7 +76,7 @@ def width(it):
 
 
 def apart(row, pull):
-    """Returns the middles of a row in order: where they are pulled, but beside each other."""
+    """Returns the middles of a row in order: where they are pulled, but without overlap."""
     found = dict(pull)
     for _ in range(60):
         for one, other in itertools.pairwise(row):

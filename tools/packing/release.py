@@ -25,7 +25,7 @@ def packed(folder, name, archive):
 
 
 def make(out):
-    """Writes the archive, its checksum and the notes beside dist/, and prints their names."""
+    """Writes the archive, its checksum and the notes into the folder that has dist/, and prints their names."""
     if not (out / "PROVED").exists():
         raise Failed(f"{out} is not proved: a release is made of what is")
     name = f"wasm-operators-{package.field('version')}-x86_64-linux"

@@ -1,4 +1,4 @@
-"""Compares the structs and calls of the header for C with those of the cargo crate and of the Rattle sources."""
+"""Compares the structs and calls of the header for C with the structs and calls of the cargo crate and the Rattle sources."""
 
 import re
 import unittest
