@@ -926,6 +926,7 @@ typedef struct wasm_body {
   uint32_t type_index;
 } wasm_body;
 
+/* Returns the version of the library, which is WASM_OPERATORS_VERSION in its header. */
 uint32_t wasm_operators_version(void);
 
 /* Reads all operators of the function body `bytes`, which starts with its locals. Writes at most `out_length` of them

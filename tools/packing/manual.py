@@ -1,4 +1,4 @@
-"""Writes man pages and completions for bash, from what programs print for --help."""
+"""Writes man pages and completions for bash, from what programs print for --help, and a man page of the header for C."""
 
 import re
 import subprocess
@@ -109,6 +109,43 @@ def man_page(name, text, commit, others=()):
         section("EXIT STATUS", filled(help_text.status)),
         section("EXAMPLES", shown),
         section("SEE ALSO", also if also[0] else []),
+    ])
+
+
+def comment_of(block):
+    """Returns the paragraphs of the comment that a part of the header starts with, and what follows it."""
+    comment, _, rest = block.partition("*/\n")
+    lines = [line.strip().removeprefix("*").strip() for line in comment.removeprefix("/*").rstrip().split("\n")]
+    return "\n".join(lines).split("\n\n"), rest
+
+
+def parts_of(header):
+    """Yields name, comment and declaration of the functions and structs of the header that have a comment."""
+    for block in header.split("\n\n"):
+        paragraphs, rest = comment_of(block) if block.startswith("/*") else ([], "")
+        if found := re.match(r"(?:static inline )?(?:uint32_t|size_t|int|const char) \*?(\w+)\([^)]*\)", rest):
+            yield found[1], paragraphs, found[0].removeprefix("static inline ") + ";"
+        elif found := re.match(r"typedef struct (\w+)", rest):
+            yield found[1], paragraphs, rest
+
+
+def header_page(header, commit, programs):
+    """Returns a man page of the header, made of its comments."""
+    head, _ = comment_of(header[header.index("/* The operators") :])
+    described = {True: [], False: []}
+    for name, paragraphs, declared in parts_of(header):
+        lines = [f".SS {name}", ".nf", escaped(declared), ".fi", ".PP", *filled(paragraphs)]
+        described[declared.startswith("typedef")] += lines
+    also = [", ".join(f"\\fB{escaped(name)}\\fR(1)" for name in programs)]
+    flags = "cc .. $(pkg-config --cflags --libs wasm_operators)"
+    return "".join([
+        f'.TH WASM_OPERATORS 3 "" "{commit[:12]}"\n',
+        section("NAME", ["wasm_operators \\- a decoder of the operators of WebAssembly function bodies"]),
+        section("SYNOPSIS", [".nf", "#include <wasm_operators.h>", escaped(flags), ".fi"]),
+        section("DESCRIPTION", filled(head)),
+        section("FUNCTIONS", described[False]),
+        section("TYPES", described[True]),
+        section("SEE ALSO", also),
     ])
 
 

@@ -2,6 +2,7 @@ import importlib.machinery
 import importlib.util
 import io
 import os
+import re
 import shutil
 import subprocess
 import tarfile
@@ -213,6 +214,14 @@ class Manual(Folders):
             ran = subprocess.run(["bash", "-c", f'. {path}; {given}; echo "${{COMPREPLY[@]}}"'], capture_output=True, text=True)
             self.assertEqual(ran.stdout, f"{found}\n")
         self.assertEqual(manual.completion("wasm_dump", "It reads.\n"), "")
+
+    def test_page_of_the_header(self):
+        header = (TOP / "include/wasm_operators.h").read_text(encoding="utf-8")
+        page = manual.header_page(header, "abc", ["low"])
+        names = set(re.findall(r"^[\w ]*?\*?(wasm_\w+)\(", header, re.M)) | set(re.findall(r"^typedef struct (\w+)", header, re.M))
+        self.assertEqual(set(re.findall(r"^\.SS (\w+)$", page, re.M)), names)
+        self.assertIn(".SS wasm_frames_needed\n.nf\nsize_t wasm_frames_needed(size_t bytes_length);\n.fi\n.PP\nReturns the number", page)
+        self.assertNotIn("*/", page.split(".SH TYPES")[0])
 
     def test_examples_name_programs(self):
         for line in manual.EXAMPLES.read_text(encoding="utf-8").splitlines()[1:]:
