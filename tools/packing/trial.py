@@ -21,14 +21,13 @@ version = "0.0.0"
 edition = "2024"
 
 [dependencies]
-{name} = {{ path = "{path}" }}
+{dependency}
 """
 CMAKE = """\
 cmake_minimum_required(VERSION 3.13)
 project(first C)
-find_package(wasm_operators REQUIRED)
-add_executable(by_cmake {source})
-target_link_libraries(by_cmake PRIVATE wasm_operators::wasm_operators)
+add_executable(list {source})
+{use}
 """
 MAIN = (TOP / "tools/packing/trial.rs").read_text(encoding="utf-8")
 
@@ -94,30 +93,38 @@ def try_examples(prefix, folder, env):
             ran(["sh", "-euc", command], folder, env)
 
 
+def block_of(prefix, language):
+    """Returns the first block of code in this language in the installed README."""
+    page = (prefix / installed.DOC / "README.md").read_text(encoding="utf-8")
+    return re.search(rf"^```{language}\n(.*?)^```", page, re.M | re.S)[1].replace("PREFIX", str(prefix))
+
+
 def try_c(prefix, folder, env):
     env = {**env, "PKG_CONFIG_PATH": str(prefix / "lib/pkgconfig")}
     flags = ran(["pkg-config", "--cflags", "--libs", "wasm_operators"], folder, env).split()
     for source in sorted((prefix / installed.DOC).glob("*.c")):
         ran(["cc", "-std=c99", "-Wall", "-Werror", "-o", source.stem, source, *flags], folder, env)
     (folder / "body").write_bytes(BODY)
+    (folder / "list").unlink()
+    ran(["bash", "-euc", block_of(prefix, "sh")], folder, {**env, "prefix": str(prefix)})
     ran([folder / "list", "body"], folder, env, LISTED)
 
 
 def try_cmake(prefix, folder, env):
     (folder / "cmake").mkdir()
-    text = CMAKE.format(source=prefix / installed.DOC / "list.c")
+    text = CMAKE.format(source=prefix / installed.DOC / "list.c", use=block_of(prefix, "cmake"))
     (folder / "cmake/CMakeLists.txt").write_text(text, encoding="utf-8")
     (folder / "body").write_bytes(BODY)
     ran(["cmake", "-S", "cmake", "-B", "made", f"-DCMAKE_PREFIX_PATH={prefix}"], folder, env)
     ran(["cmake", "--build", "made"], folder, env)
-    ran([folder / "made/by_cmake", "body"], folder, env, LISTED)
+    ran([folder / "made/list", "body"], folder, env, LISTED)
 
 
 def try_cargo(prefix, folder, env):
     name = f"{package.field('name')}-{package.field('version')}"
     crate = prefix / "share/wasm-operators" / name
     (folder / "first/src").mkdir(parents=True)
-    (folder / "first/Cargo.toml").write_text(MANIFEST.format(name=package.field("name"), path=crate), encoding="utf-8")
+    (folder / "first/Cargo.toml").write_text(MANIFEST.format(dependency=block_of(prefix, "toml")), encoding="utf-8")
     (folder / "first/src/main.rs").write_text(MAIN, encoding="utf-8")
     ran(["cargo", "build", "--offline", "--quiet"], folder / "first", env)
     ran(["cargo", "run", "--offline", "--quiet"], folder / "first", env, LISTED)
