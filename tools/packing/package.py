@@ -4,10 +4,13 @@ import gzip
 import io
 import re
 import shutil
+import subprocess
 import tarfile
+import tempfile
+from pathlib import Path
 
 from packing import texts
-from packing.builds import TOP
+from packing.builds import TOP, Failed
 
 FOLDER = "bindings/rust"
 CRATE = TOP / FOLDER
@@ -58,7 +61,15 @@ def make(folder, libraries, notices):
 
 
 def pack(package, archive):
-    """The same files give the same bytes."""
+    """Packs the crate by cargo, or, if that is missing, in the same form. The same files give the same bytes."""
+    if shutil.which("cargo"):
+        with tempfile.TemporaryDirectory(prefix="package-") as folder:
+            words = ["cargo", "package", "--offline", "--no-verify", "--allow-dirty", "--target-dir", folder]
+            ran = subprocess.run(words, cwd=package, capture_output=True, text=True)
+            if ran.returncode:
+                raise Failed(f"cargo package failed:\n{ran.stderr}")
+            shutil.copyfile(Path(folder) / "package" / f"{package.name}.crate", archive)
+        return
     packed = io.BytesIO()
     with tarfile.open(fileobj=packed, mode="w", format=tarfile.GNU_FORMAT) as out:
         for path in sorted(it for it in package.rglob("*") if it.is_file()):
