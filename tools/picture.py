@@ -7,8 +7,6 @@
 A crate is above those that it lists. A line leads to each of them that no other one of them lists, directly or not.
 """
 
-import itertools
-
 from shared.arguments import read
 from shared.crates import TOP, below, crates
 from shared.written import write_or_check
@@ -55,7 +53,7 @@ def routed(uses, lines):
 def placed(rows, ways):
     """Returns the middle of each crate and bend: near the middles of those that lines join to it."""
     joined = {it: [] for row in rows for it in row}
-    for one, other in (pair for way in ways for pair in itertools.pairwise(way)):
+    for one, other in (pair for way in ways for pair in zip(way, way[1:])):
         joined[one].append(other)
         joined[other].append(one)
     middle = {it: WIDTH * (at + 0.5) / len(row) for row in rows for at, it in enumerate(row)}
@@ -79,7 +77,7 @@ def apart(row, pull):
     """Returns the middles of a row in order: where they are pulled, but without overlap."""
     found = dict(pull)
     for _ in range(60):
-        for one, other in itertools.pairwise(row):
+        for one, other in zip(row, row[1:]):
             overlap = (width(one) + width(other)) / 2 + 10 - (found[other] - found[one])
             if overlap > 0:
                 found[one], found[other] = found[one] - overlap / 2, found[other] + overlap / 2
