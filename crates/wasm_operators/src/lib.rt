@@ -16,7 +16,6 @@ mod constant;
 pub mod constant_laws;
 mod declarations;
 pub mod decoding_laws;
-mod drivers;
 pub mod expression_laws;
 mod iterators;
 mod locals;
