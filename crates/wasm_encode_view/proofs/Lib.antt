@@ -1,0 +1,4 @@
+mod Appended
+mod Fits
+mod SameTypes
+pub mod Operators
