@@ -119,7 +119,10 @@ class Engines:
         """Returns the module as text, or None if wasm-tools can't print it."""
         ran = self.run(["wasm-tools", "print", str(path)])
         # (custom sections may be dropped, and comments have offsets of errors in others)
-        return None if ran.returncode else re.sub(rb"^ *\(@(?:custom|metadata).*\n| \(at offset 0x[0-9a-f]+\)", b"", ran.stdout, flags=re.M)
+        if ran.returncode:
+            return None
+        text = re.sub(rb"^ *\(@(?:custom|metadata).*\n| \(at offset 0x[0-9a-f]+\)", b"", ran.stdout, flags=re.M)
+        return text.replace(b"(module\n)", b"(module)")
 
     def listing(self, path):
         ran = self.run(["wasm-objdump", "-d", str(path)])
