@@ -1,0 +1,5 @@
+pub mod Order
+pub mod Step
+pub mod Adding
+pub mod Comparing
+pub mod Ascent

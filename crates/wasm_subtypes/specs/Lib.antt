@@ -1,0 +1,4 @@
+pub mod Descent
+pub mod Alike
+pub mod Types
+pub mod Errors
