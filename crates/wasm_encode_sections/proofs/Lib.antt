@@ -1,0 +1,9 @@
+pub mod SameValue
+pub mod ContBytes
+pub mod InnerBytes
+pub mod CompositeSteps
+pub mod StorageBytes
+pub mod SubtypeBytes
+pub mod SubtypeSteps
+pub mod GroupSteps
+pub mod ItemSteps

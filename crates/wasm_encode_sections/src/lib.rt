@@ -1,0 +1,17 @@
+//! Writes the items of a module's sections by the grammars that read them.
+//!
+//! A call that writes may fail with `OutOfMemory`, if the vector can't grow. Any other error is the
+//! message with which a reader refuses the part of the value that no bytes encode.
+#![tactic(auto)]
+
+mod composites;
+mod fields;
+mod functions;
+mod lists;
+mod parts;
+mod recursive;
+mod value_types;
+mod write;
+
+pub use lists::{append_items, append_list};
+pub use write::{Write, write_value};

@@ -1,0 +1,4 @@
+pub mod Owing
+pub mod WrittenMembers
+pub mod ReadAgain
+pub mod SizedBytes
