@@ -28,7 +28,7 @@ GROUPS = [
     ("Reads and visits", "".join(map(READERS.format, READS)) + "wasm_operators/Collecting wasm_operators/Laws"),
     ("Bodies, constant expressions and sections", "wasm_operators/Locals wasm_operators"),
     ("Writing", "wasm_encode_numbers wasm_encode_immediates wasm_encode_operators wasm_encode"),
-    ("Writing by grammars", "wasm_write_grammars wasm_encode_sections"),
+    ("Writing by grammars", "wasm_write_grammars wasm_encode_sections wasm_encode_modules"),
     ("Modules with the shortest code sections", "wasm_compaction"),
     ("Listing and counts of a body", "wasm_listing"),
     ("The text of an operator", "wasm_text"),

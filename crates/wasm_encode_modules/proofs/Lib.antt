@@ -1,0 +1,2 @@
+pub mod RawSteps
+pub mod ModuleSteps

@@ -1,0 +1,2 @@
+pub mod RawSections
+pub mod WrittenModules

@@ -1,0 +1,79 @@
+use crate::failure::Failure;
+use std::alloc::Global;
+use wasm_below::{BinaryReader, WasmFeatures};
+use wasm_encode_modules::{SectionContents, write_module};
+use wasm_encode_sections::append_items;
+use wasm_sections::{Section, read_items, read_sections};
+use wasm_types::RecGroup;
+
+const TYPES: u8 = 1;
+
+const FUNCTIONS: u8 = 3;
+
+/// Reads the sections of a module, writes the items that are read as values, and writes the module.
+pub fn rewrite(alloc: Global, bytes: &[u8]) -> Result<Vec<u8>, Failure> {
+    let reader = BinaryReader::new(bytes, 0);
+    let features = reader.features();
+    let sections = read_sections(alloc, reader)?;
+    let mut contents = Vec::new(alloc);
+    for section in &sections {
+        let mut written = Vec::new(alloc);
+        write_contents(alloc, features, section, &mut written)?;
+        contents.push((section.id(), written))?;
+    }
+    let mut parts = Vec::new(alloc);
+    for (id, written) in contents.as_slice() {
+        parts.push(SectionContents::new(*id, written.as_slice()))?;
+    }
+    let mut module = Vec::new(alloc);
+    write_module(&mut module, parts.as_slice())?;
+    Ok(module)
+}
+
+fn write_contents(
+    alloc: Global,
+    features: WasmFeatures,
+    section: &Section<'_>,
+    written: &mut Vec<u8>,
+) -> Result<(), Failure> {
+    match section.id() {
+        TYPES => write_types(alloc, features, section, written),
+        FUNCTIONS => write_functions(alloc, features, section, written),
+        _ => {
+            let contents = section.contents();
+            written.extend_from_slice(contents.remaining_buffer())?;
+            Ok(())
+        }
+    }
+}
+
+/// Writes the items of a type section, and compares those that are read again.
+fn write_types(
+    alloc: Global,
+    features: WasmFeatures,
+    section: &Section<'_>,
+    written: &mut Vec<u8>,
+) -> Result<(), Failure> {
+    let items = read_items::<RecGroup>(alloc, section.contents())?;
+    append_items(written, features, items.as_slice())?;
+    let again = read_items::<RecGroup>(alloc, BinaryReader::new(written.as_slice(), 0))?;
+    if again == items {
+        return Ok(());
+    }
+    Err(Failure::Different)
+}
+
+fn write_functions(
+    alloc: Global,
+    features: WasmFeatures,
+    section: &Section<'_>,
+    written: &mut Vec<u8>,
+) -> Result<(), Failure> {
+    let items = read_items::<u32>(alloc, section.contents())?;
+    append_items(written, features, items.as_slice())?;
+    let again = read_items::<u32>(alloc, BinaryReader::new(written.as_slice(), 0))?;
+    if again == items {
+        return Ok(());
+    }
+    Err(Failure::Different)
+}
