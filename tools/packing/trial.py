@@ -8,7 +8,7 @@ import sys
 import tempfile
 from pathlib import Path
 
-from packing import installed, manual, package, texts
+from packing import installed, manual, package, shared_library, texts
 from packing.builds import TOP
 
 COMMANDS = ["cc", "cargo", "rustc", "rustup", "pkg-config", "cmake", "make", "tar", "ld", "as"]
@@ -110,6 +110,15 @@ def try_c(prefix, folder, env):
     ran([folder / "list", "body"], folder, env, LISTED)
 
 
+def try_shared(prefix, folder, env):
+    if not (prefix / "lib" / shared_library.NAME).exists():
+        return
+    words = ["cc", "-std=c99", f"-I{prefix}/include", "-o", "by_shared", prefix / installed.DOC / "list.c"]
+    ran([*words, f"-L{prefix}/lib", f"-Wl,-rpath,{prefix}/lib", "-lwasm_operators"], folder, env)
+    (folder / "body").write_bytes(BODY)
+    ran([folder / "by_shared", "body"], folder, env, LISTED)
+
+
 def try_cmake(prefix, folder, env):
     (folder / "cmake").mkdir()
     text = CMAKE.format(source=prefix / installed.DOC / "list.c", use=block_of(prefix, "cmake"))
@@ -144,7 +153,7 @@ def run(out):
         try_tree(prefix, env)
         try_programs(prefix)
         try_examples(prefix, folder, env)
-        for command, tries in (("cc", try_c), ("cmake", try_cmake), ("cargo", try_cargo)):
+        for command, tries in (("cc", try_c), ("cc", try_shared), ("cmake", try_cmake), ("cargo", try_cargo)):
             if shutil.which(command, path=env["PATH"]):
                 tries(prefix, folder, env)
             else:

@@ -13,7 +13,7 @@ from pathlib import Path
 from unittest import mock
 
 import trust
-from packing import builds, installed, manual, package, rattle, release, texts, trial
+from packing import builds, installed, manual, package, rattle, release, shared_library, texts, trial
 from testing.crates import Crates
 
 TOP = Path(__file__).resolve().parent.parent.parent
@@ -227,6 +227,30 @@ class Manual(Folders):
         for line in manual.EXAMPLES.read_text(encoding="utf-8").splitlines()[1:]:
             program, command, what = line.split("\t")
             self.assertTrue((TOP / "crates" / program / "src/main.rt").exists() and program in command and what.endswith("."), line)
+
+
+@unittest.skipUnless(shutil.which("cc"), "there is no cc")
+class Shared(Folders):
+    def archive(self, name, text):
+        source = self.file(f"{name}.c", text)
+        subprocess.run(["cc", "-fPIC", "-c", "-o", source.with_suffix(".o"), source], check=True)
+        subprocess.run(["ar", "rcs", self.folder / f"lib{name}.a", source.with_suffix(".o")], check=True)
+        return self.folder / f"lib{name}.a"
+
+    def test_symbols(self):
+        one = self.archive("one", "int inner(void); int other(void) { return 1; } int wasm_one(void) { return inner() + other(); }\n")
+        two = self.archive("two", "int inner(void) { return 1; }\n")
+        self.assertIsNone(shared_library.make([one, two], self.folder, "7"))
+        made = self.folder / "libwasm_operators.so.7"
+        dynamic = subprocess.run(["nm", "-D", "--defined-only", made], capture_output=True, text=True, check=True).stdout
+        self.assertEqual([line.split()[-1] for line in dynamic.splitlines()], ["wasm_one"])
+        self.assertIn(b"libwasm_operators.so.7\0", made.read_bytes())
+        self.assertIn("INPUT ( libwasm_operators.so.7 )", (self.folder / shared_library.NAME).read_text())
+
+    def test_what_cannot_be_linked(self):
+        one = self.archive("one", "int missing(void); int wasm_one(void) { return missing(); }\n")
+        self.assertIn("missing", shared_library.make([one], self.folder, "7"))
+        self.assertFalse((self.folder / shared_library.NAME).exists())
 
 
 class Release(Folders):
