@@ -38,6 +38,8 @@ GROUPS = [
     ("The bodies of a module", "wasm_module/Bodies"),
     ("The text of a function", "wasm_disassembly"),
     ("Listing and counts of a module", "wasm_disassembly/CountTable wasm_disassembly/Cut wasm_disassembly/Escapes wasm_disassembly/Headers wasm_disassembly/Listing wasm_disassembly/ModuleCensus"),
+    ("Names as they are shown", "wasm_escapes"),
+    ("The contents of sections as lines", "wasm_details"),
     ("Operators as C structs", "wasm_view"),
     ("The library for C", "wasm_c"),
 ]

@@ -1,0 +1,5 @@
+pub mod Listed
+pub mod Spaced
+pub mod Shown
+pub mod Unnamed
+pub mod Named

@@ -1,0 +1,29 @@
+-- Subsections of names that are read and shown one by one.
+use Rattle.std.proofs.Common.{◌≡◌, ℕ, List, [], ◌∷◌, ◌++◌, Option, Result, Ok, Err, inl, inr, true, false, refl, sym, subst, ◌∙◌}
+use Rattle.std.proofs.lemmas.Bool.{false≢true}
+use Rattle.wasm_below.specs.Source.{Reader, rest}
+use Rattle.wasm_names.specs.declared.name.Name.{Name}
+use Rattle.wasm_names.specs.Subsections.{NamesLeft, HasEnded, ReadsSubsection}
+use Rattle.wasm_details.specs.declared.fault.Fault.{Fault}
+use Rattle.wasm_details.specs.declared.fault.Fault.TheVariants as fault
+use Rattle.wasm_details.specs.declared.place.Place.{Place}
+use Rattle.wasm_details.specs.Names.{ListsName, AreNamed, ListsNames}
+
+pub named_more : (place : Place) (r mid new : Reader) (ns : List Name) (n : Name) (p : Place) (old between after : Option (List ℕ)) → AreNamed place r ns mid old between →
+    ReadsSubsection (Ok n) mid new → ListsName n place (Ok p) between after → AreNamed place r (ns ++ n ∷ []) new old after
+named_more place r mid new [] n p old between after (is, same) reads lists =
+    (new, subst (λ z. ReadsSubsection (Ok n) z new) is reads, p, after, subst (λ z. ListsName n place (Ok p) z after) same lists, (refl, refl))
+named_more place r mid new (m ∷ ms) n p old between after (z, q, o, b, has, more) reads lists =
+    (z, q, o, b, has, named_more place z mid new ms n p b between after more reads lists)
+
+-- The names end where no data is left.
+pub names_end : (s : NamesLeft) → s.refused ≡ false → HasEnded s → rest s.reader ≡ []
+names_end s going (inl refused) = absurd (false≢true (sym going ∙ refused))
+names_end s going (inr none) = none
+
+-- A name in a subsection is in error.
+pub names_stop : (place : Place) (first end later : Reader) (ns : List Name) (n : Name) (f : Fault) (old mid new : Option (List ℕ)) → AreNamed place first ns end old mid →
+    ReadsSubsection (Ok n) end later → ListsName n place (Err f) mid new → ListsNames place first (Err f) old new
+names_stop place first end later ns n (fault.Section e) old mid new named reads lists = (ns, end, mid, named, inr (n, later, reads, lists))
+names_stop place first end later ns n fault.Writing old mid new named reads lists = tt
+names_stop place first end later ns n fault.Memory old mid new named reads lists = tt

@@ -1,0 +1,9 @@
+pub mod Places
+pub mod Items
+pub mod Types
+pub mod Externals
+pub mod Bodies
+pub mod Namings
+pub mod Contents
+pub mod Module
+pub mod Names

@@ -1,0 +1,68 @@
+ghost use Rattle.std.specs.Prelude.{◌≡◌, ◌++◌, OnOk, string_bytes};
+ghost use Rattle.wasm_details.specs.Bodies.{body_line, last_name, named_index, start_text, data_count_text};
+ghost use Rattle.wasm_details.specs.Places.{after_one};
+
+use crate::details::Details;
+use crate::externals::push_name;
+use crate::names::Names;
+use crate::place::{Place, after_one};
+use std::alloc::Global;
+use wasm_below::BinaryReader;
+use wasm_text::Written;
+
+/// An item of the code section: a function's body, without its size.
+impl<'a> Details<'a, Names> for BinaryReader<'a> {
+    ghost lines = { body_line };
+
+    ghost after = { λ place body. after_one place };
+
+    fn push_lines(&self, _alloc: Global, out: &mut String, names: &Names, place: Place) -> Written {
+        let index = place.next;
+        let size = self.bytes_remaining();
+        write!(out, " - func[{index}] size={size}")?;
+        push_name(out, names.function(index))?;
+        out.push_str("\n")
+    }
+
+    fn place_after(&self, place: Place) -> Place {
+        after_one(place)
+    }
+}
+
+/// Appends a name in angle brackets, unless it is empty, and the end of the line.
+fn push_last_name(out: &mut String, name: &str) -> Written
+    ensures { OnOk result (string_bytes out.new ≡ string_bytes out.old ++ last_name name.now) }
+{
+    push_name(out, name)?;
+    out.push_str("\n")
+}
+
+/// Appends a function's index and name, and the end of the line.
+fn push_named_index(out: &mut String, names: &Names, index: u32) -> Written
+    ensures { OnOk result (string_bytes out.new ≡ string_bytes out.old ++ named_index names.now index) }
+{
+    write!(out, "{index}")?;
+    push_last_name(out, names.function(index))
+}
+
+/// Appends a text, a function's index and name, and the end of the line.
+fn push_index_after(out: &mut String, before: &str, names: &Names, index: u32) -> Written
+    ensures { OnOk result (string_bytes out.new ≡ string_bytes out.old ++ (before.now ++ named_index names.now index)) }
+{
+    out.push_str(before)?;
+    push_named_index(out, names, index)
+}
+
+/// Appends the start section.
+pub fn push_start(out: &mut String, names: &Names, index: u32) -> Written
+    ensures { OnOk result (string_bytes out.new ≡ string_bytes out.old ++ start_text names.now index) }
+{
+    push_index_after(out, "Start:\n - start function: ", names, index)
+}
+
+/// Appends the data count section.
+pub fn push_data_count(out: &mut String, count: u32) -> Written
+    ensures { OnOk result (string_bytes out.new ≡ string_bytes out.old ++ data_count_text count) }
+{
+    write!(out, "DataCount:\n - data count: {count}\n")
+}
