@@ -1,10 +1,9 @@
 //! Memory arguments and orderings, from the numbers in the C struct.
-ghost use Rattle.std.specs.Prelude.{◌≡◌, ◌+◌, ◌≤◌, ◌++◌};
-ghost use Rattle.arrayvec.specs.ArrayVec.{array_vec_len};
+ghost use Rattle.std.specs.Prelude.{◌≡◌, ◌+◌, ◌≤◌, ◌++◌, length};
 ghost use Rattle.wasm_encode_view.specs.Bytes.{order_byte, target_flag, target_bytes, ordering_flag, ordering_bytes, memory_bytes};
 
+use crate::buffer::Buffer;
 use crate::numbers::write_unsigned;
-use arrayvec::ArrayVec;
 use wasm_view::WasmOperator;
 
 /// Returns the byte of an ordering.
@@ -31,10 +30,10 @@ fn target_flag(target: u16, index: u32) -> u8
 }
 
 /// Appends the index if a flag announces one.
-fn write_target(out: &mut ArrayVec<u8, 64>, target: u16, index: u32)
-    requires { array_vec_len out.old + 10 ≤ 64 }
+fn write_target(out: &mut Buffer, target: u16, index: u32)
+    requires { length out.old.items + 10 ≤ 64 }
     ensures bytes { out.new.items ≡ out.old.items ++ target_bytes target index }
-    ensures len { array_vec_len out.new ≤ array_vec_len out.old + 10 }
+    ensures len { length out.new.items ≤ length out.old.items + 10 }
 {
     if target == 1 {
         write_unsigned(out, index as u64);
@@ -55,10 +54,10 @@ fn ordering_flag(ordering: u16) -> u8
 }
 
 /// Appends the byte of the ordering if a flag announces one.
-fn write_ordering(out: &mut ArrayVec<u8, 64>, ordering: u16)
-    requires { array_vec_len out.old + 1 ≤ 64 }
+fn write_ordering(out: &mut Buffer, ordering: u16)
+    requires { length out.old.items + 1 ≤ 64 }
     ensures bytes { out.new.items ≡ out.old.items ++ ordering_bytes ordering }
-    ensures len { array_vec_len out.new ≤ array_vec_len out.old + 1 }
+    ensures len { length out.new.items ≤ length out.old.items + 1 }
 {
     if ordering == 0 {
         return;
@@ -67,10 +66,10 @@ fn write_ordering(out: &mut ArrayVec<u8, 64>, ordering: u16)
 }
 
 /// Appends the memory argument.
-pub fn write_memory(out: &mut ArrayVec<u8, 64>, view: &WasmOperator)
-    requires { array_vec_len out.old + 22 ≤ 64 }
+pub fn write_memory(out: &mut Buffer, view: &WasmOperator)
+    requires { length out.old.items + 22 ≤ 64 }
     ensures bytes { out.new.items ≡ out.old.items ++ memory_bytes view.now }
-    ensures len { array_vec_len out.new ≤ array_vec_len out.old + 22 }
+    ensures len { length out.new.items ≤ length out.old.items + 22 }
 {
     let flags = ordering_flag(view.ordering) + target_flag(view.target, view.first);
     out.push(view.align % 16 + flags);

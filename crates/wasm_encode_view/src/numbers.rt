@@ -1,16 +1,14 @@
-//! Numbers in the fewest bytes, as `wasm_encode_numbers` writes them, into a vector of fixed
-//! capacity.
-ghost use Rattle.std.specs.Prelude.{◌≡◌, ◌+◌, ◌<◌, ◌≤◌, ◌^◌, ◌++◌, pos};
-ghost use Rattle.arrayvec.specs.ArrayVec.{array_vec_len};
+//! Numbers in the fewest bytes, as `wasm_encode_numbers` writes them, into a buffer.
+ghost use Rattle.std.specs.Prelude.{◌≡◌, ◌+◌, ◌<◌, ◌≤◌, ◌^◌, ◌++◌, length, pos};
 ghost use Rattle.wasm_encode_numbers.specs.Shortest.{unsigned_bytes, complemented, signed_septets, signed_bytes};
 
-use arrayvec::ArrayVec;
+use crate::buffer::Buffer;
 
 /// Appends an unsigned number: one to ten bytes.
-pub fn write_unsigned(out: &mut ArrayVec<u8, 64>, value: u64)
-    requires { array_vec_len out.old + 10 ≤ 64 }
+pub fn write_unsigned(out: &mut Buffer, value: u64)
+    requires { length out.old.items + 10 ≤ 64 }
     ensures bytes { out.new.items ≡ out.old.items ++ unsigned_bytes value }
-    ensures len { array_vec_len out.new ≤ array_vec_len out.old + 10 }
+    ensures len { length out.new.items ≤ length out.old.items + 10 }
 {
     let mut rest = value;
     for _septet in 0..9u32 {
@@ -35,11 +33,11 @@ fn complemented(negative: bool, low: u8) -> u8
 }
 
 /// Appends a number with this sign. `distance` is the number or, if it is negative, -1 minus it.
-fn write_with_sign(out: &mut ArrayVec<u8, 64>, negative: bool, distance: u64)
-    requires space { array_vec_len out.old + 10 ≤ 64 }
+fn write_with_sign(out: &mut Buffer, negative: bool, distance: u64)
+    requires space { length out.old.items + 10 ≤ 64 }
     requires fits { distance < 2 ^ 63 }
     ensures bytes { out.new.items ≡ out.old.items ++ signed_septets negative 9 distance }
-    ensures len { array_vec_len out.new ≤ array_vec_len out.old + 10 }
+    ensures len { length out.new.items ≤ length out.old.items + 10 }
 {
     let mut rest = distance;
     for _septet in 0..9u32 {
@@ -54,10 +52,10 @@ fn write_with_sign(out: &mut ArrayVec<u8, 64>, negative: bool, distance: u64)
 }
 
 /// Appends a signed number: one to ten bytes.
-pub fn write_signed(out: &mut ArrayVec<u8, 64>, value: i64)
-    requires { array_vec_len out.old + 10 ≤ 64 }
+pub fn write_signed(out: &mut Buffer, value: i64)
+    requires { length out.old.items + 10 ≤ 64 }
     ensures bytes { out.new.items ≡ out.old.items ++ signed_bytes value }
-    ensures len { array_vec_len out.new ≤ array_vec_len out.old + 10 }
+    ensures len { length out.new.items ≤ length out.old.items + 10 }
 {
     if value < 0 {
         write_with_sign(out, true, (-1 - value) as u64);
@@ -67,10 +65,10 @@ pub fn write_signed(out: &mut ArrayVec<u8, 64>, value: i64)
 }
 
 /// Appends a type index as a positive signed number: one to five bytes.
-pub fn write_index(out: &mut ArrayVec<u8, 64>, index: u32)
-    requires { array_vec_len out.old + 10 ≤ 64 }
+pub fn write_index(out: &mut Buffer, index: u32)
+    requires { length out.old.items + 10 ≤ 64 }
     ensures bytes { out.new.items ≡ out.old.items ++ signed_bytes (pos index) }
-    ensures len { array_vec_len out.new ≤ array_vec_len out.old + 10 }
+    ensures len { length out.new.items ≤ length out.old.items + 10 }
 {
     write_with_sign(out, false, index as u64);
 }

@@ -1,16 +1,15 @@
 //! Types, from the numbers in the C struct.
-ghost use Rattle.std.specs.Prelude.{◌≡◌, ◌+◌, ◌≤◌, ◌++◌};
-ghost use Rattle.arrayvec.specs.ArrayVec.{array_vec_len};
+ghost use Rattle.std.specs.Prelude.{◌≡◌, ◌+◌, ◌≤◌, ◌++◌, length};
 ghost use Rattle.wasm_encode_view.specs.Bytes.{heap_bytes, null_bytes, reference_bytes, value_bytes, block_bytes, null_flag, cast_bytes};
 
+use crate::buffer::Buffer;
 use crate::numbers::{write_index, write_unsigned};
-use arrayvec::ArrayVec;
 
 /// Appends a heap type.
-pub fn write_heap(out: &mut ArrayVec<u8, 64>, kind: u32, index: u32)
-    requires { array_vec_len out.old + 11 ≤ 64 }
+pub fn write_heap(out: &mut Buffer, kind: u32, index: u32)
+    requires { length out.old.items + 11 ≤ 64 }
     ensures bytes { out.new.items ≡ out.old.items ++ heap_bytes kind index }
-    ensures len { array_vec_len out.new ≤ array_vec_len out.old + 11 }
+    ensures len { length out.new.items ≤ length out.old.items + 11 }
 {
     if kind == 1 {
         write_index(out, index);
@@ -30,10 +29,10 @@ pub fn write_heap(out: &mut ArrayVec<u8, 64>, kind: u32, index: u32)
 }
 
 /// Appends a reference type that includes null.
-fn write_null(out: &mut ArrayVec<u8, 64>, kind: u32, index: u32)
-    requires { array_vec_len out.old + 12 ≤ 64 }
+fn write_null(out: &mut Buffer, kind: u32, index: u32)
+    requires { length out.old.items + 12 ≤ 64 }
     ensures bytes { out.new.items ≡ out.old.items ++ null_bytes kind index }
-    ensures len { array_vec_len out.new ≤ array_vec_len out.old + 12 }
+    ensures len { length out.new.items ≤ length out.old.items + 12 }
 {
     if kind < 3 {
         out.push(0x63);
@@ -43,10 +42,10 @@ fn write_null(out: &mut ArrayVec<u8, 64>, kind: u32, index: u32)
     write_heap(out, kind, index);
 }
 
-fn write_reference(out: &mut ArrayVec<u8, 64>, kind: u32, index: u32)
-    requires { array_vec_len out.old + 12 ≤ 64 }
+fn write_reference(out: &mut Buffer, kind: u32, index: u32)
+    requires { length out.old.items + 12 ≤ 64 }
     ensures bytes { out.new.items ≡ out.old.items ++ reference_bytes kind index }
-    ensures len { array_vec_len out.new ≤ array_vec_len out.old + 12 }
+    ensures len { length out.new.items ≤ length out.old.items + 12 }
 {
     if kind < 512 {
         out.push(0x64);
@@ -57,10 +56,10 @@ fn write_reference(out: &mut ArrayVec<u8, 64>, kind: u32, index: u32)
 }
 
 /// Appends a value type.
-pub fn write_value(out: &mut ArrayVec<u8, 64>, kind: u32, index: u32)
-    requires { array_vec_len out.old + 12 ≤ 64 }
+pub fn write_value(out: &mut Buffer, kind: u32, index: u32)
+    requires { length out.old.items + 12 ≤ 64 }
     ensures bytes { out.new.items ≡ out.old.items ++ value_bytes kind index }
-    ensures len { array_vec_len out.new ≤ array_vec_len out.old + 12 }
+    ensures len { length out.new.items ≤ length out.old.items + 12 }
 {
     if kind < 1024 {
         out.push((kind % 256) as u8);
@@ -70,10 +69,10 @@ pub fn write_value(out: &mut ArrayVec<u8, 64>, kind: u32, index: u32)
 }
 
 /// Appends a block type.
-pub fn write_block(out: &mut ArrayVec<u8, 64>, kind: u32, index: u32)
-    requires { array_vec_len out.old + 12 ≤ 64 }
+pub fn write_block(out: &mut Buffer, kind: u32, index: u32)
+    requires { length out.old.items + 12 ≤ 64 }
     ensures bytes { out.new.items ≡ out.old.items ++ block_bytes kind index }
-    ensures len { array_vec_len out.new ≤ array_vec_len out.old + 12 }
+    ensures len { length out.new.items ≤ length out.old.items + 12 }
 {
     if kind == 0 {
         write_index(out, index);
@@ -91,17 +90,10 @@ fn null_flag(kind: u32) -> u8
 }
 
 /// Appends the flags, the label and both heap types of a cast.
-pub fn write_cast(
-    out: &mut ArrayVec<u8, 64>,
-    label: u32,
-    from: u32,
-    from_index: u32,
-    to: u32,
-    to_index: u32,
-)
-    requires { array_vec_len out.old + 33 ≤ 64 }
+pub fn write_cast(out: &mut Buffer, label: u32, from: u32, from_index: u32, to: u32, to_index: u32)
+    requires { length out.old.items + 33 ≤ 64 }
     ensures bytes { out.new.items ≡ out.old.items ++ cast_bytes label from from_index to to_index }
-    ensures len { array_vec_len out.new ≤ array_vec_len out.old + 33 }
+    ensures len { length out.new.items ≤ length out.old.items + 33 }
 {
     out.push(null_flag(from) + 2 * null_flag(to));
     write_unsigned(out, label as u64);

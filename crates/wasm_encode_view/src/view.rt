@@ -1,6 +1,5 @@
 //! The bytes of a C struct.
-ghost use Rattle.std.specs.Prelude.{◌≡◌, ◌+◌, ◌≤◌, ◌++◌, [], ℕ, List, IsTrue, ◌↔◌};
-ghost use Rattle.arrayvec.specs.ArrayVec.{array_vec_len};
+ghost use Rattle.std.specs.Prelude.{◌≡◌, ◌+◌, ◌≤◌, ◌++◌, length, [], ℕ, List, IsTrue, ◌↔◌};
 ghost use Rattle.wasm_below.specs.declared.features.WasmFeatures.{WasmFeatures};
 ghost use Rattle.wasm_instr.specs.declared.operator.Operator.{Operator};
 ghost use Rattle.wasm_instr.specs.Encoding.{EncodesOperator};
@@ -11,10 +10,10 @@ ghost use Rattle.wasm_view.specs.View.{view_of};
 ghost use Rattle.std.specs.Int.{w64, to_le_bytes};
 ghost use Rattle.wasm_encode_view.specs.Bytes.{opcode_bytes, two_bytes, float_bytes, immediate_bytes, view_bytes, list_shape};
 
+use crate::buffer::Buffer;
 use crate::memory::{order_byte, write_memory};
 use crate::numbers::{write_signed, write_unsigned};
 use crate::types::{write_block, write_cast, write_heap, write_value};
-use arrayvec::ArrayVec;
 use wasm_instr::Operator;
 use wasm_view::{WasmOperator, view_of};
 
@@ -40,7 +39,7 @@ fn is_list_shape(shape: u8) -> bool
 
 /// Writes the C struct of an operator without a list: the operator's shortest encoding, if it has
 /// one. The bytes of any other C struct have no meaning.
-pub fn write_view(view: &WasmOperator) -> ArrayVec<u8, 64>
+pub fn write_view(view: &WasmOperator) -> Buffer
     ensures { (f : WasmFeatures) (op : Operator) (at : ℕ) (text : List ℕ) → view.now ≡ view_of (op, at)
         → ¬ HoldList (immediates_of op) → EncodesOperator f text op → Appends (EncodesOperator f) op [] result.items }
 {
@@ -48,20 +47,20 @@ pub fn write_view(view: &WasmOperator) -> ArrayVec<u8, 64>
 }
 
 /// Returns the opcode and the immediates.
-fn write_bytes(view: &WasmOperator) -> ArrayVec<u8, 64>
+fn write_bytes(view: &WasmOperator) -> Buffer
     ensures { result.items ≡ view_bytes view.now }
 {
-    let mut out = ArrayVec::<u8, 64>::new();
+    let mut out = Buffer::new();
     write_opcode(&mut out, view.opcode);
     write_immediates(&mut out, view);
     out
 }
 
 /// Appends the opcode, or the prefix byte and the subopcode.
-fn write_opcode(out: &mut ArrayVec<u8, 64>, opcode: u32)
-    requires { array_vec_len out.old + 11 ≤ 64 }
+fn write_opcode(out: &mut Buffer, opcode: u32)
+    requires { length out.old.items + 11 ≤ 64 }
     ensures bytes { out.new.items ≡ out.old.items ++ opcode_bytes opcode }
-    ensures len { array_vec_len out.new ≤ array_vec_len out.old + 11 }
+    ensures len { length out.new.items ≤ length out.old.items + 11 }
 {
     if opcode < 65536 {
         out.push((opcode % 256) as u8);
@@ -72,8 +71,8 @@ fn write_opcode(out: &mut ArrayVec<u8, 64>, opcode: u32)
 }
 
 /// Appends the immediates of each shape but those with a list.
-fn write_immediates(out: &mut ArrayVec<u8, 64>, view: &WasmOperator)
-    requires { array_vec_len out.old + 33 ≤ 64 }
+fn write_immediates(out: &mut Buffer, view: &WasmOperator)
+    requires { length out.old.items + 33 ≤ 64 }
     ensures { out.new.items ≡ out.old.items ++ immediate_bytes view.now }
 {
     match view.shape {
@@ -116,35 +115,35 @@ fn write_immediates(out: &mut ArrayVec<u8, 64>, view: &WasmOperator)
     }
 }
 
-fn write_two(out: &mut ArrayVec<u8, 64>, first: u32, second: u32)
-    requires { array_vec_len out.old + 20 ≤ 64 }
+fn write_two(out: &mut Buffer, first: u32, second: u32)
+    requires { length out.old.items + 20 ≤ 64 }
     ensures { out.new.items ≡ out.old.items ++ two_bytes first second }
 {
     write_unsigned(out, first as u64);
     write_unsigned(out, second as u64);
 }
 
-fn write_float_32(out: &mut ArrayVec<u8, 64>, bits: u64)
-    requires { array_vec_len out.old + 4 ≤ 64 }
+fn write_float_32(out: &mut Buffer, bits: u64)
+    requires { length out.old.items + 4 ≤ 64 }
     ensures { out.new.items ≡ out.old.items ++ float_bytes bits }
 {
     let bytes = ((bits % 0x1_0000_0000) as u32).to_le_bytes();
-    out.try_extend_from_slice(&bytes).unwrap();
+    out.extend(&bytes);
 }
 
-fn write_float_64(out: &mut ArrayVec<u8, 64>, bits: u64)
-    requires { array_vec_len out.old + 8 ≤ 64 }
+fn write_float_64(out: &mut Buffer, bits: u64)
+    requires { length out.old.items + 8 ≤ 64 }
     ensures { out.new.items ≡ out.old.items ++ to_le_bytes w64 bits }
 {
     let bytes = bits.to_le_bytes();
-    out.try_extend_from_slice(&bytes).unwrap();
+    out.extend(&bytes);
 }
 
-fn write_sixteen(out: &mut ArrayVec<u8, 64>, view: &WasmOperator)
-    requires { array_vec_len out.old + 16 ≤ 64 }
+fn write_sixteen(out: &mut Buffer, view: &WasmOperator)
+    requires { length out.old.items + 16 ≤ 64 }
     ensures { out.new.items ≡ out.old.items ++ view.now.bytes }
 {
-    out.try_extend_from_slice(&view.bytes).unwrap();
+    out.extend(&view.bytes);
 }
 
 /// Returns whether the C struct is the operator's.
