@@ -28,7 +28,7 @@ raw_section = do
 abbrev pub SectionReason : RawSection → Message → Type 0
 SectionReason s m = ((m ≡ message.Malformed malformed.SectionId) × (127 < s.id)) ⊎ SizedReason s.bytes m
 
--- The bytes begin as those of a module do after its first two.
+-- Contents with which a section begins as a module does, if its id and its size are right.
 abbrev pub BeginsSo : List ℕ → Type 0
 BeginsSo bytes = (more : List ℕ) × (bytes ≡ 0x73 ∷ 0x6d ∷ more)
 

@@ -96,7 +96,7 @@ pub(crate) fn begins_as_module(section: &SectionContents<'_>) -> bool
     begins_so(bytes)
 }
 
-/// Returns whether the bytes after the size begin as those of a module do.
+/// Returns whether contents begin with the bytes 0x73 and 0x6d.
 fn begins_so(bytes: &[u8]) -> bool
     ensures { IsTrue result ↔ BeginsSo bytes.now }
 {

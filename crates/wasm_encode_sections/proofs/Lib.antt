@@ -7,3 +7,7 @@ pub mod SubtypeBytes
 pub mod SubtypeSteps
 pub mod GroupSteps
 pub mod ItemSteps
+pub mod FlagBytes
+pub mod ExternalSteps
+pub mod LimitSteps
+pub mod ImportSteps

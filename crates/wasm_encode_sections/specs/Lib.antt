@@ -1,3 +1,5 @@
 pub mod Subtypes
 pub mod TypeReasons
 pub mod ItemReasons
+pub mod Flags
+pub mod ExternalReasons

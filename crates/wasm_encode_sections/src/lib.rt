@@ -5,11 +5,16 @@
 #![tactic(auto)]
 
 mod composites;
+mod external_types;
 mod fields;
+mod flags;
 mod functions;
+mod imports;
+mod limits;
 mod lists;
 mod parts;
 mod recursive;
+mod texts;
 mod value_types;
 mod write;
 

@@ -2,13 +2,22 @@ use crate::failure::Failure;
 use std::alloc::Global;
 use wasm_below::{BinaryReader, WasmFeatures};
 use wasm_encode_modules::{SectionContents, write_module};
-use wasm_encode_sections::append_items;
+use wasm_encode_sections::{Write, append_items};
+use wasm_externals::{Export, Import, MemoryType, TagType};
 use wasm_sections::{Section, read_items, read_sections};
 use wasm_types::RecGroup;
 
 const TYPES: u8 = 1;
 
+const IMPORTS: u8 = 2;
+
 const FUNCTIONS: u8 = 3;
+
+const MEMORIES: u8 = 5;
+
+const EXPORTS: u8 = 7;
+
+const TAGS: u8 = 13;
 
 /// Reads the sections of a module, writes the items that are read as values, and writes the module.
 pub fn rewrite(alloc: Global, bytes: &[u8]) -> Result<Vec<u8>, Failure> {
@@ -30,15 +39,19 @@ pub fn rewrite(alloc: Global, bytes: &[u8]) -> Result<Vec<u8>, Failure> {
     Ok(module)
 }
 
-fn write_contents(
+fn write_contents<'a>(
     alloc: Global,
     features: WasmFeatures,
-    section: &Section<'_>,
+    section: &Section<'a>,
     written: &mut Vec<u8>,
 ) -> Result<(), Failure> {
     match section.id() {
         TYPES => write_types(alloc, features, section, written),
+        IMPORTS => write_items::<Import<'a>>(alloc, features, section, written),
         FUNCTIONS => write_functions(alloc, features, section, written),
+        MEMORIES => write_items::<MemoryType>(alloc, features, section, written),
+        EXPORTS => write_items::<Export<'a>>(alloc, features, section, written),
+        TAGS => write_items::<TagType>(alloc, features, section, written),
         _ => {
             let contents = section.contents();
             written.extend_from_slice(contents.remaining_buffer())?;
@@ -76,4 +89,16 @@ fn write_functions(
         return Ok(());
     }
     Err(Failure::Different)
+}
+
+/// Writes the items of a section.
+fn write_items<'a, T: Write<'a>>(
+    alloc: Global,
+    features: WasmFeatures,
+    section: &Section<'a>,
+    written: &mut Vec<u8>,
+) -> Result<(), Failure> {
+    let items = read_items::<T>(alloc, section.contents())?;
+    append_items(written, features, items.as_slice())?;
+    Ok(())
 }
