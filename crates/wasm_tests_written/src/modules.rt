@@ -4,6 +4,7 @@ use wasm_below::{BinaryReader, WasmFeatures};
 use wasm_encode_modules::{SectionContents, write_module};
 use wasm_encode_sections::{Write, append_items};
 use wasm_externals::{Export, Import, MemoryType, TagType};
+use wasm_imm::Members;
 use wasm_sections::{Section, read_items, read_sections};
 use wasm_types::RecGroup;
 
@@ -23,7 +24,7 @@ const TAGS: u8 = 13;
 pub fn rewrite(alloc: Global, bytes: &[u8]) -> Result<Vec<u8>, Failure> {
     let reader = BinaryReader::new(bytes, 0);
     let features = reader.features();
-    let sections = read_sections(alloc, reader)?;
+    let sections: Members<Section<'_>> = read_sections(alloc, reader)?;
     let mut contents = Vec::new(alloc);
     for section in &sections {
         let mut written = Vec::new(alloc);
