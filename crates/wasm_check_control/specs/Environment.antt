@@ -14,6 +14,7 @@ use Rattle.wasm_check_control.specs.declared.context.StorageType.{StorageType}
 use Rattle.wasm_check_control.specs.declared.context.StorageType.TheVariants as storage
 use Rattle.wasm_check_control.specs.declared.context.GlobalType.{GlobalType}
 use Rattle.wasm_check_control.specs.declared.context.StructType.{StructType}
+use Rattle.wasm_check_control.specs.declared.context.LocalType.{LocalType}
 use Rattle.wasm_check_control.specs.declared.context.TableType.{TableType}
 
 pub record Global : Type 0 where
@@ -36,20 +37,21 @@ is_packed storage.I8 = true
 is_packed storage.I16 = true
 is_packed (storage.Val v) = false
 
--- By index: function types, fields of structure types, elements of array types, functions, locals that
--- are set at the start, globals, tables, whether the addresses of a memory are i64, the types of
--- element segments, data segments, functions that are declared as references, and the type indices of
--- functions. And the results of the function.
+-- By index: function types, fields of structure types, elements of array types, functions, locals,
+-- globals, tables, whether the addresses of a memory are i64, tags, the types of element segments, data
+-- segments, functions that are declared as references, and the type indices of functions. And the
+-- results of the function.
 pub record Environment : Type 0 where
   pub order : matching.TypeOrder
   pub types : ℕ → Option FunctionType
   pub structures : ℕ → Option (List FieldType)
   pub arrays : ℕ → Option FieldType
   pub functions : ℕ → Option FunctionType
-  pub locals : ℕ → Option ValType
+  pub locals : ℕ → Option LocalType
   pub globals : ℕ → Option Global
   pub tables : ℕ → Option Table
   pub memories : ℕ → Option Bool
+  pub tags : ℕ → Option FunctionType
   pub elements : ℕ → Option Reference
   pub has_data : ℕ → Bool
   pub is_declared : ℕ → Bool

@@ -20,6 +20,15 @@ pub struct FuncType<'m> {
     pub results: &'m [ValType],
 }
 
+/// A local.
+#[derive(Clone, Copy, Debug)]
+pub struct LocalType {
+    pub content_type: ValType,
+    /// Whether the local is set when the function starts: it is a parameter, or its type has a
+    /// default value.
+    pub is_set: bool,
+}
+
 #[derive(Clone, Copy, Debug)]
 pub struct GlobalType {
     pub content_type: ValType,
@@ -111,9 +120,8 @@ pub trait ModuleContext {
     fn function_type(&self, index: u32) -> Option<FuncType<'_>>
         ensures { option_map type_of result ≡ (environment self.now).functions index };
 
-    /// Returns the type of a local that is set when the function starts: a parameter, or a local
-    /// whose type has a default value.
-    fn local_type(&self, index: u32) -> Option<ValType>
+    /// Returns the type of a local. The context of a module alone has no locals.
+    fn local_type(&self, index: u32) -> Option<LocalType>
         ensures { result ≡ (environment self.now).locals index };
 
     fn global_type(&self, index: u32) -> Option<GlobalType>
@@ -125,6 +133,10 @@ pub trait ModuleContext {
     /// Returns whether the addresses of a memory are `i64`.
     fn memory64(&self, index: u32) -> Option<bool>
         ensures { result ≡ (environment self.now).memories index };
+
+    /// Returns the type of a tag. Its parameters are the operands of an exception.
+    fn tag_type(&self, index: u32) -> Option<FuncType<'_>>
+        ensures { option_map type_of result ≡ (environment self.now).tags index };
 
     /// Returns the type of the elements of a segment.
     fn element_type(&self, index: u32) -> Option<RefType>
@@ -142,7 +154,7 @@ pub trait ModuleContext {
     fn type_index(&self, function_index: u32) -> Option<u32>
         ensures { result ≡ (environment self.now).type_indices function_index };
 
-    /// Returns the results of the function.
+    /// Returns the results of the function. The context of a module alone has none.
     fn results(&self) -> &[ValType]
         ensures { stack_of result.now ≡ (environment self.now).results };
 }

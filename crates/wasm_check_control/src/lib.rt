@@ -13,8 +13,8 @@ mod rules;
 mod value_matches;
 
 pub use context::{
-    CompositeKind, FieldType, FuncType, GlobalType, ModuleContext, StorageType, StructType,
-    TableType,
+    CompositeKind, FieldType, FuncType, GlobalType, LocalType, ModuleContext, StorageType,
+    StructType, TableType,
 };
 pub use control::{Control, Mismatch};
 pub use frame::{Frame, FrameKind, ResultTypes};
