@@ -16,7 +16,7 @@ GROUPS = [
     ("Payloads of a module", "wasm_payloads"),
     ("Trees", "wasm_grammar"),
     ("Types of instructions", "wasm_typing/Types wasm_typing/Matching wasm_typing/Rules wasm_typing/Typing wasm_typing/Checking wasm_typing/Steps"),
-    ("The state of a type checker", "wasm_check_control/Environment wasm_check_control/Selects wasm_check_control/Segments wasm_check_control/State wasm_check_control/Switches"),
+    ("The state of a type checker", "wasm_check_control/Environment wasm_check_control/Selects wasm_check_control/Segments wasm_check_control/SetLocals wasm_check_control/State wasm_check_control/Switches"),
     ("Equal types and subtypes", "wasm_subtypes"),
     ("The rules of operators", "wasm_check_operators/Language"),
     ("Typed expressions", "wasm_check/Typed"),

@@ -7,6 +7,7 @@ use Rattle.wasm_typing.specs.Steps.{frame_label, labels_of}
 use Rattle.wasm_typing.specs.Steps as steps
 use Rattle.wasm_check_control.specs.declared.frame.Frame.{Frame}
 use Rattle.wasm_check_control.specs.State.{construct_of, type_of_frame, frames_with, frames_of, StandsAlone}
+use Rattle.wasm_check_control.specs.State.{around as outside}
 
 unfoldable pub label_of_frame : Frame → Stack
 label_of_frame f = frame_label (construct_of f.kind) (type_of_frame f)
@@ -55,3 +56,23 @@ label_past (Some f) around ss old e alone is depth nonzero p =
     ap (λ o. at (labels_of o) depth) (sym is) ∙ ap (λ l. at l depth) (labels_map (f ∷ reverse around) ss e) ∙
     at_past (map label_of_frame (f ∷ reverse around)) depth
     (let n = map_length (f ∷ reverse around) in let m = length-reverse around in omega (arith, n, m, p))
+
+-- Whether a frame is around the innermost.
+frames_none : (fs : List Frame) (ss : List Stack) → length fs ≡ length ss → frames_with fs ss ≡ [] → fs ≡ []
+frames_none [] ss n e = refl
+frames_none (f ∷ fs) [] n e = absurd (omega (arith, n))
+frames_none (f ∷ fs) (s ∷ ss) n e = absurd (cc e)
+
+none_reversed : (fs : List Frame) → reverse fs ≡ [] → fs ≡ []
+none_reversed [] e = refl
+none_reversed (f ∷ fs) e = let n = length-reverse (f ∷ fs) in let z : length (reverse (f ∷ fs)) ≡ 0 = ap length e in absurd (omega (arith, n, z))
+
+pub outermost_there : (current : Option Frame) (around : List Frame) (ss : List Stack) (old : List steps.Frame) →
+    length (frames_of current around) ≡ length ss → StandsAlone current around → frames_with (frames_of current around) ss ≡ old →
+    (around ≡ [] → outside old ≡ []) × (outside old ≡ [] → around ≡ [])
+outermost_there None around ss old n alone is = (λ e. ap outside (sym is), λ e. alone)
+outermost_there (Some f) around [] old n alone is = absurd (omega (arith, n))
+outermost_there (Some f) around (s ∷ ss) old n alone is = (
+  λ e. ap outside (sym is) ∙ ap (λ a. frames_with (reverse a) ss) e,
+  λ e. none_reversed around (frames_none (reverse around) ss (omega (arith, n)) (ap outside is ∙ e)),
+)

@@ -1,4 +1,6 @@
 pub mod SegmentLemmas
+pub mod SetLists
+pub mod WithSet
 pub mod Taking
 pub mod Labels
 pub mod Selects

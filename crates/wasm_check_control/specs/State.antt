@@ -3,7 +3,7 @@
 use Rattle.std.specs.Prelude.{◌≡◌, if◌then◌else◌, Bool, true, false, List, [], ◌∷◌, ◌++◌, reverse, Option, Some, None}
 use Rattle.std.specs.Option.{option_map, option_and_then}
 use Rattle.wasm_below.specs.declared.types.ValType.{ValType}
-use Rattle.wasm_grammar.specs.Role.{block, loop, Role, plain, opens, opens_if, turns_else, ends}
+use Rattle.wasm_grammar.specs.Role.{block, loop, try_table, Role, plain, opens, opens_if, turns_else, ends}
 use Rattle.wasm_typing.specs.declared.value_type.ValueType.{ValueType}
 use Rattle.wasm_typing.specs.declared.value_type.ValueType.TheVariants.{I32}
 use Rattle.wasm_typing.specs.declared.value_type.Heap.{Heap}
@@ -24,6 +24,7 @@ construct_of kind.Block = of_nest block
 construct_of kind.Loop = of_nest loop
 construct_of kind.If = of_if
 construct_of kind.Else = of_else
+construct_of kind.TryTable = of_nest try_table
 
 -- One operand of this type, or with None, operands of these types.
 abbrev pub results_of : Option ValueType → List ValType → Stack
@@ -75,6 +76,11 @@ took_ref frames = option_and_then (λ (p : ValueType × List steps.Frame). optio
 abbrev pub jumped : List steps.Frame → List steps.Frame
 jumped [] = []
 jumped (f ∷ outer) = with_now f (state [] true f.now.set) ∷ outer
+
+-- The frames around the innermost.
+abbrev pub around : List steps.Frame → List steps.Frame
+around [] = []
+around (f ∷ outer) = outer
 
 -- The innermost frame if it may end, and the frames around it.
 abbrev pub ended : TypeOrder → List steps.Frame → Option (Construct × FunctionType × List steps.Frame)

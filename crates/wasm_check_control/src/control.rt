@@ -3,7 +3,7 @@ ghost use Rattle.std.specs.Option.{option_map};
 ghost use Rattle.wasm_typing.specs.Rules.{at};
 ghost use Rattle.wasm_typing.specs.Steps.{receives, opened, set_in, labels_of};
 ghost use Rattle.wasm_check_control.specs.Environment.{stack_of};
-ghost use Rattle.wasm_check_control.specs.State.{taken, Answers, took, jumped, construct_of, results_of, type_of_frame, ended, turns_by, ends_by};
+ghost use Rattle.wasm_check_control.specs.State.{taken, Answers, took, jumped, around, construct_of, results_of, type_of_frame, ended, turns_by, ends_by};
 
 use crate::context::ModuleContext;
 use crate::frame::{Frame, FrameKind, ResultTypes};
@@ -286,7 +286,7 @@ impl<'m> Control<'m> {
                 self.enter(FrameKind::Else, frame.takes, frame.one, frame.leaves)?;
                 Ok(true)
             }
-            FrameKind::Block | FrameKind::Loop | FrameKind::Else => Ok(false),
+            FrameKind::Block | FrameKind::Loop | FrameKind::Else | FrameKind::TryTable => Ok(false),
         }
     }
 
@@ -305,6 +305,13 @@ impl<'m> Control<'m> {
         }
         self.give_results(frame.one, frame.leaves)?;
         Ok(true)
+    }
+
+    /// Returns whether no frame is around the innermost.
+    pub fn is_outermost(&self) -> bool
+        ensures { IsTrue result ↔ (around self.now ≡ []) }
+    {
+        self.around.is_empty()
     }
 
     pub fn is_closed(&self) -> bool

@@ -12,6 +12,7 @@ pub enum FrameKind {
     Loop,
     If,
     Else,
+    TryTable,
 }
 
 /// A list of value types: `one` if there is one, otherwise `many`. The last is on top of the stack.
@@ -44,10 +45,12 @@ impl<'m> Frame<'m> {
                 one: None,
                 many: self.takes,
             },
-            FrameKind::Block | FrameKind::If | FrameKind::Else => ResultTypes {
-                one: self.one,
-                many: self.leaves,
-            },
+            FrameKind::Block | FrameKind::If | FrameKind::Else | FrameKind::TryTable => {
+                ResultTypes {
+                    one: self.one,
+                    many: self.leaves,
+                }
+            }
         }
     }
 }

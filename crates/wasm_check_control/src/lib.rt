@@ -10,6 +10,7 @@ mod operands;
 mod peeks;
 mod references;
 mod rules;
+mod set_locals;
 mod value_matches;
 
 pub use context::{
@@ -21,4 +22,5 @@ pub use frame::{Frame, FrameKind, ResultTypes};
 pub use matching::heap_type_matches;
 pub use operands::Operands;
 pub use peeks::{all_match, count_of};
+pub use set_locals::SetLocals;
 pub use value_matches::{matches, select_type};

@@ -6,7 +6,7 @@ use Rattle.wasm_grammar.specs.Role.{Role, plain, turns_else, ends}
 use Rattle.wasm_typing.specs.Types.{Stack, FunctionType}
 use Rattle.wasm_typing.specs.Matching.{TypeOrder, IsOrder}
 use Rattle.wasm_typing.specs.Rules.{Context, order_of, jumps, sets, is_ready}
-use Rattle.wasm_typing.specs.Checking.{State, state, pop, run_rule, run_plain, closes, is_none_left}
+use Rattle.wasm_typing.specs.Checking.{State, state, pop, run_rule, run_plain, unset, closes, is_none_left}
 use Rattle.wasm_typing.specs.Steps.{Ending, jump, turn, close, role_of_ending, Construct, of_nest, of_if, of_else, Frame, within, set_in, opened, with_now, may_end, receives, step, steps, started, IsJump, Accepts, Continues, BeginsNone}
 use Rattle.wasm_typing.proofs.Walks.{through, typed_accepted}
 
@@ -26,16 +26,16 @@ any_closes O s set = ap is_none_left (any_left O s)
 
 -- What a jump leads to: which locals are set then does not matter.
 runs_jump : {A : Type 0} (D : Context A) (op : A) (k : State) → D.rules.rule D.labels op ≡ jumps [] → D.rules.needs op ≡ None →
-    run_plain D op k ≡ Some (state [] true (sets D op ++ k.set))
+    run_plain D op k ≡ Some (state [] true (unset D (sets D op) k.set ++ k.set))
 runs_jump D op k j n =
-    ap (λ o. if is_ready D o k.set then option_map (λ (next : State). state next.operands next.unreachable (sets D op ++ k.set)) (run_rule (order_of D) (D.rules.rule D.labels op) k) else None) n ∙
-    ap (λ r. option_map (λ (next : State). state next.operands next.unreachable (sets D op ++ k.set)) (run_rule (order_of D) r k)) j
+    ap (λ o. if is_ready D o k.set then option_map (λ (next : State). state next.operands next.unreachable (unset D (sets D op) k.set ++ k.set)) (run_rule (order_of D) (D.rules.rule D.labels op) k) else None) n ∙
+    ap (λ r. option_map (λ (next : State). state next.operands next.unreachable (unset D (sets D op) k.set ++ k.set)) (run_rule (order_of D) r k)) j
 
 jumps_step : {A : Type 0} (C : Context A) (op : A) → IsJump C op → (frame : Frame) (outer : List Frame) →
     (set : List ℕ) × ((roles : List (Role A)) → steps C (frame ∷ outer) (plain op ∷ roles) ≡ steps C (with_now frame (state [] true set) ∷ outer) roles)
 jumps_step {A} C op is frame outer =
     let D : Context A = within C (frame ∷ outer) in (
-      sets D op ++ frame.now.set,
+      unset D (sets D op) frame.now.set ++ frame.now.set,
       λ roles. ap (λ o. option_and_then (λ (next : List Frame). steps C next roles) (option_map (λ now. with_now frame now ∷ outer) o))
           (runs_jump D op frame.now (is.jumps_always D.labels) is.needs_none),
     )

@@ -1,6 +1,7 @@
 -- The algorithm on trees, and the typing rules.
 use Rattle.std.proofs.Common.{◌≡◌, ℕ, Bool, true, false, ◌||◌, if◌then◌else◌, List, [], ◌∷◌, ◌++◌, Option, Some, None, refl, sym, ap, subst, ◌∙◌, append_assoc}
 use Rattle.std.specs.Prelude.{nat_eq}
+use Rattle.std.proofs.lemmas.Bool.{eqb-true}
 use Rattle.std.proofs.lemmas.List.{append-nil}
 use Rattle.std.specs.Option.{option_map, option_and_then}
 use Rattle.wasm_grammar.specs.Tree.{Instruction, single, nest, if_one, if_two, Instructions, nil, cons, try_handle, try_delegate}
@@ -9,7 +10,7 @@ use Rattle.wasm_typing.specs.Types.{Stack, FunctionType}
 use Rattle.wasm_typing.specs.Matching.{TypeOrder, IsOrder, AllMatch}
 use Rattle.wasm_typing.specs.Rules.{Context, order_of, rule_of, construct_type, needs, sets, label_of, inside, is_ready, is_member, SetsWithin}
 use Rattle.wasm_typing.specs.Typing.{Typed, by_rule, of_nest, of_if_one, of_if_two, AllTyped, none, one, more, frame, subsumed}
-use Rattle.wasm_typing.specs.Checking.{State, state, Holds, pop, closes, after, run_rule, run_one, run_all}
+use Rattle.wasm_typing.specs.Checking.{State, state, Holds, pop, closes, unset, after, run_rule, run_one, run_all}
 use Rattle.wasm_typing.proofs.Stacks.{chosen, choose, bound, bind, mapped, all_match_itself, holds_more, holds_itself, match_append, pop_sound, pop_complete, push_complete, push_sound, closes_sound, closes_complete}
 use Rattle.wasm_typing.proofs.Single.{rule_sound, rule_complete}
 
@@ -27,6 +28,44 @@ sets_more C (y ∷ s) xs ys w = λ x e. one_more (C.rules.is_set x) (nat_eq x y)
 ready_more : {A : Type 0} → (C : Context A) (n : Option ℕ) (xs ys : List ℕ) → SetsWithin C xs ys → is_ready C n xs ≡ true → is_ready C n ys ≡ true
 ready_more C None xs ys w e = refl
 ready_more C (Some x) xs ys w e = w x e
+
+-- The algorithm adds a local only if it is not set.
+more_ready : {A : Type 0} (C : Context A) (z x : ℕ) (xs : List ℕ) → is_ready C (Some z) xs ≡ true → is_ready C (Some z) (x ∷ xs) ≡ true
+more_ready C z x xs e = go (C.rules.is_set z) (nat_eq z x) (is_member z xs) e
+  where
+    go : (start first others : Bool) → (start || others) ≡ true → (start || (first || others)) ≡ true
+    go true first others e = refl
+    go false true others e = refl
+    go false false others e = e
+
+all_ready : {A : Type 0} (C : Context A) (z : ℕ) (xs ys : List ℕ) → is_ready C (Some z) ys ≡ true → is_ready C (Some z) (xs ++ ys) ≡ true
+all_ready C z [] ys e = e
+all_ready C z (x ∷ xs) ys e = more_ready C z x (xs ++ ys) (all_ready C z xs ys e)
+
+unset_within : {A : Type 0} (C : Context A) (set xs : List ℕ) → SetsWithin C (unset C xs set ++ set) (xs ++ set)
+unset_within C set [] = λ z e. e
+unset_within C set (x ∷ xs) = go (is_ready C (Some x) set) (unset_within C set xs)
+  where
+    go : (test : Bool) → SetsWithin C (unset C xs set ++ set) (xs ++ set) → SetsWithin C ((if test then unset C xs set else x ∷ unset C xs set) ++ set) (x ∷ (xs ++ set))
+    go true w = λ z e. more_ready C z x (xs ++ set) (w z e)
+    go false w = sets_more C (x ∷ []) (unset C xs set ++ set) (xs ++ set) w
+
+either : (start first before after : Bool) → (first ≡ true → (start || after) ≡ true) → ((start || before) ≡ true → (start || after) ≡ true) →
+    (start || (first || before)) ≡ true → (start || after) ≡ true
+either true first before after f g e = refl
+either false true before after f g e = f refl
+either false false before after f g e = g e
+
+within_unset : {A : Type 0} (C : Context A) (set k : List ℕ) → SetsWithin C set k → (xs : List ℕ) → SetsWithin C (xs ++ set) (unset C xs k ++ k)
+within_unset C set k w [] = w
+within_unset C set k w (x ∷ xs) = go (is_ready C (Some x) k) refl (within_unset C set k w xs)
+  where
+    go : (test : Bool) → is_ready C (Some x) k ≡ test → SetsWithin C (xs ++ set) (unset C xs k ++ k) →
+        SetsWithin C (x ∷ (xs ++ set)) ((if test then unset C xs k else x ∷ unset C xs k) ++ k)
+    go true is h = λ z e.
+        either (C.rules.is_set z) (nat_eq z x) (is_member z (xs ++ set)) (is_member z (unset C xs k ++ k))
+        (λ same. subst (λ y. is_ready C (Some y) (unset C xs k ++ k) ≡ true) (sym (eqb-true z x same)) (all_ready C x (unset C xs k) k is)) (h z) e
+    go false is h = sets_more C (x ∷ []) (xs ++ set) (unset C xs k ++ k) h
 
 -- The algorithm continues, the frame may then hold these operands, and these locals are set.
 pub record Runs {A : Type 0} (C : Context A) (o : Option State) (w : Stack) (set : List ℕ) : Type 0 where
@@ -84,13 +123,14 @@ mutual
   run_typed : {A : Type 0} → (i : Instruction A) (C : Context A) → IsOrder (order_of C) → (k next : State) (w : Stack) →
       run_one C i k ≡ Some next → Holds (order_of C) next.operands next.unreachable w → Begun C (cons i nil) k next w
   run_typed (single op) C ok k next w e h =
-      let r = chosen (is_ready C (needs C op) k.set) (option_map (λ next. state next.operands next.unreachable (sets C op ++ k.set)) (run_rule (order_of C) (rule_of C op) k)) next e in
-      let m = mapped (λ (next : State). state next.operands next.unreachable (sets C op ++ k.set)) (run_rule (order_of C) (rule_of C op) k) next r.1 in
+      let r = chosen (is_ready C (needs C op) k.set) (option_map (λ next. state next.operands next.unreachable (unset C (sets C op) k.set ++ k.set)) (run_rule (order_of C) (rule_of C op) k)) next e in
+      let m = mapped (λ (next : State). state next.operands next.unreachable (unset C (sets C op) k.set ++ k.set)) (run_rule (order_of C) (rule_of C op) k) next r.1 in
       let b = rule_sound (order_of C) ok (rule_of C op) k m.0 w m.1 (subst (λ x. Holds (order_of C) x.operands x.unreachable w) (sym m.2) h) in
       record {
         from = b.from ++ b.below;
-        xs = sets C op;
-        typed = subsumed (b.from ++ b.below) w (sets C op) (all_match_itself (order_of C) ok (b.from ++ b.below)) (frame b.below (one (by_rule b.types r.0))) b.becomes (λ x m. m);
+        xs = unset C (sets C op) k.set;
+        typed = subsumed (b.from ++ b.below) w (unset C (sets C op) k.set) (all_match_itself (order_of C) ok (b.from ++ b.below)) (frame b.below (one (by_rule b.types r.0))) b.becomes
+            (unset_within C k.set (sets C op));
         holds = b.holds;
         set_is = ap (λ (x : State). x.set) (sym m.2);
       }
@@ -185,12 +225,12 @@ mutual
   typed_runs {C} {set} {i} {from} {xs} {to} (by_rule {op = op} y ready) ok k below within h =
       let r = rule_complete (order_of C) ok (rule_of C op) k from to below y h in
       record {
-        next = state r.0.operands r.0.unreachable (sets C op ++ k.set);
-        is = choose (is_ready C (needs C op) k.set) (option_map (λ next. state next.operands next.unreachable (sets C op ++ k.set)) (run_rule (order_of C) (rule_of C op) k))
-            (state r.0.operands r.0.unreachable (sets C op ++ k.set)) (ready_more C (needs C op) set k.set within ready)
-            (ap (option_map (λ (next : State). state next.operands next.unreachable (sets C op ++ k.set))) r.1);
+        next = state r.0.operands r.0.unreachable (unset C (sets C op) k.set ++ k.set);
+        is = choose (is_ready C (needs C op) k.set) (option_map (λ next. state next.operands next.unreachable (unset C (sets C op) k.set ++ k.set)) (run_rule (order_of C) (rule_of C op) k))
+            (state r.0.operands r.0.unreachable (unset C (sets C op) k.set ++ k.set)) (ready_more C (needs C op) set k.set within ready)
+            (ap (option_map (λ (next : State). state next.operands next.unreachable (unset C (sets C op) k.set ++ k.set))) r.1);
         holds = r.2;
-        grown = sets_more C (sets C op) set k.set within;
+        grown = within_unset C set k.set within (sets C op);
       }
   typed_runs {C} {set} (of_nest {n = n} {op = op} {body = body} f xs e d) ok k below within h =
       let p = pop_complete (order_of C) ok f.takes k.operands k.unreachable f.takes below h (all_match_itself (order_of C) ok f.takes) in

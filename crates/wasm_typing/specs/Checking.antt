@@ -115,10 +115,15 @@ is_none_left _ = false
 abbrev pub closes : TypeOrder → Stack → State → Bool
 closes O leaves k = is_none_left (pop O leaves k.operands k.unreachable)
 
--- The state after a plain operator.
+-- Those of the locals that are not set.
+abbrev pub unset : {A : Type 0} → Context A → List ℕ → List ℕ → List ℕ
+unset C [] set = []
+unset C (x ∷ xs) set = if is_ready C (Some x) set then unset C xs set else x ∷ unset C xs set
+
+-- The state after a plain operator. A local that is set is not set once more.
 abbrev pub run_plain : {A : Type 0} → Context A → A → State → Option State
 run_plain C op k =
-    if is_ready C (needs C op) k.set then option_map (λ next. state next.operands next.unreachable (sets C op ++ k.set)) (run_rule (order_of C) (rule_of C op) k) else None
+    if is_ready C (needs C op) k.set then option_map (λ next. state next.operands next.unreachable (unset C (sets C op) k.set ++ k.set)) (run_rule (order_of C) (rule_of C op) k) else None
 
 -- The state after a construct that starts in `k`, if its body ends in `end`.
 abbrev pub after : TypeOrder → Stack → Stack → State → State → Option State
