@@ -18,7 +18,7 @@ GROUPS = [
     ("Types of instructions", "wasm_typing/Types wasm_typing/Matching wasm_typing/Rules wasm_typing/Typing wasm_typing/Checking wasm_typing/Steps"),
     ("The state of a type checker", "wasm_check_control/Environment wasm_check_control/Selects wasm_check_control/Segments wasm_check_control/SetLocals wasm_check_control/State wasm_check_control/Switches"),
     ("Equal types and subtypes", "wasm_subtypes"),
-    ("The rules of operators", "wasm_check_operators/Language"),
+    ("The rules of operators", "wasm_check_operators/Forms wasm_check_operators/Language"),
     ("Typed expressions", "wasm_check/Typed"),
     ("All operators", "wasm_instr_ops wasm_instr_simd wasm_instr wasm_visit_groups"),
     ("Types of operands and results", "wasm_signatures"),

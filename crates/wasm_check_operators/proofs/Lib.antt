@@ -1,4 +1,8 @@
+pub mod Clauses
 pub mod Defaults
 pub mod Lanes
+pub mod Matched
+pub mod Needs
 pub mod Others
+pub mod Outcomes
 pub mod Targets

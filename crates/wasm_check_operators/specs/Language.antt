@@ -22,7 +22,9 @@ use Rattle.wasm_check_control.specs.State.{all_set, Answers, by_rule}
 use Rattle.wasm_check_control.specs.Switches.{switch}
 use Rattle.wasm_check_operators.specs.Calls.{tail_call}
 use Rattle.wasm_check_operators.specs.Casts.{gc_rule}
+use Rattle.wasm_check_operators.specs.Exceptions.{operands_of_tag, clauses_fit}
 use Rattle.wasm_check_operators.specs.Forms.{is_valid, exception, only_if, address, reference, func_ref, fixed_at, by_typing, access, by_argument, has_lanes, atomic_access, is_ordered}
+use Rattle.wasm_check_operators.specs.Locals.{local_get, local_set, local_tee, starts_set, needed_local, locals_set}
 use Rattle.wasm_check_operators.specs.References.{ref_null, ref_func, branches_on_non_null}
 use Rattle.wasm_check_operators.specs.Tables.{table_get, table_set, table_size, table_grow, table_fill, copy, init, table_copy, table_init, elem_drop}
 
@@ -40,6 +42,7 @@ abbrev pub opening_type : Environment → List Stack → Operator → Option Fun
 opening_type E labels (operator.Block it) = block_type E it
 opening_type E labels (operator.Loop it) = block_type E it
 opening_type E labels (operator.If it) = block_type E it
+opening_type E labels (operator.TryTable t) = if clauses_fit E labels t.catches then block_type E t.ty else None
 opening_type E labels _ = None
 
 -- The rule of an operator with the prefix byte 0xfc. Sections Numeric Instructions, Memory
@@ -68,6 +71,7 @@ rule E labels (operator.TypedSelect v) = only_if (is_valid E.order (value_type v
 rule E labels (operator.Br l) = or_invalid (λ s. jumps s) (at labels l)
 rule E labels (operator.BrIf l) = or_invalid (λ s. fixed (I32 ∷ s) s) (at labels l)
 rule E labels operator.Return = jumps E.results
+rule E labels (operator.Throw x) = or_invalid (λ s. jumps s) (operands_of_tag E x)
 rule E labels operator.ThrowRef = jumps (exception ∷ [])
 rule E labels (operator.Call x) = or_invalid (λ f. fixed f.takes f.leaves) (E.functions x)
 rule E labels (operator.CallIndirect y x) = of_function_table E x (λ t. or_invalid (λ f. fixed (address t.is_64 ∷ f.takes) f.leaves) (E.types y))
@@ -88,9 +92,9 @@ rule E labels operator.RefEq = by_typing (fixed_at false) (operator_typing opera
 rule E labels (operator.TableGet x) = or_invalid table_get (E.tables x)
 rule E labels (operator.TableSet x) = or_invalid table_set (E.tables x)
 -- Section Variable Instructions.
-rule E labels (operator.LocalGet x) = or_invalid (λ v. fixed [] (value_type v ∷ [])) (E.locals x)
-rule E labels (operator.LocalSet x) = or_invalid (λ v. fixed (value_type v ∷ []) []) (E.locals x)
-rule E labels (operator.LocalTee x) = or_invalid (λ v. fixed (value_type v ∷ []) (value_type v ∷ [])) (E.locals x)
+rule E labels (operator.LocalGet x) = or_invalid local_get (E.locals x)
+rule E labels (operator.LocalSet x) = or_invalid local_set (E.locals x)
+rule E labels (operator.LocalTee x) = or_invalid local_tee (E.locals x)
 rule E labels (operator.GlobalGet x) = or_invalid (λ g. fixed [] (value_type g.type ∷ [])) (E.globals x)
 rule E labels (operator.GlobalSet x) = or_invalid (λ g. only_if g.mutable (fixed (value_type g.type ∷ []) [])) (E.globals x)
 -- Section Memory Instructions.
@@ -135,9 +139,21 @@ rule E labels (operator.Simd op) = only_if (has_lanes op) (by_argument E (argume
 rule E labels (operator.Atomic op) = only_if (is_ordered op) (atomic_access E (argument_of (operator.Atomic op)) (operator_typing (operator.Atomic op)))
 rule E labels _ = invalid
 
+-- The rules in an environment, if every local is set.
+abbrev pub rules_if_set : Environment → Rules Operator
+rules_if_set E = all_set E.order (rule E) (opening_type E)
+
 -- The rules in an environment.
 abbrev pub rules_of : Environment → Rules Operator
-rules_of E = all_set E.order (rule E) (opening_type E)
+rules_of E =
+    record {
+      order = E.order;
+      rule = rule E;
+      type = opening_type E;
+      is_set = λ x. starts_set (E.locals x);
+      needs = needed_local;
+      sets = locals_set;
+    }
 
 -- The result says whether an operator with this rule has a type, and if so, the frames after it.
 abbrev pub Follows : {X : Type 0} → Environment → Rule → List Frame → Result Bool X → List Frame → Type 0

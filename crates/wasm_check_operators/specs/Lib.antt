@@ -2,6 +2,8 @@ pub mod Forms
 pub mod Tables
 pub mod References
 pub mod Calls
+pub mod Exceptions
+pub mod Locals
 pub mod Aggregates
 pub mod Casts
 pub mod Language

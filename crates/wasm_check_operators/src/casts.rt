@@ -8,7 +8,8 @@ ghost use Rattle.wasm_check_operators.specs.Casts.{top_of_abstract, top_of_kind,
 ghost use Rattle.wasm_check_operators.specs.Language.{Follows};
 
 use crate::checker::Checker;
-use crate::types::{abstract_type, is_valid_heap, reference};
+use crate::types::{abstract_type, reference};
+use crate::validity::is_valid_heap;
 use std::alloc::AllocError;
 use wasm_below::{AbstractHeapType, HeapType, RefType, ValType};
 use wasm_check_control::{CompositeKind, ModuleContext, ResultTypes, matches};

@@ -6,10 +6,11 @@ ghost use Rattle.wasm_typing.specs.Steps.{step, labels_of};
 ghost use Rattle.wasm_check_control.specs.State.{Answers, opens_by, construct_of, first_of, outermost, by_rule};
 ghost use Rattle.wasm_signatures.specs.Own.{operator_typing};
 ghost use Rattle.wasm_check_operators.specs.Forms.{only_if, is_valid, by_typing, fixed_at, exception};
-ghost use Rattle.wasm_check_operators.specs.Language.{block_type, rule, rules_of, Follows};
+ghost use Rattle.wasm_check_operators.specs.Language.{block_type, rule, rules_if_set, Follows};
 
 use crate::signatures::determined;
-use crate::types::{abstract_type, is_valid};
+use crate::types::abstract_type;
+use crate::validity::is_valid;
 use std::alloc::AllocError;
 use wasm_below::{AbstractHeapType, ValType};
 use wasm_check_control::{Control, FrameKind, ModuleContext};
@@ -17,7 +18,8 @@ use wasm_imm::BlockType;
 use wasm_instr::Operator;
 use wasm_typing::ValueType;
 
-/// The type checker of an expression: the control frames with their operands, and the context.
+/// The type checker of operators if every local is set: the control frames with their operands, and
+/// the context.
 ///
 /// Each function returns whether the operator has a type, and fails if allocation fails.
 #[derive(Drop)]
@@ -27,8 +29,8 @@ pub struct Checker<'m, M> {
 }
 
 impl<'m, M: ModuleContext> Checker<'m, M> {
-    /// Opens the frame of a block, a loop or an if.
-    fn open(&mut self, kind: FrameKind, ty: BlockType) -> Result<bool, AllocError>
+    /// Opens the frame of a construct.
+    pub(crate) fn open(&mut self, kind: FrameKind, ty: BlockType) -> Result<bool, AllocError>
         ensures same { self.new.context ≡ self.old.context }
         ensures steps { IfOk result (λ yes. Answers yes (opens_by (M.environment self.old.context.now).order (construct_of kind) (first_of kind) (block_type (M.environment self.old.context.now) ty) self.old.control) self.new.control) }
     {
@@ -179,6 +181,7 @@ impl<'m, M: ModuleContext> Checker<'m, M> {
             | Operator::F32Const { .. }
             | Operator::F64Const { .. }
             | Operator::Numeric(_) => self.determined(op),
+            Operator::Throw { tag_index } => Ok(self.throw(*tag_index)),
             Operator::ThrowRef => Ok(self.throw_ref()),
             Operator::Gc(gc) => self.gc(gc),
             Operator::Misc(misc) => self.misc(misc),
@@ -191,7 +194,6 @@ impl<'m, M: ModuleContext> Checker<'m, M> {
             | Operator::End
             | Operator::TypedSelectMulti { .. }
             | Operator::TryTable { .. }
-            | Operator::Throw { .. }
             | Operator::Try { .. }
             | Operator::Catch { .. }
             | Operator::Rethrow { .. }
@@ -207,15 +209,16 @@ impl<'m, M: ModuleContext> Checker<'m, M> {
         }
     }
 
-    /// Checks one operator.
+    /// Checks one operator, as if every local were set.
     pub fn step(&mut self, op: &Operator<'_>) -> Result<bool, AllocError>
         ensures same { self.new.context ≡ self.old.context }
-        ensures steps { IfOk result (λ yes. Answers yes (step (outermost (rules_of (M.environment self.old.context.now))) self.old.control (role_of op.now)) self.new.control) }
+        ensures steps { IfOk result (λ yes. Answers yes (step (outermost (rules_if_set (M.environment self.old.context.now))) self.old.control (role_of op.now)) self.new.control) }
     {
         match op {
             Operator::Block { blockty } => self.open(FrameKind::Block, *blockty),
             Operator::Loop { blockty } => self.open(FrameKind::Loop, *blockty),
             Operator::If { blockty } => self.open(FrameKind::If, *blockty),
+            Operator::TryTable { try_table } => self.open_try_table(try_table),
             Operator::Else => self.control.turn(self.context),
             Operator::End => self.control.end(self.context),
             _ => self.apply(op),

@@ -2,10 +2,12 @@
 #![tactic(auto)]
 
 mod arrays;
+mod body_checker;
 mod bulk;
 mod calls;
 mod casts;
 mod checker;
+mod exceptions;
 mod fields;
 mod memories;
 mod prefixed;
@@ -17,6 +19,9 @@ mod switches;
 mod tables;
 mod tail_calls;
 mod types;
+mod validity;
 mod variables;
 
+pub use body_checker::BodyChecker;
 pub use checker::Checker;
+pub use validity::is_valid;

@@ -6,7 +6,7 @@ ghost use Rattle.wasm_check_operators.specs.Language.{Follows};
 ghost use Rattle.wasm_check_operators.specs.References.{ref_null, ref_func, branches_on_non_null};
 
 use crate::checker::Checker;
-use crate::types::is_valid_heap;
+use crate::validity::is_valid_heap;
 use std::alloc::AllocError;
 use wasm_below::{HeapType, ValType};
 use wasm_check_control::ModuleContext;

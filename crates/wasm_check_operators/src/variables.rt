@@ -3,6 +3,7 @@ ghost use Rattle.wasm_typing.specs.Rules.{or_invalid, fixed};
 ghost use Rattle.wasm_typing.specs.Types.{value_type};
 ghost use Rattle.wasm_check_operators.specs.Forms.{only_if};
 ghost use Rattle.wasm_check_operators.specs.Language.{Follows};
+ghost use Rattle.wasm_check_operators.specs.Locals.{local_get, local_set, local_tee};
 
 use crate::checker::Checker;
 use std::alloc::AllocError;
@@ -13,39 +14,35 @@ use wasm_typing::ValueType;
 impl<'m, M: ModuleContext> Checker<'m, M> {
     pub(crate) fn local_get(&mut self, index: u32) -> Result<bool, AllocError>
         ensures same { self.new.context ≡ self.old.context }
-        ensures steps { Follows (M.environment self.old.context.now) (or_invalid (λ v. fixed [] (value_type v ∷ [])) ((M.environment self.old.context.now).locals index)) self.old.control result self.new.control }
+        ensures steps { Follows (M.environment self.old.context.now) (or_invalid local_get ((M.environment self.old.context.now).locals index)) self.old.control result self.new.control }
     {
-        match self.context.local_type(index) {
-            Some(ty) => self
-                .control
-                .values(self.context, &[], &[ValueType::new(ty)]),
-            None => Ok(false),
-        }
+        let Some(local) = self.context.local_type(index) else {
+            return Ok(false);
+        };
+        self.control
+            .values(self.context, &[], &[ValueType::new(local.content_type)])
     }
 
     pub(crate) fn local_set(&mut self, index: u32) -> Result<bool, AllocError>
         ensures same { self.new.context ≡ self.old.context }
-        ensures steps { Follows (M.environment self.old.context.now) (or_invalid (λ v. fixed (value_type v ∷ []) []) ((M.environment self.old.context.now).locals index)) self.old.control result self.new.control }
+        ensures steps { Follows (M.environment self.old.context.now) (or_invalid local_set ((M.environment self.old.context.now).locals index)) self.old.control result self.new.control }
     {
-        match self.context.local_type(index) {
-            Some(ty) => self
-                .control
-                .values(self.context, &[ValueType::new(ty)], &[]),
-            None => Ok(false),
-        }
+        let Some(local) = self.context.local_type(index) else {
+            return Ok(false);
+        };
+        self.control
+            .values(self.context, &[ValueType::new(local.content_type)], &[])
     }
 
     pub(crate) fn local_tee(&mut self, index: u32) -> Result<bool, AllocError>
         ensures same { self.new.context ≡ self.old.context }
-        ensures steps { Follows (M.environment self.old.context.now) (or_invalid (λ v. fixed (value_type v ∷ []) (value_type v ∷ [])) ((M.environment self.old.context.now).locals index)) self.old.control result self.new.control }
+        ensures steps { Follows (M.environment self.old.context.now) (or_invalid local_tee ((M.environment self.old.context.now).locals index)) self.old.control result self.new.control }
     {
-        match self.context.local_type(index) {
-            Some(ty) => {
-                let ty = ValueType::new(ty);
-                self.control.values(self.context, &[ty], &[ty])
-            }
-            None => Ok(false),
-        }
+        let Some(local) = self.context.local_type(index) else {
+            return Ok(false);
+        };
+        let ty = ValueType::new(local.content_type);
+        self.control.values(self.context, &[ty], &[ty])
     }
 
     pub(crate) fn global_get(&mut self, index: u32) -> Result<bool, AllocError>
