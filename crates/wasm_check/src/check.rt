@@ -7,8 +7,8 @@ ghost use Rattle.wasm_check.specs.Typed.{IsTypedExpression, EncodesTyped, Explai
 use crate::error::{CheckError, decoding};
 use crate::visitor::TypeChecker;
 use std::alloc::Global;
-use wasm_check_control::{Control, FrameKind, ModuleContext};
-use wasm_check_operators::Checker;
+use wasm_check_control::ModuleContext;
+use wasm_check_operators::BodyChecker;
 use wasm_operators::{
     BinaryReader, Operator, OperatorsReader, WasmFeatures, expression_laws, run_laws,
 };
@@ -40,16 +40,10 @@ pub fn check_expression<M: ModuleContext>(
     expression_laws::whole_is_longest();
     expression_laws::flat_beginnings();
     context.is_well_formed();
-    let mut control = Control::new(alloc);
-    if control
-        .enter(FrameKind::Block, &[], None, context.results())
-        .is_err()
-    {
+    let Ok(checker) = BodyChecker::new(alloc, context) else {
         return Err(CheckError::Memory);
-    }
-    let mut visitor = TypeChecker {
-        checker: Checker { context, control },
     };
+    let mut visitor = TypeChecker { checker };
     let mut reader = OperatorsReader::new(alloc, BinaryReader::new_features(bytes, 0, features));
     while !reader.eof() {
         let offset = reader.original_position();
@@ -58,7 +52,7 @@ pub fn check_expression<M: ModuleContext>(
             Ok(Ok(false)) => {
                 return Err(CheckError::Untyped {
                     offset,
-                    mismatch: visitor.checker.control.mismatch(),
+                    mismatch: visitor.checker.operators.control.mismatch(),
                 });
             }
             Ok(Err(_)) => return Err(CheckError::Memory),
