@@ -1,5 +1,5 @@
 -- Items that are read and written one by one.
-use Rattle.std.proofs.Common.{◌≡◌, ℕ, suc, ◌+◌, List, [], ◌∷◌, ◌++◌, length, Option, Some, None, Result, Ok, Err, IfErr, inl, inr, refl, sym, subst, ap, ◌∙◌, append_assoc, append-nil, arith}
+use Rattle.std.proofs.Common.{◌≡◌, ℕ, suc, ◌+◌, List, [], ◌∷◌, ◌++◌, length, Option, Some, None, Result, Ok, Err, inr, refl, sym, subst, ap, ◌∙◌, append_assoc, append-nil, arith}
 use Rattle.std.specs.Io.KnownBytes.{Appends}
 use Rattle.wasm_below.specs.declared.features.WasmFeatures.{WasmFeatures}
 use Rattle.wasm_below.specs.Source.{Reader}

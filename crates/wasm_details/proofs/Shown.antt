@@ -1,5 +1,5 @@
 -- Sections that are read and shown one by one.
-use Rattle.std.proofs.Common.{◌≡◌, ℕ, List, [], ◌∷◌, ◌++◌, Option, Result, Ok, Err, inl, inr, refl, sym, subst, ◌∙◌}
+use Rattle.std.proofs.Common.{◌≡◌, ℕ, List, [], ◌∷◌, ◌++◌, Option, Result, Ok, Err, inr, refl, subst}
 use Rattle.wasm_below.specs.declared.features.WasmFeatures.{WasmFeatures}
 use Rattle.wasm_below.specs.Source.{Reader, offset_of, end_of, reader_of, HasRead}
 use Rattle.wasm_module.specs.Module.{SectionParts, EncodesSection}
@@ -11,7 +11,7 @@ use Rattle.wasm_details.specs.declared.place.Imported.{Imported}
 use Rattle.wasm_details.specs.declared.place.Place.{Place}
 use Rattle.wasm_details.specs.Places.{ModuleNames}
 use Rattle.wasm_details.specs.Contents.{first_place, ListsContents}
-use Rattle.wasm_details.specs.Module.{AreListed, none_imported, ShowsDetails, ListsDetails, AreNames, IsNameOf, heading_of, WritesDetails, ListsModule}
+use Rattle.wasm_details.specs.Module.{AreListed, none_imported, ShowsDetails, ListsDetails, AreNames, IsNameOf, heading_of, ListsModule}
 
 -- What the law `next_section` states of sections and the next.
 abbrev pub OfNext : Type 0
@@ -44,7 +44,7 @@ module _ (names : ModuleNames) where
   stops_in X first next later s j fault.Writing old mid new h reads lists = tt
   stops_in X first next later s j fault.Memory old mid new h reads lists = tt
 
--- The id, the contents and the place are those of the section.
+-- The section has this id, these contents and this place.
 pub at_section : (names : ModuleNames) (s : SectionParts) (id : ℕ) (contents : Reader) (p q : Place) (r : Result Place Fault) (old new : Option (List ℕ)) →
     id ≡ s.id → contents ≡ s.contents → p ≡ q → ListsContents names id contents p r old new → ListsContents names s.id s.contents q r old new
 at_section names s id contents p q r old new is_id is_contents is_place lists =

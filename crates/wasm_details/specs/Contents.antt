@@ -1,18 +1,17 @@
 -- The contents of sections, in the form of wabt's `wasm-objdump -x`. Specification: Binary Format,
 -- Modules, Sections.
-use Rattle.std.specs.Prelude.{◌≡◌, ◌==◌, ◌⊎◌, ◌<◌, ℕ, List, [], ◌∷◌, ◌++◌, Option, Result, Ok, Err, codes, if◌then◌else◌}
+use Rattle.std.specs.Prelude.{◌≡◌, ◌==◌, ◌⊎◌, ◌<◌, ℕ, List, Bool, true, false, nat_eq, Option, Result, Ok, Err, codes, if◌then◌else◌}
+use Rattle.std.specs.Cmp.Lexicographic.{pointwise}
 use Rattle.std.specs.Io.KnownBytes.{Appends}
-use Rattle.wasm_below.specs.declared.error.Error.{Error}
-use Rattle.wasm_below.specs.declared.features.WasmFeatures.{WasmFeatures}
 use Rattle.wasm_below.specs.declared.malformed.Malformed.TheVariants as malformed
 use Rattle.wasm_below.specs.declared.message.Message.{Message}
 use Rattle.wasm_below.specs.declared.message.Message.TheVariants as message
-use Rattle.wasm_below.specs.Source.{Reader, rest, offset_of}
+use Rattle.wasm_below.specs.Source.{Reader, offset_of}
 use Rattle.wasm_grammars.specs.Blocks.{sized_contents}
-use Rattle.wasm_grammars.specs.Grammar.{Grammar, Encodes, HasReadBy}
+use Rattle.wasm_grammars.specs.Grammar.{HasReadBy}
 use Rattle.wasm_grammars.specs.Parts.{u32}
 use Rattle.wasm_grammars.specs.Reading.{Fails}
-use Rattle.wasm_sections.specs.Items.{ReadsAll, FailsAll}
+use Rattle.wasm_sections.specs.Items.{ReadsAll}
 use Rattle.wasm_externals.specs.Externals.{import, export}
 use Rattle.wasm_externals.specs.Globals.{tag_type}
 use Rattle.wasm_externals.specs.Limits.{memory_type}
@@ -28,6 +27,7 @@ use Rattle.wasm_details.specs.Types.{group_lines, after_group}
 use Rattle.wasm_details.specs.Externals.{function_line, memory_line, tag_line, import_line, after_import, export_line}
 use Rattle.wasm_details.specs.Bodies.{body_line, start_text, data_count_text}
 use Rattle.wasm_details.specs.Namings.{custom_text}
+use Rattle.wasm_details.specs.Names.{ListsNames}
 
 -- The index of the first thing that a section with this id defines: imported things come first.
 abbrev pub first_index : ℕ → Imported → ℕ
@@ -61,10 +61,25 @@ ListsUnknown first (Ok next) old new = (next ≡ first) × Appends old new unkno
 ListsUnknown first (Err (fault.Section e)) old new = ⊥
 ListsUnknown first (Err _) old new = Unit {0}
 
--- A custom section, of which the name is appended.
+-- The section is the one with names of things.
+abbrev pub is_name : List ℕ → Bool
+is_name name = pointwise nat_eq name (codes "name")
+
+-- The data of a custom section, which is shown if it has the name `name`.
+abbrev pub ListsData : Bool → Reader → Place → Result Place Fault → Option (List ℕ) → Option (List ℕ) → Type 0
+ListsData true contents first result old new = ListsNames first contents result old new
+ListsData false contents first (Ok next) old new = (next ≡ first) × (new ≡ old)
+ListsData false contents first (Err f) old new = ⊥
+
+-- A custom section: its name is appended, and its data.
 abbrev pub ListsCustom : Reader → Place → Result Place Fault → Option (List ℕ) → Option (List ℕ) → Type 0
-ListsCustom contents first (Ok next) old new = (name : List ℕ) × (after : Reader) × HasReadBy text name contents after × (next ≡ first) × Appends old new (custom_text name)
-ListsCustom contents first (Err (fault.Section e)) old new = Fails text (offset_of contents) e contents × (new ≡ old)
+ListsCustom contents first (Ok next) old new =
+    (name : List ℕ) × (after : Reader) × HasReadBy text name contents after × (titled : Option (List ℕ)) × Appends old titled (custom_text name) ×
+    ListsData (is_name name) after first (Ok next) titled new
+ListsCustom contents first (Err (fault.Section e)) old new =
+    (Fails text (offset_of contents) e contents × (new ≡ old)) ⊎
+    ((name : List ℕ) × (after : Reader) × HasReadBy text name contents after × (titled : Option (List ℕ)) × Appends old titled (custom_text name) ×
+    ListsData (is_name name) after first (Err (fault.Section e)) titled new)
 ListsCustom contents first (Err _) old new = Unit {0}
 
 -- What is appended for a section with this id and these contents, whose first item is at the place

@@ -1,6 +1,6 @@
 -- Imports, functions, tables, memories, globals, tags and exports, in the form of wabt's
 -- `wasm-objdump -x`. Specification: Binary Format, Modules; External Types.
-use Rattle.std.specs.Prelude.{ℕ, List, [], ◌∷◌, ◌++◌, Bool, true, false, Option, Some, None, codes, decimal}
+use Rattle.std.specs.Prelude.{ℕ, List, [], ◌++◌, Bool, true, false, Option, Some, None, codes, decimal}
 use Rattle.wasm_below.specs.declared.types.ValType.TheVariants as value
 use Rattle.wasm_escapes.specs.Escapes.{escaped}
 use Rattle.wasm_externals.specs.declared.export.Export.{Export}

@@ -2,7 +2,6 @@
 -- Sections.
 use Rattle.std.specs.Prelude.{◌≡◌, ◌⊎◌, ℕ, ◌+◌, false, List, [], ◌∷◌, ◌++◌, length, Option, Result, Ok, Err, decimal, codes}
 use Rattle.std.specs.Io.KnownBytes.{Appends}
-use Rattle.wasm_below.specs.declared.error.Error.{Error}
 use Rattle.wasm_below.specs.declared.features.WasmFeatures.{WasmFeatures}
 use Rattle.wasm_below.specs.Source.{Reader, offset_of}
 use Rattle.wasm_grammars.specs.Grammar.{Grammar, HasReadBy}
@@ -12,7 +11,6 @@ use Rattle.wasm_sections.specs.Items.{Counted, ItemsLeft, IsDone, StopsItems}
 use Rattle.wasm_details.specs.declared.fault.Fault.{Fault}
 use Rattle.wasm_details.specs.declared.fault.Fault.TheVariants as fault
 use Rattle.wasm_details.specs.declared.place.Place.{Place}
-use Rattle.wasm_details.specs.Places.{ModuleNames}
 
 -- Between two readers, the bytes are these items.
 abbrev pub ItemsOccur : {X : Type 0} → (WasmFeatures → Grammar X) → Reader → List X → Reader → Type 0

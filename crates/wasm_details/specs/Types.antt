@@ -33,7 +33,7 @@ joined_types (ty ∷ types) = type_name ty ++ flat_map next_type types
 abbrev pub types_text : List ValType → List ℕ
 types_text types = codes "(" ++ (joined_types types ++ codes ")")
 
--- The types of results: one stands alone.
+-- The types of results: a single type without parentheses.
 abbrev pub results_text : List ValType → List ℕ
 results_text [] = codes "nil"
 results_text (ty ∷ []) = type_name ty

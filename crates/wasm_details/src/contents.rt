@@ -5,11 +5,12 @@ ghost use Rattle.wasm_below.specs.declared.malformed.Malformed.TheVariants as ma
 ghost use Rattle.wasm_details.specs.Bodies.{start_text, data_count_text};
 ghost use Rattle.wasm_details.specs.Items.{IsHalt};
 ghost use Rattle.wasm_details.specs.Namings.{custom_text};
-ghost use Rattle.wasm_details.specs.Contents.{first_index, first_place, ListsNumber, ListsTitle, ListsUnknown, ListsCustom, ListsContents};
+ghost use Rattle.wasm_details.specs.Contents.{first_index, first_place, ListsNumber, ListsTitle, ListsUnknown, ListsCustom, ListsData, is_name, ListsContents};
 
 use crate::bodies::{push_data_count, push_start};
 use crate::fault::Fault;
 use crate::items::{write_section, write_title};
+use crate::name_section::write_names;
 use crate::names::Names;
 use crate::namings::push_custom;
 use crate::place::{Imported, Place};
@@ -141,7 +142,26 @@ fn write_custom_title<W: Write>(
     write_text(writer, line.as_str())
 }
 
-/// Writes the name of a custom section.
+/// Writes the data of a custom section with the name `name`; of others nothing.
+fn write_data<W: Write>(
+    alloc: Global,
+    writer: &mut W,
+    line: &mut String,
+    place: Place,
+    name: &str,
+    contents: BinaryReader<'_>,
+) -> Result<Place, Fault>
+    ensures { ListsData (is_name name.now) contents.entry place result (W.contents writer.old) (W.contents writer.new) }
+{
+    let is_name = name == "name";
+    if is_name {
+        write_names(alloc, writer, line, place, contents)
+    } else {
+        Ok(place)
+    }
+}
+
+/// Writes the name of a custom section, and the names in the section `name`.
 fn write_custom<W: Write>(
     alloc: Global,
     writer: &mut W,
@@ -156,8 +176,9 @@ fn write_custom<W: Write>(
         Ok(name) => name,
         Err(e) => return Err(Fault::Section(e)),
     };
-    write_custom_title(alloc, writer, line, name.as_str())?;
-    Ok(place)
+    let shown = name.as_str();
+    write_custom_title(alloc, writer, line, shown)?;
+    write_data(alloc, writer, line, place, shown, reader)
 }
 
 /// Writes a section with this id and these contents, whose first item is at this place. Returns the

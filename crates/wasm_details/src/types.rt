@@ -53,7 +53,7 @@ fn push_types(alloc: Global, out: &mut String, types: &[ValType]) -> Written
     out.push_str(")")
 }
 
-/// Appends the types of results: `nil` if there are none.
+/// Appends the types of results: `nil` without results.
 fn push_results(alloc: Global, out: &mut String, types: &[ValType]) -> Written
     ensures { OnOk result (string_bytes out.new ≡ string_bytes out.old ++ results_text types.now) }
 {

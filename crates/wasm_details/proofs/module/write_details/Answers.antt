@@ -2,7 +2,6 @@ use Rattle.std.proofs.Common.{◌≡◌, [], Ok, Err, inl, refl, ap, ◌∙◌, 
 use Rattle.std.proofs.lemmas.Result.{err_from_is_err_and}
 use Rattle.wasm_below.specs.Source.{rest}
 use Rattle.wasm_details.specs.Contents.{first_place}
-use Rattle.wasm_details.specs.Module.{ListsDetails}
 use Rattle.wasm_details.proofs.Shown.{shows_none, shows_more, stops_in, at_section}
 use Rattle.wasm_details.proofs.module.write_details.Goals as goal
 
