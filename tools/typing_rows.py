@@ -6,16 +6,16 @@
     tools/typing_rows.py --write    writes crates/wasm_tests_check/stdin
 
 A row has cells, separated by tabs: the name of the case, then what the module says, by index: types, type indices of
-functions, globals, tables, memories, types of element segments, the number of data segments, and for each function 1 if it
-is declared as a reference, else 0; then the locals and the results of the function, its expression in hexadecimal, and the
-verdict.
+functions, globals, tables, memories, type indices of tags, types of element segments, the number of data segments, and for
+each function 1 if it is declared as a reference, else 0; then the locals and the results of the function, its expression in
+hexadecimal, and the verdict.
 
 A function type has `>` between parameters and results. A structure is `struct` and its fields, an array is `array` and its
-elements. What is mutable has `mut:` before it. A reference type is `?` (nullable) or `!` and its heap type, which is a name
+elements. What is mutable has `mut:` before it, a local that is not set at the start `unset:`. A reference type is `?` (nullable) or `!` and its heap type, which is a name
 or an index after `#`.
 
 A valid case has a row for each function body. An invalid one has a row for the body in which wasmparser reports the error.
-There is no row for a module with groups of types, subtypes, two equal types, tags, or locals without a default value.
+There is no row for a module with groups of types, subtypes, or two equal types.
 """
 
 import re
@@ -125,6 +125,11 @@ class Bytes:
         address = self.limits()
         return address, element, self.constant() if has_start else []
 
+    def tag(self):
+        if self.byte() != 0:
+            raise NoRow("attribute of a tag")
+        return self.number()
+
     def constant(self):
         """Skips a constant expression, and returns the functions that it declares."""
         declared = []
@@ -154,6 +159,7 @@ class Module:
     def __init__(self, data):
         self.types, self.functions, self.globals, self.tables, self.memories = [], [], [], [], []
         self.elements, self.data_count, self.declared, self.bodies, self.imported = [], 0, set(), [], 0
+        self.tags = []
         it = Bytes(data, 8)
         while it.at < len(data):
             kind, size = it.byte(), it.number()
@@ -191,8 +197,10 @@ class Module:
                     self.memories.append(it.limits())
                 case 3:
                     self.globals.append(self.a_global(it))
+                case 4:
+                    self.tags.append(it.tag())
                 case _:
-                    raise NoRow("import of a tag")
+                    raise NoRow("import of another kind")
 
         it.many(one)
 
@@ -269,13 +277,15 @@ class Module:
     def section_12(self, it):
         self.data_count = it.number()
 
+    def section_13(self, it):
+        self.tags += it.many(it.tag)
+
     def row(self, name, number, data, verdict):
         start, end, local_types = self.bodies[number]
-        if any(ty.startswith("!") for ty in local_types):
-            raise NoRow("a local without a default value")
+        local_types = [f"unset:{ty}" if ty.startswith("!") else ty for ty in local_types]
         params, results = self.types[self.functions[self.imported + number]].split(">")
         declared = ["1" if index in self.declared else "0" for index in range(len(self.functions))]
-        lists = [self.globals, self.tables, self.memories, self.elements]
+        lists = [self.globals, self.tables, self.memories, map(str, self.tags), self.elements]
         cells = [name, ";".join(self.types), " ".join(map(str, self.functions)), *map(" ".join, lists), str(self.data_count)]
         cells += [" ".join(declared), " ".join([*params.split(), *local_types]), results]
         return "\t".join([*cells, data[start:end].hex(), VERDICTS[verdict]])

@@ -13,7 +13,7 @@ def case(label, verdict="valid", offset="", module=BODY):
 class Rows(unittest.TestCase):
     def test_a_row(self):
         (row,) = typing_rows.rows_of(case("ok"))
-        self.assertEqual(row, "Nop, ok\t>\t0\t\t\t\t\t0\t0\t\t\t0b\tvalid")
+        self.assertEqual(row, "Nop, ok\t>\t0\t\t\t\t\t\t0\t0\t\t\t0b\tvalid")
 
     def test_an_invalid_body(self):
         (row,) = typing_rows.rows_of(case("no", "invalid", "0x17"))

@@ -60,6 +60,7 @@ environment row = record {
   globals = λ i. option_map global_of (slice_get row.globals.items i);
   tables = λ i. option_and_then table_of (slice_get row.tables.items i);
   memories = slice_get row.memories.items;
+  tags = λ i. option_and_then (type_at row) (slice_get row.tags.items i);
   elements = λ i. option_and_then reference_of (slice_get row.elements.items i);
   has_data = λ i. nat_lt i row.data_segments;
   is_declared = λ i. or_false (slice_get row.declared.items i);

@@ -3,7 +3,7 @@ ghost use Rattle.std.specs.Prelude.{◌≡◌};
 use crate::row::{OwnType, Row};
 use wasm_below::{RefType, ValType};
 use wasm_check::{
-    CompositeKind, FieldType, FuncType, GlobalType, ModuleContext, StructType, TableType,
+    CompositeKind, FieldType, FuncType, GlobalType, LocalType, ModuleContext, StructType, TableType,
 };
 
 /// A module as the context of a function. No two types are equal, and none has a declared supertype.
@@ -67,7 +67,7 @@ impl<'m> ModuleContext for RowContext<'m> {
         }
     }
 
-    fn local_type(&self, index: u32) -> Option<ValType> {
+    fn local_type(&self, index: u32) -> Option<LocalType> {
         self.row.locals.get(index as usize).copied()
     }
 
@@ -90,6 +90,13 @@ impl<'m> ModuleContext for RowContext<'m> {
 
     fn memory64(&self, index: u32) -> Option<bool> {
         self.row.memories.get(index as usize).copied()
+    }
+
+    fn tag_type(&self, index: u32) -> Option<FuncType<'_>> {
+        match self.row.tags.get(index as usize) {
+            Some(ty) => self.type_at(*ty),
+            None => None,
+        }
     }
 
     fn element_type(&self, index: u32) -> Option<RefType> {

@@ -1,7 +1,7 @@
 use crate::types::{field, storage_type, types_of, unmarked, value_type};
 use std::alloc::{AllocError, Global};
 use wasm_below::ValType;
-use wasm_check::{FieldType, GlobalType};
+use wasm_check::{FieldType, GlobalType, LocalType};
 use wasm_tests_texts::read_hex;
 
 /// A type that owns its lists.
@@ -32,11 +32,13 @@ pub struct Row {
     pub tables: Vec<OwnTable>,
     /// Whether the addresses of each memory are `i64`.
     pub memories: Vec<bool>,
+    /// The type index of each tag.
+    pub tags: Vec<u32>,
     pub elements: Vec<ValType>,
     pub data_segments: u32,
     /// Whether each function is declared as a reference.
     pub declared: Vec<bool>,
-    pub locals: Vec<ValType>,
+    pub locals: Vec<LocalType>,
     pub results: Vec<ValType>,
     pub expression: Vec<u8>,
     pub valid: bool,
@@ -51,10 +53,11 @@ pub fn row_of(alloc: Global, line: &str) -> Result<Row, AllocError> {
     let globals = globals(alloc, cells.next().unwrap_or(""))?;
     let tables = tables(alloc, cells.next().unwrap_or(""))?;
     let memories = flags(alloc, cells.next().unwrap_or(""))?;
+    let tags = numbers(alloc, cells.next().unwrap_or(""))?;
     let elements = types_of(alloc, cells.next().unwrap_or(""))?;
     let data_segments = cells.next().unwrap_or("").parse::<u32>().unwrap_or(0);
     let declared = flags(alloc, cells.next().unwrap_or(""))?;
-    let locals = types_of(alloc, cells.next().unwrap_or(""))?;
+    let locals = locals(alloc, cells.next().unwrap_or(""))?;
     let results = types_of(alloc, cells.next().unwrap_or(""))?;
     let mut expression = Vec::new(alloc);
     read_hex(&mut expression, cells.next().unwrap_or(""))?;
@@ -65,6 +68,7 @@ pub fn row_of(alloc: Global, line: &str) -> Result<Row, AllocError> {
         globals,
         tables,
         memories,
+        tags,
         elements,
         data_segments,
         declared,
@@ -140,6 +144,24 @@ fn globals(alloc: Global, text: &str) -> Result<Vec<GlobalType>, AllocError> {
             out.push(GlobalType {
                 content_type,
                 mutable,
+            })?;
+        }
+    }
+    Ok(out)
+}
+
+/// Reads locals. Before one that is not set at the start, there is `unset:`.
+fn locals(alloc: Global, text: &str) -> Result<Vec<LocalType>, AllocError> {
+    let mut out = Vec::new(alloc);
+    for word in text.split(' ') {
+        let (is_set, ty) = match word.strip_prefix("unset:") {
+            Some(ty) => (false, ty),
+            None => (true, word),
+        };
+        if let Some(content_type) = value_type(ty) {
+            out.push(LocalType {
+                content_type,
+                is_set,
             })?;
         }
     }
