@@ -9,10 +9,11 @@ use Rattle.std.specs.Result.{IsErrAnd}
 use Rattle.std.proofs.lemmas.Bool.{cases_order}
 use Rattle.wasm_subtypes.specs.declared.error.TypeError.{TypeError}
 use Rattle.wasm_subtypes.specs.declared.error.TypeError.TheVariants as error
+use Rattle.wasm_subtypes.specs.Composites.{AreValid}
 use Rattle.wasm_subtypes.specs.Errors.{Blames}
 use Rattle.std.proofs.lemmas.List.{append-nil}
 use Rattle.wasm_subtypes.specs.Alike.{AlikeInner, AlikeOptional, Alike}
-use Rattle.wasm_subtypes.specs.Types.{identity_of, identity, supertype, kind_of_inner, kind_of, kind, AreOrdered, SameUse, IsSameMember, IsSameGroup, IsFirstEqual, placed, MayIdentify, MayExtend, Extends, AllExtend}
+use Rattle.wasm_subtypes.specs.Types.{identity_of, identity, supertype, kind_of_inner, kind_of, kind, AreOrdered, SameUse, IsSameMember, IsSameGroup, IsFirstEqual, placed, MayIdentify, MayExtend, Extends, AllExtend, Added}
 use Rattle.wasm_subtypes.specs.declared.defined.Defined.{Defined}
 use Rattle.wasm_subtypes.proofs.Step.{one_more}
 
@@ -285,19 +286,33 @@ first_unique types group s t a b = go (cases_order s t)
     go (inr (inl p)) = absurd (b.before s p (a.found (let w = b.within in omega (arith, p, w))))
     go (inr (inr p)) = absurd (a.before t p (b.found (let w = a.within in omega (arith, p, w))))
 
-blames_more : (e : TypeError) (P Q : Type 0) → (Q → P) → Blames e P → Blames e Q
+blames_more : (e : TypeError) (P Q : Type 0) → (Q → P) → Blames e P (Unit {0}) → Blames e Q (Unit {0})
 blames_more error.OutOfMemory P Q h b = tt
 blames_more error.TooManyTypes P Q h b = tt
 blames_more error.Supertype P Q h b = λ q. b (h q)
+blames_more error.Invalid P Q h b = b
+
+-- An error before the types are tested.
+pub blames_any : (e : TypeError) (P Q : Type 0) → Blames e P (Unit {0}) → Blames e P Q
+blames_any error.OutOfMemory P Q b = tt
+blames_any error.TooManyTypes P Q b = tt
+blames_any error.Supertype P Q b = b
+blames_any error.Invalid P Q b = absurd (b tt)
 
 pub blames_group : (old types : List Defined) (group ys : List SubType) (ty : SubType) (rest : List SubType) (start : ℕ) (e : TypeError) →
-    types ≡ old ++ placed (length old) start ys → group ≡ ys ++ ty ∷ rest → IsFirstEqual old group start → Blames e (Extends types ty ty.supertype_idx) →
-    (s : ℕ) → IsFirstEqual old group s → Blames e (AllExtend old (length old) s group)
+    types ≡ old ++ placed (length old) start ys → group ≡ ys ++ ty ∷ rest → IsFirstEqual old group start → Blames e (Extends types ty ty.supertype_idx) (Unit {0}) →
+    (s : ℕ) → IsFirstEqual old group s → Blames e (AllExtend old (length old) s group) (Unit {0})
 blames_group old types group ys ty rest start e is whole first blames s other =
-    subst (λ n. Blames e (AllExtend old (length old) n group)) (first_unique old group start s first other)
+    subst (λ n. Blames e (AllExtend old (length old) n group) (Unit {0})) (first_unique old group start s first other)
     (blames_more e (Extends types ty ty.supertype_idx) (AllExtend old (length old) start group)
     (λ a. subst (λ l. Extends l ty ty.supertype_idx) (sym is)
     (all_parts old (length old) start ys (ty ∷ rest) (subst (AllExtend old (length old) start) whole a)).1.0) blames)
+
+-- The types after a group was added are not valid.
+pub blames_valid : (old next : List Defined) (group : List SubType) → Added old group next → (AreValid next (length old) → ⊥) →
+    (s : ℕ) → IsFirstEqual old group s → AreValid (old ++ placed (length old) s group) (length old) → ⊥
+blames_valid old next group added none s first valid =
+    none (subst (λ l. AreValid l (length old)) (ap (λ n. old ++ placed (length old) n group) (first_unique old group s added.start first added.is_first) ∙ sym added.all) valid)
 
 pub blamed : {X : Type 0} (result : Result X TypeError) {e : TypeError} (P : TypeError → Type 0) → IsErrAnd result (λ y. y ≡ e) → P e → IfErr result P
 blamed (Ok x) P is h = absurd is

@@ -6,4 +6,6 @@ pub enum TypeError {
     TooManyTypes,
     /// The supertype of a type does not come before it, is final, or is of another kind.
     Supertype,
+    /// A type index in the group has no type, or a type does not match its supertype.
+    Invalid,
 }

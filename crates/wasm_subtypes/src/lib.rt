@@ -5,11 +5,16 @@
 #![tactic(auto)]
 
 mod alike;
+mod composites;
 mod defined;
 mod error;
 mod groups;
+mod only;
+mod ranges;
 mod types;
+mod validity;
 
+pub use composites::{composite_matches, value_matches};
 pub use defined::Defined;
 pub use error::TypeError;
 pub use types::Types;

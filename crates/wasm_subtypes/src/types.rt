@@ -5,13 +5,15 @@ ghost use Rattle.wasm_typing.specs.Matching.{IsOrder};
 ghost use Rattle.std.specs.List.{slice_get};
 ghost use Rattle.wasm_check_control.specs.Environment.{composite_kind};
 ghost use Rattle.wasm_subtypes.specs.Descent.{Descends};
-ghost use Rattle.wasm_subtypes.specs.Types.{identity, supertype, kind, kind_of, order_of, MayIdentify, Extends, IsFirstEqual, AllExtend, Added};
+ghost use Rattle.wasm_subtypes.specs.Types.{identity, supertype, kind, kind_of, order_of, MayIdentify, Extends, IsFirstEqual, AllExtend, Added, placed};
+ghost use Rattle.wasm_subtypes.specs.Composites.{AreValid};
 ghost use Rattle.wasm_subtypes.specs.declared.error.TypeError.TheVariants as type_error;
 ghost use Rattle.wasm_subtypes.specs.Errors.{Blames};
 
 use crate::defined::{Defined, identity, supertype};
 use crate::error::TypeError;
 use crate::groups::first_equal;
+use crate::validity::are_valid;
 use std::alloc::Global;
 use std::marker::Model;
 use wasm_check_control::CompositeKind;
@@ -112,6 +114,12 @@ impl Types {
         self.items.get(index as usize)
     }
 
+    pub(crate) fn at(&self, index: usize) -> Option<&Defined>
+        ensures { option_map (λ r. r.now) result ≡ slice_get self.now index }
+    {
+        self.items.get(index)
+    }
+
     /// States that matching of the types is a preorder that keeps kinds. The body is empty.
     pub fn is_ordered(&self)
         ensures order { IsOrder (order_of self.now) }
@@ -149,11 +157,29 @@ impl Types {
 
     /// Adds a group of a type section. Specification: Validation, Types, Recursive Types.
     ///
-    /// Fails with `TooManyTypes`, or with `Supertype` at the first type of the group with such a
-    /// supertype.
+    /// Fails with `TooManyTypes`; with `Supertype` at the first type of the group with such a
+    /// supertype; with `Invalid`.
     pub fn add(self, alloc: Global, group: RecGroup) -> Result<Types, TypeError>
         ensures added { IfOk result (λ new. Added self (types_of group) new) }
-        ensures blames { IfErr result (λ e. (start : ℕ) → IsFirstEqual self (types_of group) start → Blames e (AllExtend self (length self) start (types_of group))) }
+        ensures valid { IfOk result (λ new. AreValid new (length self)) }
+        ensures blames { IfErr result (λ e. (start : ℕ) → IsFirstEqual self (types_of group) start →
+            Blames e (AllExtend self (length self) start (types_of group)) (AreValid (self ++ placed (length self) start (types_of group)) (length self))) }
+    {
+        let first = self.len();
+        let types = match self.place(alloc, group) {
+            Ok(types) => types,
+            Err(e) => return Err(e),
+        };
+        if !are_valid(&types, first) {
+            return Err(TypeError::Invalid);
+        }
+        Ok(types)
+    }
+
+    // The same without the test whether the types are valid.
+    fn place(self, alloc: Global, group: RecGroup) -> Result<Types, TypeError>
+        ensures added { IfOk result (λ new. Added self (types_of group) new) }
+        ensures blames { IfErr result (λ e. (start : ℕ) → IsFirstEqual self (types_of group) start → Blames e (AllExtend self (length self) start (types_of group)) (Unit {0})) }
     {
         let group = list_of(alloc, group)?;
         let first = self.len();
@@ -174,7 +200,7 @@ impl Types {
         requires { MayIdentify self.old identity ty }
         ensures pushed { OnOk result (self.new ≡ self.old ++ record { ty = ty; first = first; identity = identity } ∷ []) }
         ensures fits { OnOk result (Extends self.old ty ty.supertype_idx) }
-        ensures blames { IfErr result (λ e. Blames e (Extends self.old ty ty.supertype_idx)) }
+        ensures blames { IfErr result (λ e. Blames e (Extends self.old ty ty.supertype_idx) (Unit {0})) }
     {
         if !extends(self.items.as_slice(), &ty) {
             return Err(TypeError::Supertype);
