@@ -10,6 +10,7 @@ mod modules;
 mod names;
 mod row;
 mod rows;
+mod subtypes;
 mod types;
 
 fn main(rt: HostRuntime) -> io::Result<ExitCode> {

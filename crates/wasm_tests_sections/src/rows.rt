@@ -2,6 +2,7 @@ use crate::failure::{Failure, Written};
 use crate::modules::write_sections;
 use crate::names::write_names;
 use crate::row::{Input, Row};
+use crate::subtypes::write_matching;
 use crate::types::write_rec_group;
 use std::alloc::Global;
 use std::io::{self, Print};
@@ -61,6 +62,10 @@ fn evaluate(alloc: Global, row: &Row<'_>, text: &mut String) -> Written {
         "rec_group" => write_rec_group(alloc, text, &mut reader),
         "names" => write_names(alloc, text, reader),
         "sections" => write_sections(alloc, text, &reader),
-        _ => Err(Failure::Malformed),
+        "types" => write_matching(alloc, text, &mut reader, ""),
+        call => match call.split_once(' ') {
+            Some(("types", indices)) => write_matching(alloc, text, &mut reader, indices),
+            _ => Err(Failure::Malformed),
+        },
     }
 }
