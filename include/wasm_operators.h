@@ -187,7 +187,8 @@ enum wasm_refused {
   WASM_REFUSED_TYPE_KIND = 108, /* value: the byte of the type */
   WASM_REFUSED_COUNTS_DIFFER = 109, /* of bodies and functions */
   WASM_REFUSED_NO_FUNCTION = 110, /* the module defines none with the index */
-  WASM_REFUSED_NO_BODY = 111 /* all bodies were read */
+  WASM_REFUSED_NO_BODY = 111, /* all bodies were read */
+  WASM_REFUSED_NOT_WRITABLE = 112 /* no bytes encode an operator with these fields */
 };
 
 /* The opcode, or the subopcode plus 65536 times the prefix byte. TypedSelect has the shape SELECT_MANY if it has no
@@ -1027,6 +1028,23 @@ uint32_t wasm_operator_text_name(const uint8_t *bytes, size_t bytes_length, uint
                                  uint64_t at, uint8_t *name, size_t name_length, size_t *length,
                                  wasm_refusal *refusal);
 
+/* Writes an operator in its shortest encoding under the features. `*length` is the length of the encoding in bytes, at
+ * most 44 unless the operator has a list. If it is greater than `out_length`, the call fails with WASM_REFUSED_NO_ROOM,
+ * and only `*length` and `*refusal` change.
+ *
+ * The fields of `*op` are written, so a program may set them itself. They must be as a reading call sets them: fields
+ * without a meaning are 0. Fails with WASM_REFUSED_NOT_WRITABLE if no bytes encode an operator with these fields: no
+ * operator has the opcode or its shape is another, a field is out of range, or a feature is off.
+ *
+ * Does not allocate, unless the opcode is of an operator with a list. With the shape WASM_SHAPE_BRANCH_TABLE,
+ * WASM_SHAPE_SELECT_MANY, WASM_SHAPE_TRY_TABLE, WASM_SHAPE_RESUME or WASM_SHAPE_RESUME_THROW, the operator at the
+ * offset `op->offset` in `bytes` is written. The bytes of branch targets are copied. Fails like wasm_br_table_targets,
+ * and with WASM_REFUSED_NO_LIST if that operator has other fields. For other operators, `bytes_length` may be 0. The
+ * refusal has the offset `op->offset`. */
+uint32_t wasm_encode_operator(const wasm_operator *op, const uint8_t *bytes, size_t bytes_length, uint64_t offset,
+                              uint32_t features, uint8_t *out, size_t out_length, size_t *length,
+                              wasm_refusal *refusal);
+
 /* Opens the bodies of the module `bytes`: `*bodies` is the place before the first. Fails with
  * WASM_REFUSED_NOT_A_MODULE, WASM_REFUSED_IMPORT_KIND, WASM_REFUSED_TYPE_KIND, WASM_REFUSED_COUNTS_DIFFER, or the
  * refusal of a section. May allocate. */
@@ -1776,6 +1794,8 @@ static inline const char *wasm_c_error_text(uint32_t number) {
       return "the module does not define a function with this index";
     case WASM_REFUSED_NO_BODY:
       return "all bodies were read";
+    case WASM_REFUSED_NOT_WRITABLE:
+      return "no bytes encode an operator with these fields";
     default:
       return NULL;
   }

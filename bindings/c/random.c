@@ -1,7 +1,7 @@
 /* random CALLS MODULE..: calls the library on changed and cut modules, and on random structs.
  *
  * A call that fails may change only `*refusal`, and a text's length. A body lies within its module. The first call that
- * does otherwise is named, and the status is 1. */
+ * does otherwise is named, and the status is 1. An operator without a list that is written is read again. */
 #include "wasm_operators.h"
 
 #include <stdint.h>
@@ -119,6 +119,61 @@ static void try_reader(const uint8_t *bytes, size_t length) {
   look_at_reader(refused, &old, reader, "wasm_next_plain");
 }
 
+/* Returns 0 mostly, else a number of at most `bits` bits. */
+static uint64_t rare(unsigned bits) {
+  return below(8) == 0 ? below(UINT64_MAX) >> (64 - 1 - below(bits)) : 0;
+}
+
+/* Returns an operator with few fields that are not 0. */
+static wasm_operator random_operator(size_t length) {
+  wasm_operator op;
+  memset(&op, 0, sizeof op);
+  op.offset = below(length + 2);
+  op.wide = rare(64);
+  op.opcode = (uint32_t)(below(2) == 0 ? below(256) : 0xfb0000 + 65536 * below(4) + below(300));
+  op.first = (uint32_t)rare(32);
+  op.second = (uint32_t)rare(32);
+  op.third = (uint32_t)rare(32);
+  op.kind = (uint32_t)(below(4) == 0 ? 1024 * below(2) + 512 * below(2) + 256 * below(2) + 0x60 + below(32) : below(3));
+  op.other_kind = (uint32_t)rare(10);
+  op.shape = (uint8_t)(below(4) != 0 ? below(26) : 0);
+  op.align = (uint8_t)below(4);
+  op.max_align = (uint8_t)below(4);
+  op.lane = (uint8_t)rare(8);
+  op.target = (uint16_t)rare(2);
+  op.ordering = (uint16_t)rare(3);
+  if (below(8) == 0) fill(op.bytes, sizeof op.bytes);
+  if (op.shape != 3 && op.shape != 4) op.align = op.max_align = 0;
+  if (op.shape < 15) op.kind = 0;
+  return op;
+}
+
+/* Returns whether the fields but the offset are equal. */
+static int is_same(wasm_operator a, wasm_operator b) {
+  a.offset = b.offset;
+  return memcmp(&a, &b, sizeof a) == 0;
+}
+
+static void try_encoding(const uint8_t *bytes, size_t length) {
+  wasm_operator op = random_operator(length), again;
+  wasm_reader reader;
+  wasm_refusal refusal;
+  uint8_t out[TEXT], kept[TEXT], frames[2] = {0, 0};
+  size_t written = 0;
+  fill(out, sizeof out);
+  memcpy(kept, out, sizeof out);
+  size_t capacity = below(2) == 0 ? sizeof out : below(sizeof out);
+  uint32_t refused = wasm_encode_operator(&op, bytes, length, 0, WASM_FEATURES_ALL, out, capacity, &written, &refusal);
+  if (refused != 0) {
+    require(memcmp(out, kept, sizeof out) == 0, "wasm_encode_operator");
+    return;
+  }
+  require(written <= capacity && memcmp(out + written, kept + written, sizeof out - written) == 0, "wasm_encode_operator");
+  if (wasm_open(out, written, 0, WASM_FEATURES_ALL, frames, sizeof frames, &reader, &refusal) != 0) exit(2);
+  refused = wasm_next(out, written, frames, sizeof frames, &reader, &again, &refusal);
+  require(refused == WASM_REFUSED_WRONG_FRAME || (refused == 0 && reader.position == written && is_same(again, op)), "wasm_encode_operator");
+}
+
 int main(int argc, char **argv) {
   if (argc < 3) {
     fprintf(stderr, "usage: random CALLS MODULE..\n");
@@ -136,6 +191,7 @@ int main(int argc, char **argv) {
     try_bodies(bytes, length);
     try_texts(bytes, length);
     try_reader(bytes, length);
+    try_encoding(bytes, length);
   }
   printf("%lu times each call on random bytes\n", calls);
   return 0;

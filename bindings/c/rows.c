@@ -190,6 +190,35 @@ static void look_at_module(const char *hex, int is_whole, const char *expected) 
   free(bytes);
 }
 
+/* Compares the encoding of an operator, also with an array that is one byte too short and with another shape. */
+static void look_at_encoding(const char *hex, uint64_t at, const char *shortest) {
+  size_t length, count = 0, written = 0, again = 0, shape = 0;
+  uint8_t *bytes = bytes_of(hex, &length);
+  wasm_operator *operators = malloc((length + 1) * sizeof *operators);
+  if (operators == NULL) exit(2);
+  wasm_refusal refusal;
+  uint8_t out[64] = {0}, kept[64] = {0}, none[64] = {0};
+  text found = {"", 0}, wanted = {"", 0};
+  wasm_read_body(bytes, length, 0, WASM_FEATURES_ALL, operators, length, &count, &refusal);
+  for (size_t i = 0; i < count; i++) {
+    wasm_operator op = operators[i];
+    if (op.offset != at) continue;
+    if (wasm_encode_operator(&op, bytes, length, 0, WASM_FEATURES_ALL, out, sizeof out, &written, &refusal) != 0) {
+      add_error(&found, &refusal);
+      break;
+    }
+    for (size_t k = 0; k < written; k++) add(&found, "%02x", out[k]);
+    uint32_t short_by_one = wasm_encode_operator(&op, bytes, length, 0, WASM_FEATURES_ALL, kept, written - 1, &again, &refusal);
+    op.shape = 200;
+    uint32_t no_shape = wasm_encode_operator(&op, bytes, length, 0, WASM_FEATURES_ALL, out, sizeof out, &shape, &refusal);
+    add(&found, " %" PRIu32 " %d %d %" PRIu32, short_by_one, again == written, memcmp(kept, none, sizeof none) == 0, no_shape);
+  }
+  add(&wanted, "%s 102 1 1 112", shortest);
+  compare("wasm_encode_operator", &found, wanted.bytes);
+  free(operators);
+  free(bytes);
+}
+
 static void look_at(char *line) {
   char *cells[CELLS] = {NULL};
   size_t count = 0;
@@ -208,6 +237,8 @@ static void look_at(char *line) {
     look_at_module(cells[1], 0, cells[2]);
   } else if (strcmp(cells[0], "function") == 0 && count == 3) {
     look_at_module(cells[1], 1, cells[2]);
+  } else if (strcmp(cells[0], "encode") == 0 && count == 4) {
+    look_at_encoding(cells[1], strtoull(cells[2], NULL, 10), cells[3]);
   } else if (strcmp(cells[0], "list") != 0) {
     printf("a row of an unknown sort: %s\n", cells[0]);
     differ++;

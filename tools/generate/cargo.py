@@ -3,7 +3,7 @@
 from arities import REACHING
 from changes import rust_change, with_role
 from immediates import TYPES
-from plain import number
+from plain import bound, number
 from table import shared
 from templates import filled, filled_file
 
@@ -143,6 +143,24 @@ def operator_source(ops):
     )
 
 
+# The types that are passed by reference.
+BY_REFERENCE = ("BrTable<'a>", "SelectTypes", "TryTable", "ResumeTable")
+# The shapes whose conversion may fail: a type may have an index that no bytes encode.
+MAY_FAIL = ("heap", "cast", "block", "select_one", "try_table")
+
+
+def plain_arm(op):
+    inside = ", ".join(f"{name}: {to}" for name, _, to in bound(op))
+    values = [f"0x{number(op):x}", *[to if ty in BY_REFERENCE else f"*{to}" for _, ty, to in bound(op)]]
+    pattern = f"Operator::{op.name}" + (f" {{ {inside} }}" if inside else "")
+    shape = op.combination.shape
+    return f"        {pattern} => shapes::{shape}({', '.join(values)}){'?' if shape in MAY_FAIL else ''},"
+
+
+def plain_source(ops):
+    return filled_file("cargo/plain.rs", arms=[plain_arm(op) for op in ops])
+
+
 def visit_source(ops):
     first, _ = shared(ops)
     return filled_file(
@@ -185,5 +203,5 @@ def change_source(ops):
 def cargo_files(ops):
     """Returns the files, over the operators whose immediates have values here."""
     ops = [op for op in ops if op.combination]
-    sources = {"operator": operator_source, "visit": visit_source, "macros": macros_source, "frame_change": change_source}
+    sources = {"operator": operator_source, "plain": plain_source, "visit": visit_source, "macros": macros_source, "frame_change": change_source}
     return {f"bindings/rust/src/{name}.rs": source(ops) for name, source in sources.items()}

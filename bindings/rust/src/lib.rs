@@ -37,6 +37,7 @@ mod composite;
 mod constant;
 mod custom;
 mod dylink0;
+mod encode;
 mod error;
 mod externals;
 mod features;
@@ -55,8 +56,10 @@ mod operator;
 mod operators_reader;
 mod parser;
 mod payload;
+mod plain;
 mod section;
 mod segments;
+mod shapes;
 mod text;
 mod types;
 mod visit;
@@ -78,6 +81,7 @@ pub use custom::{
 pub use dylink0::{
     Dylink0SectionReader, Dylink0Subsection, ExportInfo, ImportInfo, MemInfo, SymbolFlags,
 };
+pub use encode::{CodeSection, Encode, FunctionBuilder};
 pub use error::{BinaryReaderError, Error, Result};
 pub use externals::{
     Export, ExportSectionReader, ExternalKind, FunctionSectionReader, GlobalType, Import,

@@ -43,6 +43,11 @@ impl<'a> BrTable<'a> {
         }
     }
 
+    /// Returns the bytes from the operator on, and the library's bits of the features.
+    pub(crate) fn source(&self) -> (&'a [u8], u32) {
+        (self.bytes, self.features)
+    }
+
     /// Returns the number of targets, without the default one.
     pub fn len(&self) -> u32 {
         self.count

@@ -342,6 +342,17 @@ unsafe extern "C" {
         length: *mut usize,
         refusal: *mut Refusal,
     ) -> u32;
+    fn wasm_encode_operator(
+        operator: *const PlainOperator,
+        bytes: *const u8,
+        bytes_length: usize,
+        offset: u64,
+        features: u32,
+        out: *mut u8,
+        out_length: usize,
+        length: *mut usize,
+        refusal: *mut Refusal,
+    ) -> u32;
     fn wasm_open_bodies(
         bytes: *const u8,
         bytes_length: usize,
@@ -697,6 +708,38 @@ pub fn operator_text_name(
     at: u64,
 ) -> Result<String, Refusal> {
     operator_text_by(wasm_operator_text_name, bytes, offset, features, at)
+}
+
+/// Writes the shortest encoding of an operator to `out`. Returns its length, which may be greater
+/// than the length of `out`. Then nothing is written.
+pub fn encode_operator(
+    operator: &PlainOperator,
+    bytes: &[u8],
+    offset: u64,
+    features: u32,
+    out: &mut [u8],
+) -> Result<usize, Refusal> {
+    let mut length = 0;
+    let mut refusal = Refusal::default();
+    // SAFETY: see the head.
+    let number = unsafe {
+        wasm_encode_operator(
+            operator,
+            bytes.as_ptr(),
+            bytes.len(),
+            offset,
+            features,
+            out.as_mut_ptr(),
+            out.len(),
+            &mut length,
+            &mut refusal,
+        )
+    };
+    if number == 0 || number == NO_ROOM {
+        Ok(length)
+    } else {
+        Err(refusal)
+    }
 }
 
 pub fn open_bodies(bytes: &[u8]) -> Result<PlainBodies, Refusal> {

@@ -347,6 +347,28 @@ fn abstract_heap_type(byte: u32) -> AbstractHeapType {
     }
 }
 
+impl AbstractHeapType {
+    /// Returns the byte of the library.
+    pub(crate) fn byte(self) -> u32 {
+        match self {
+            AbstractHeapType::Cont => 0x68,
+            AbstractHeapType::Exn => 0x69,
+            AbstractHeapType::Array => 0x6a,
+            AbstractHeapType::Struct => 0x6b,
+            AbstractHeapType::I31 => 0x6c,
+            AbstractHeapType::Eq => 0x6d,
+            AbstractHeapType::Any => 0x6e,
+            AbstractHeapType::Extern => 0x6f,
+            AbstractHeapType::Func => 0x70,
+            AbstractHeapType::None => 0x71,
+            AbstractHeapType::NoExtern => 0x72,
+            AbstractHeapType::NoFunc => 0x73,
+            AbstractHeapType::NoExn => 0x74,
+            AbstractHeapType::NoCont => 0x75,
+        }
+    }
+}
+
 /// Returns the heap type of a kind and an index of the library.
 pub(crate) fn heap_type(kind: u32, index: u32) -> HeapType {
     match kind {

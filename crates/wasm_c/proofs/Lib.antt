@@ -16,3 +16,4 @@ pub mod ValueReads
 pub mod BeforeSimd
 pub mod Whole
 pub mod Room
+pub mod Encoded

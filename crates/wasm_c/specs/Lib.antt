@@ -4,6 +4,7 @@ pub mod Texts
 pub mod Frames
 pub mod Steps
 pub mod Members
+pub mod Encodings
 pub mod Values
 pub mod OperatorTexts
 pub mod Modules

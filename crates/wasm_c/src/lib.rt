@@ -19,6 +19,7 @@ ghost use Rattle.wasm_text.specs.Operands.{text_of};
 ghost use Rattle.wasm_view.specs.Lists.{targets_of, types_of, catches_of, handles_of};
 ghost use Rattle.wasm_view.specs.Names.{name_at};
 ghost use Rattle.wasm_view.specs.View.{view_of};
+ghost use Rattle.wasm_c.specs.Encodings.{WritesView};
 ghost use Rattle.wasm_c.specs.Members.{ReturnsList};
 ghost use Rattle.wasm_c.specs.Modules.{ReturnsBodies, ReturnsBody, ReturnsName};
 ghost use Rattle.wasm_c.specs.OperatorTexts.{RefusesText, RefusesTextName, ReturnsTextAt};
@@ -31,6 +32,7 @@ ghost use Rattle.wasm_c.specs.Values.{ReturnsValue};
 
 mod body;
 mod counter;
+mod encoding;
 mod features;
 mod frames;
 mod in_frame;
@@ -47,6 +49,7 @@ mod values;
 mod viewer;
 
 use crate::body::read_body;
+use crate::encoding::write_view_of;
 use crate::features::known_features;
 use crate::lists::{catches_at, handles_at, targets_at, types_at};
 use crate::operator_text::{write_name_at, write_text_at};
@@ -383,6 +386,28 @@ pub fn wasm_operator_text_name(
     ensures name { ReturnsTextAt text_name RefusesTextName refusal.new bytes.now offset features at length.old length.new name.old name.new }
 {
     *refusal = write_name_at(alloc, bytes, offset, features, at, name, length);
+    refusal.number
+}
+
+/// Writes the shortest encoding of an operator. Sets `length` to its number of bytes, also if they
+/// do not fit.
+///
+/// The fields of `operator` are written. An operator with a list is written as it is in `bytes`, at
+/// `operator.offset`.
+pub fn wasm_encode_operator(
+    alloc: Global,
+    operator: &WasmOperator,
+    bytes: &[u8],
+    offset: u64,
+    features: u32,
+    out: &mut [u8],
+    length: &mut usize,
+    refusal: &mut WasmRefusal,
+) -> u32
+    ensures outcome { result ≡ refusal.new.number }
+    ensures writes { WritesView refusal.new operator.now bytes.now offset features length.old length.new out.old out.new }
+{
+    *refusal = write_view_of(alloc, operator, bytes, offset, features, out, length);
     refusal.number
 }
 

@@ -41,7 +41,8 @@ pub fn reader_from<'a>(
     }
 }
 
-fn operator_at<'a>(
+/// Returns the operator at the offset `at`, which is read as if inside a block.
+pub fn operator_at<'a>(
     alloc: Global,
     bytes: &'a [u8],
     offset: u64,

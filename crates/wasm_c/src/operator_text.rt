@@ -14,7 +14,7 @@ use wasm_operators::{BinaryReader, Error, FrameKind, Message, ReadOperators};
 use wasm_text::{text_name, write_operator};
 
 /// Returns a frame that allows the next operator, if one does.
-fn frame_for(ahead: &BinaryReader<'_>) -> FrameKind
+pub fn frame_for(ahead: &BinaryReader<'_>) -> FrameKind
     ensures { result ≡ frame_for (rest ahead.now) }
 {
     match ahead.peek() {

@@ -20,13 +20,15 @@ pub const NO_LIST: u32 = 104;
 
 pub const NO_VALUE_KIND: u32 = 105;
 
+pub const NOT_WRITABLE: u32 = 112;
+
 /// An error as a C struct of 24 bytes.
 #[repr(C)]
 #[derive(Clone, Copy, Debug, PartialEq, Eq)]
 pub struct WasmRefusal {
     /// The offset of the error, else of where the call ended.
     pub offset: u64,
-    /// 0 for no error, 1 to 28 for an error in the bytes or of allocation, 100 to 111 for an error
+    /// 0 for no error, 1 to 28 for an error in the bytes or of allocation, 100 to 112 for an error
     /// in the arguments or the module.
     pub number: u32,
     /// The number of the name in the error's text, plus 16 times the number of a second name.

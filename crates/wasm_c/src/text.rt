@@ -97,16 +97,22 @@ fn put_binary(value: u32, at: usize, text: &mut [u8]) -> usize
     put_bit(value, first, text)
 }
 
-/// Writes a text of one piece. Returns its whole length.
-pub fn write_one(first: &str, text: &mut [u8]) -> usize
-    ensures { ReturnsText (Some first.now) text.old result text.new }
+/// Writes as many bytes as fit. Returns the number of all.
+pub fn write_bytes(bytes: &[u8], text: &mut [u8]) -> usize
+    ensures { ReturnsText (Some bytes.now) text.old result text.new }
 {
-    let bytes = first.as_bytes();
     let room = bytes.len().min(text.len());
     'bytes: for index in 0..room {
         text[index] = bytes[index];
     }
     bytes.len()
+}
+
+/// Writes a text of one piece. Returns its whole length.
+pub fn write_one(first: &str, text: &mut [u8]) -> usize
+    ensures { ReturnsText (Some first.now) text.old result text.new }
+{
+    write_bytes(first.as_bytes(), text)
 }
 
 fn write_two(first: &str, second: &str, text: &mut [u8]) -> usize

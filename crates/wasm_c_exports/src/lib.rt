@@ -18,6 +18,7 @@ ghost use Rattle.wasm_text.specs.Operands.{text_of};
 ghost use Rattle.wasm_view.specs.Lists.{targets_of, types_of, catches_of, handles_of};
 ghost use Rattle.wasm_view.specs.Names.{name_at};
 ghost use Rattle.wasm_view.specs.View.{view_of};
+ghost use Rattle.wasm_c.specs.Encodings.{WritesView};
 ghost use Rattle.wasm_c.specs.Members.{ReturnsList};
 ghost use Rattle.wasm_c.specs.Modules.{ReturnsBodies, ReturnsBody, ReturnsName};
 ghost use Rattle.wasm_c.specs.OperatorTexts.{RefusesText, RefusesTextName, ReturnsTextAt};
@@ -324,6 +325,26 @@ pub extern "C" fn wasm_operator_text_name(
     ensures name { ReturnsTextAt text_name RefusesTextName refusal.new bytes.now offset features at length.old length.new name.old name.new }
 {
     wasm_c::wasm_operator_text_name(alloc, bytes, offset, features, at, name, length, refusal)
+}
+
+/// `wasm_c::wasm_encode_operator` for C.
+#[unsafe(no_mangle)]
+pub extern "C" fn wasm_encode_operator(
+    alloc: Global,
+    operator: &WasmOperator,
+    bytes: &[u8],
+    offset: u64,
+    features: u32,
+    out: &mut [u8],
+    length: &mut usize,
+    refusal: &mut WasmRefusal,
+) -> u32
+    ensures outcome { result ≡ refusal.new.number }
+    ensures writes { WritesView refusal.new operator.now bytes.now offset features length.old length.new out.old out.new }
+{
+    wasm_c::wasm_encode_operator(
+        alloc, operator, bytes, offset, features, out, length, refusal,
+    )
 }
 
 /// `wasm_c::wasm_open_bodies` for C.
