@@ -15,6 +15,7 @@ only O = record {
   globals = λ i. None;
   tables = λ i. None;
   memories = λ i. None;
+  tags = λ i. None;
   elements = λ i. None;
   has_data = λ i. false;
   is_declared = λ i. false;

@@ -2,7 +2,7 @@
 use crate::types::Types;
 use wasm_below::{RefType, ValType};
 use wasm_check_control::{
-    CompositeKind, FieldType, FuncType, GlobalType, ModuleContext, StructType, TableType,
+    CompositeKind, FieldType, FuncType, GlobalType, LocalType, ModuleContext, StructType, TableType,
 };
 
 /// A context that has nothing but the order of the types, for matching.
@@ -45,7 +45,7 @@ impl<'t> ModuleContext for Only<'t> {
         None
     }
 
-    fn local_type(&self, _index: u32) -> Option<ValType> {
+    fn local_type(&self, _index: u32) -> Option<LocalType> {
         None
     }
 
@@ -58,6 +58,10 @@ impl<'t> ModuleContext for Only<'t> {
     }
 
     fn memory64(&self, _index: u32) -> Option<bool> {
+        None
+    }
+
+    fn tag_type(&self, _index: u32) -> Option<FuncType<'_>> {
         None
     }
 
