@@ -19,9 +19,11 @@ pub enum Choice {
 pub struct Options {
     /// Whether the sections are listed.
     pub headers: bool,
+    /// Whether the contents of the sections are shown.
+    pub details: bool,
     /// Whether the functions are disassembled.
     pub functions: bool,
-    /// Whether the operators are counted, in place of both.
+    /// Whether the operators are counted, in place of all these.
     pub census: bool,
     /// Which functions are disassembled or counted.
     pub function: Choice,
@@ -157,16 +159,17 @@ fn read_long(
             options.headers = true;
             Next::Any
         }
+        "--details" => {
+            options.details = true;
+            Next::Any
+        }
         "--census" => {
             options.census = true;
             Next::Any
         }
-        "--details"
-        | "--full-contents"
-        | "--section"
-        | "--reloc"
-        | "--debug"
-        | "--section-offsets" => return Err(Mistake::Unsupported(word)),
+        "--full-contents" | "--section" | "--reloc" | "--debug" | "--section-offsets" => return Err(
+            Mistake::Unsupported(word),
+        ),
         _ => return Ok((read_assigned(alloc, options, word)?, Next::Any)),
     };
     Ok((options, next))
@@ -202,7 +205,8 @@ fn set_letters(options: &mut Options, letters: &str) -> Letters {
         match letter {
             'd' => options.functions = true,
             'h' => options.headers = true,
-            'x' | 's' | 'j' | 'r' => return Letters::Unsupported,
+            'x' => options.details = true,
+            's' | 'j' | 'r' => return Letters::Unsupported,
             _ => return Letters::Unknown,
         }
     }
@@ -222,10 +226,10 @@ fn read_short(mut options: Options, word: String) -> Result<Options, Mistake> {
     }
 }
 
-/// Completes the request: disassembly unless sections are listed, standard input if no file is
-/// named.
+/// Completes the request: disassembly unless sections are listed or shown, standard input if no file
+/// is named.
 fn finished(alloc: Global, mut options: Options) -> Words {
-    options.functions |= !options.headers;
+    options.functions |= !options.headers && !options.details;
     if options.files.is_empty() {
         let Ok(input) = String::from_str(alloc, "-") else {
             return Words::Mistake(Mistake::Memory);
@@ -241,6 +245,7 @@ fn finished(alloc: Global, mut options: Options) -> Words {
 pub fn read_words(alloc: Global, words: Vec<String>) -> Words {
     let mut read = Options {
         headers: false,
+        details: false,
         functions: false,
         census: false,
         function: Choice::All,

@@ -1,8 +1,8 @@
-//! Lists the sections of WebAssembly modules and disassembles their functions in the form of
-//! `wasm-objdump` of wabt, or counts their operators by proposal.
+//! Lists the sections of WebAssembly modules, shows their contents and disassembles their functions
+//! in the form of `wasm-objdump` of wabt, or counts their operators by proposal.
 //!
-//! The main theorems are the contracts of `run` and `list_headers` of `wasm_disassembly`, which
-//! hold for any writer.
+//! The main theorems are the contracts of `run` and `list_headers` of `wasm_disassembly`, and of
+//! `list_details` of `wasm_details`, which hold for any writer.
 #![tactic(auto)]
 
 mod arguments;
@@ -18,6 +18,7 @@ use std::env::Env;
 use std::io::{BufWriter, Write};
 use std::process::ExitCode;
 use std::{env, io};
+use wasm_details::list_details;
 use wasm_disassembly::{
     Fault, ModuleRequest, before_cut, find_cut, function_named, list_headers, run,
 };
@@ -25,12 +26,13 @@ use wasm_module::Functions;
 
 const HELP: &str = "Usage: wasm_objdump [OPTION].. [FILE]..
 
-Lists the sections of WebAssembly modules and disassembles their functions. Reads standard input if
-no FILE is given, and for a FILE that is `-`.
+Lists the sections of WebAssembly modules, shows their contents and disassembles their functions.
+Reads standard input if no FILE is given, and for a FILE that is `-`.
 
   -h, --headers        list the sections
-  -d, --disassemble    disassemble the functions; the default without -h
-      --census         count the operators by proposal, in place of -h and -d
+  -x, --details        show the contents of the sections
+  -d, --disassemble    disassemble the functions; the default without -h and -x
+      --census         count the operators by proposal, in place of -h, -x and -d
       --function F     only the function with index F, such as 3 or 0x3, or with the name F
       --features WORD  all (the default), none, or names joined by |: MULTI_MEMORY, MEMORY64,
                        CALL_INDIRECT_OVERLONG, LEGACY_EXCEPTIONS, ACQUIRE_RELEASE_ATOMICS,
@@ -141,6 +143,62 @@ fn dump_functions(
     }
 }
 
+/// Returns the fault of a listing that is the fault of section details.
+fn fault_of(fault: wasm_details::Fault) -> Fault {
+    match fault {
+        wasm_details::Fault::Section(e) => Fault::Section(e),
+        wasm_details::Fault::Writing => Fault::Writing,
+        wasm_details::Fault::Memory => Fault::Memory,
+    }
+}
+
+/// Prints why the sections are not listed or shown completely. Returns the exit status; as an error
+/// if no other listing follows.
+fn section_status(
+    listed: Result<(), Fault>,
+    writer: &mut Output<'_>,
+    printed: &mut Printed<'_>,
+) -> Result<u8, u8> {
+    let Err(fault) = listed else {
+        return Ok(0);
+    };
+    let _ = writer.flush();
+    let status = printed.fault(fault);
+    match fault {
+        Fault::Section(_) => Ok(status),
+        _ => Err(status),
+    }
+}
+
+/// Writes the sections and their contents, as requested. Returns the exit status, as an error if no
+/// other listing follows, and the title if it is not written.
+fn dump_sections<'a>(
+    rt: &HostRuntime,
+    options: &Options,
+    title: Option<&'a str>,
+    bytes: &[u8],
+    writer: &mut Output<'_>,
+    printed: &mut Printed<'_>,
+) -> Result<(u8, Option<&'a str>), u8> {
+    let mut untold = title;
+    let mut status: u8 = 0;
+    if options.headers {
+        let listed = list_headers(rt.alloc(), options.features, untold, bytes, writer);
+        status = section_status(listed, writer, printed)?;
+        untold = None;
+    }
+    if options.details {
+        let listed = match list_details(rt.alloc(), options.features, untold, bytes, writer) {
+            Ok(Ok(())) => Ok(()),
+            Ok(Err(fault)) => Err(fault_of(fault)),
+            Err(fault) => Err(Fault::Module(fault)),
+        };
+        status = status.max(section_status(listed, writer, printed)?);
+        untold = None;
+    }
+    Ok((status, untold))
+}
+
 /// Writes what is requested of a module, and returns the exit status.
 fn dump_module(
     rt: &HostRuntime,
@@ -155,22 +213,15 @@ fn dump_module(
         Some((_, name)) => Some(name),
         None => Some(shown),
     };
-    if options.census || !options.headers {
+    if options.census {
         return dump_functions(rt, options, title, bytes, writer, &mut printed);
     }
-    let status = match list_headers(rt.alloc(), options.features, title, bytes, writer) {
-        Ok(()) => 0,
-        Err(fault) => {
-            let _ = writer.flush();
-            let status = printed.fault(fault);
-            match fault {
-                Fault::Section(_) => status,
-                _ => return status,
-            }
-        }
+    let (status, untold) = match dump_sections(rt, options, title, bytes, writer, &mut printed) {
+        Ok(dumped) => dumped,
+        Err(status) => return status,
     };
     if options.functions {
-        status.max(dump_functions(rt, options, None, bytes, writer, &mut printed))
+        status.max(dump_functions(rt, options, untold, bytes, writer, &mut printed))
     } else {
         status
     }
