@@ -16,9 +16,10 @@ The lines of the input have cells with tabs between them:
     value  KIND  ARGUMENT  HEX  VALUE a value and its numbers in C, or the number and the offset of the error
     module  HEX  FUNCTIONS            a module and its functions: the index, the offset and the name of each
     function  HEX  FUNCTIONS          the same with the length and the type index of each
+    encode  HEX  AT  SHORTEST         a body with an operator, its offset, and its shortest encoding
 
 The README of the program says which bodies it takes. The texts are from crates/wasm_tests_bodies/stdin and
-crates/wasm_objdump/data. VALUES and FUNCTIONS are made by hand.
+crates/wasm_objdump/data, the encodings from crates/wasm_tests_encode/stdin. VALUES and FUNCTIONS are made by hand.
 """
 
 import re
@@ -29,6 +30,7 @@ from shared.written import write_or_check
 
 ANSWERS = TOP / "crates/wasm_tests_replay/stdin"
 ROWS = TOP / "crates/wasm_tests_bodies/stdin"
+ENCODINGS = TOP / "crates/wasm_tests_encode/stdin"
 MODULES = TOP / "crates/wasm_objdump/data"
 CRATE = TOP / "crates/wasm_tests_c"
 HEADER = TOP / "include/wasm_operators.h"
@@ -200,11 +202,20 @@ def function_lines(text):
     return [f"function\t{module}\t{FUNCTIONS}"]
 
 
+def encode_lines(text):
+    lines = []
+    for line in text.splitlines():
+        _, before, operator, after, shortest = line.split("\t")
+        lines.append(f"encode\t{before}{operator}{after}\t{len(before) // 2}\t{shortest}")
+    return lines
+
+
 def small_lines(text):
     return {
         "wasm_open_bodies, wasm_next_body, wasm_function_name": [*function_lines(text), *module_lines()],
         "wasm_operator_text, wasm_operator_text_name": text_lines(text),
         "wasm_read_value": value_lines(),
+        "wasm_encode_operator": encode_lines(ENCODINGS.read_text(encoding="utf-8")),
     }
 
 

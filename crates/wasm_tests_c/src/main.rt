@@ -2,6 +2,7 @@
 //! differ.
 #![tactic(auto)]
 
+mod encodings;
 mod lists;
 mod modules;
 mod outcomes;

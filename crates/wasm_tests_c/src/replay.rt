@@ -1,8 +1,12 @@
+use crate::encodings::write_encoding;
 use crate::lists::{write_catches, write_clauses, write_targets, write_types};
 use crate::modules::{self, write_functions};
 use crate::outcomes::{write_end, write_lines, write_outcome, write_text};
 use crate::reading::{Found, Source, by_batches, step_by_step, whole};
-use crate::row::{Body, List, Module, Text, Value, body_of, list_of, module_of, text_of, value_of};
+use crate::row::{
+    Body, Encoding, List, Module, Text, Value, body_of, encoding_of, list_of, module_of, text_of,
+    value_of,
+};
 use crate::tally::Tally;
 use crate::values::{write_constant, write_locals, write_value};
 use std::alloc::Global;
@@ -29,6 +33,7 @@ pub struct Replay {
     operator_text: Tally,
     value: Tally,
     module: Tally,
+    encoding: Tally,
     unread: Tally,
 }
 
@@ -52,6 +57,7 @@ impl Replay {
             operator_text: Tally::new("wasm_operator_text, wasm_operator_text_name"),
             value: Tally::new("wasm_read_value"),
             module: Tally::new("wasm_open_bodies, wasm_next_body, wasm_function_name"),
+            encoding: Tally::new("wasm_encode_operator"),
             unread: Tally::new("lines of another sort"),
         }
     }
@@ -67,6 +73,8 @@ impl Replay {
             self.value(rt, &value)
         } else if let Some(module) = module_of(line) {
             self.module(rt, &module)
+        } else if let Some(encoding) = encoding_of(line) {
+            self.encoding(rt, &encoding)
         } else {
             self.unread.compare(rt, line, "a line of a known sort")
         }
@@ -110,6 +118,17 @@ impl Replay {
         let mut found = String::new(alloc);
         write_functions(alloc, &mut found, bytes.as_slice(), module.is_whole)?;
         self.module.compare(rt, found.as_str(), module.functions)
+    }
+
+    /// Compares the shortest encoding, and the errors for too little space and for another shape.
+    fn encoding<R: Print>(&mut self, rt: &R, encoding: &Encoding<'_>) -> io::Result<()> {
+        let alloc = self.alloc;
+        let mut bytes = Vec::new(alloc);
+        read_hex(&mut bytes, encoding.bytes)?;
+        let mut found = String::new(alloc);
+        write_encoding(alloc, &mut found, bytes.as_slice(), encoding.at)?;
+        let expected = format!(in alloc; "{} 102 true 112", encoding.shortest)?;
+        self.encoding.compare(rt, found.as_str(), expected.as_str())
     }
 
     /// Compares the calls that read a body. Without locals, the bytes after the first are an
@@ -227,6 +246,7 @@ impl Replay {
         self.module.print(rt)?;
         self.operator_text.print(rt)?;
         self.value.print(rt)?;
+        self.encoding.print(rt)?;
         self.unread.print(rt)
     }
 }

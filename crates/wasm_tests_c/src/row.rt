@@ -55,6 +55,27 @@ pub fn list_of<'r>(line: &'r str) -> Option<List<'r>> {
     })
 }
 
+/// A function body with an operator at an offset.
+#[derive(Clone, Copy)]
+pub struct Encoding<'r> {
+    pub bytes: &'r str,
+    pub at: u64,
+    /// The operator's shortest encoding.
+    pub shortest: &'r str,
+}
+
+pub fn encoding_of<'r>(line: &'r str) -> Option<Encoding<'r>> {
+    let mut cells = line.split('\t');
+    let "encode" = cells.next()? else {
+        return None;
+    };
+    Some(Encoding {
+        bytes: cells.next()?,
+        at: cells.next()?.parse::<u64>().ok()?,
+        shortest: cells.next()?,
+    })
+}
+
 #[derive(Clone, Copy)]
 pub struct Text<'r> {
     pub bytes: &'r str,
