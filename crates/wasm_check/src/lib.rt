@@ -9,6 +9,6 @@ pub use check::check_expression;
 pub use error::CheckError;
 pub use visitor::TypeChecker;
 pub use wasm_check_control::{
-    CompositeKind, FieldType, FuncType, GlobalType, LocalType, Mismatch, ModuleContext,
-    StorageType, StructType, TableType,
+    CompositeKind, FuncType, GlobalType, LocalType, Mismatch, ModuleContext, StructType, TableType,
 };
+pub use wasm_types::{FieldType, StorageType};

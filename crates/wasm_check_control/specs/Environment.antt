@@ -1,17 +1,14 @@
 -- The part of a context that a function body does not change.
 -- WebAssembly Core Specification 3.0: Validation, Conventions, Contexts.
-use Rattle.std.specs.Prelude.{ℕ, Bool, true, false, List, map, reverse, Option}
+use Rattle.std.specs.Prelude.{ℕ, Bool, List, map, reverse, Option}
 use Rattle.wasm_below.specs.Reference.{Reference}
 use Rattle.wasm_below.specs.declared.types.ValType.{ValType}
-use Rattle.wasm_below.specs.declared.types.ValType.TheVariants as value
+use Rattle.wasm_types.specs.declared.fields.FieldType.{FieldType}
 use Rattle.wasm_typing.specs.Types.{Stack, FunctionType, value_type}
 use Rattle.wasm_typing.specs.Matching as matching
 use Rattle.wasm_check_control.specs.declared.context.CompositeKind.{CompositeKind}
 use Rattle.wasm_check_control.specs.declared.context.CompositeKind.TheVariants as kind
 use Rattle.wasm_check_control.specs.declared.context.FuncType.{FuncType}
-use Rattle.wasm_check_control.specs.declared.context.FieldType.{FieldType}
-use Rattle.wasm_check_control.specs.declared.context.StorageType.{StorageType}
-use Rattle.wasm_check_control.specs.declared.context.StorageType.TheVariants as storage
 use Rattle.wasm_check_control.specs.declared.context.GlobalType.{GlobalType}
 use Rattle.wasm_check_control.specs.declared.context.StructType.{StructType}
 use Rattle.wasm_check_control.specs.declared.context.LocalType.{LocalType}
@@ -24,18 +21,6 @@ pub record Global : Type 0 where
 pub record Table : Type 0 where
   pub element : Reference
   pub is_64 : Bool
-
--- The type of the operands of a field. Section Storage Types.
-abbrev pub unpack : StorageType → ValType
-unpack storage.I8 = value.I32
-unpack storage.I16 = value.I32
-unpack (storage.Val v) = v
-
--- A type of integers with 8 or 16 bits.
-abbrev pub is_packed : StorageType → Bool
-is_packed storage.I8 = true
-is_packed storage.I16 = true
-is_packed (storage.Val v) = false
 
 -- By index: function types, fields of structure types, elements of array types, functions, locals,
 -- globals, tables, whether the addresses of a memory are i64, tags, the types of element segments, data

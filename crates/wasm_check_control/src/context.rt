@@ -1,9 +1,10 @@
 ghost use Rattle.std.specs.Prelude.{◌≡◌};
 ghost use Rattle.std.specs.Option.{option_map};
 ghost use Rattle.wasm_typing.specs.Matching.{IsOrder};
-ghost use Rattle.wasm_check_control.specs.Environment.{Environment, composite_kind, type_of, global_of, table_of, stack_of, unpack, is_packed, fields_of};
+ghost use Rattle.wasm_check_control.specs.Environment.{Environment, composite_kind, type_of, global_of, table_of, stack_of, fields_of};
 
 use wasm_below::{RefType, ValType};
+use wasm_types::FieldType;
 
 /// The kind of a composite type.
 #[derive(Clone, Copy, Debug, PartialEq, Eq)]
@@ -40,42 +41,6 @@ pub struct TableType {
     pub element_type: RefType,
     /// Whether the indices of elements are `i64`.
     pub table64: bool,
-}
-
-/// The type of a field in memory.
-#[derive(Clone, Copy, Debug)]
-pub enum StorageType {
-    I8,
-    I16,
-    Val(ValType),
-}
-
-impl StorageType {
-    /// Returns the type of operands: `i32` for a packed type.
-    pub fn unpack(self) -> ValType
-        ensures { result ≡ unpack self }
-    {
-        match self {
-            StorageType::I8 | StorageType::I16 => ValType::I32,
-            StorageType::Val(ty) => ty,
-        }
-    }
-
-    pub fn is_packed(self) -> bool
-        ensures { result ≡ is_packed self }
-    {
-        match self {
-            StorageType::I8 | StorageType::I16 => true,
-            StorageType::Val(_) => false,
-        }
-    }
-}
-
-/// The type of a structure's field or of an array's elements.
-#[derive(Clone, Copy, Debug)]
-pub struct FieldType {
-    pub element_type: StorageType,
-    pub mutable: bool,
 }
 
 /// A structure type.

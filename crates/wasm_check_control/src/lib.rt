@@ -14,8 +14,7 @@ mod set_locals;
 mod value_matches;
 
 pub use context::{
-    CompositeKind, FieldType, FuncType, GlobalType, LocalType, ModuleContext, StorageType,
-    StructType, TableType,
+    CompositeKind, FuncType, GlobalType, LocalType, ModuleContext, StructType, TableType,
 };
 pub use control::{Control, Mismatch};
 pub use frame::{Frame, FrameKind, ResultTypes};

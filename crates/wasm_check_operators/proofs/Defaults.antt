@@ -1,7 +1,7 @@
 -- The fields of a structure, one after another.
 use Rattle.std.proofs.Common.{◌≡◌, ℕ, suc, ◌+◌, ◌<◌, Bool, if◌then◌else◌, false, List, length, drop, get_or, sym, ap, ◌∙◌, add-one}
 use Rattle.std.proofs.Math.Seq.{drop-cons}
-use Rattle.wasm_check_control.specs.declared.context.FieldType.{FieldType}
+use Rattle.wasm_types.specs.declared.fields.FieldType.{FieldType}
 use Rattle.wasm_check_operators.specs.Aggregates.{has_default, have_defaults}
 
 -- The test of one field decides about the rest.

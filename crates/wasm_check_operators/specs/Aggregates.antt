@@ -10,15 +10,16 @@ use Rattle.wasm_typing.specs.declared.value_type.ValueType.TheVariants.{I32, Ref
 use Rattle.wasm_typing.specs.Types.{value_type}
 use Rattle.wasm_typing.specs.Matching.{TypeOrder, defined, matches}
 use Rattle.wasm_typing.specs.Rules.{Rule, fixed, or_invalid}
-use Rattle.wasm_check_control.specs.Environment.{Environment, unpack, is_packed}
-use Rattle.wasm_check_control.specs.declared.context.FieldType.{FieldType}
-use Rattle.wasm_check_control.specs.declared.context.StorageType.{StorageType}
-use Rattle.wasm_check_control.specs.declared.context.StorageType.TheVariants as storage
+use Rattle.wasm_check_control.specs.Environment.{Environment}
+use Rattle.wasm_types.specs.Types.{is_packed, unpacked}
+use Rattle.wasm_types.specs.declared.fields.FieldType.{FieldType}
+use Rattle.wasm_types.specs.declared.fields.StorageType.{StorageType}
+use Rattle.wasm_types.specs.declared.fields.StorageType.TheVariants as storage
 use Rattle.wasm_check_operators.specs.Forms.{only_if}
 
 -- The operand of a field, unpacked.
 abbrev pub operand : FieldType → ValueType
-operand f = value_type (unpack f.element_type)
+operand f = value_type (unpacked f.element_type)
 
 -- References to the type with this index, null or not.
 abbrev pub or_null : ℕ → ValueType
@@ -33,7 +34,7 @@ is_defaultable (value.Ref r) = r.nullable
 is_defaultable _ = true
 
 abbrev pub has_default : FieldType → Bool
-has_default f = is_defaultable (unpack f.element_type)
+has_default f = is_defaultable (unpacked f.element_type)
 
 abbrev pub have_defaults : List FieldType → Bool
 have_defaults [] = true

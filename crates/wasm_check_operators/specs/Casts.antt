@@ -16,7 +16,7 @@ use Rattle.wasm_typing.specs.Types.{Stack}
 use Rattle.wasm_typing.specs.Matching.{TypeOrder, CompositeKind, of_function, abstract, matches}
 use Rattle.wasm_typing.specs.Rules.{Rule, fixed, invalid, converts, at, or_invalid}
 use Rattle.wasm_check_control.specs.Environment.{Environment}
-use Rattle.wasm_check_control.specs.declared.context.FieldType.{FieldType}
+use Rattle.wasm_types.specs.declared.fields.FieldType.{FieldType}
 use Rattle.wasm_check_operators.specs.Aggregates.{struct_new, struct_new_default, struct_get, struct_set, array_new, array_new_default, array_new_fixed, array_new_data, array_new_elem, array_get, array_set, array_fill, array_copy, array_init_data, array_init_elem}
 use Rattle.wasm_check_operators.specs.Forms.{is_valid_heap, only_if, reference, by_typing, fixed_at}
 

@@ -2,7 +2,8 @@ ghost use Rattle.std.specs.Prelude.{◌≡◌};
 ghost use Rattle.wasm_check_operators.specs.Aggregates.{operand, not_null, is_defaultable, has_default, is_numeric, storage_matches, holds, same};
 
 use wasm_below::{HeapType, RefType, ValType};
-use wasm_check_control::{FieldType, ModuleContext, StorageType, matches};
+use wasm_check_control::{ModuleContext, matches};
+use wasm_types::{FieldType, StorageType};
 use wasm_typing::{Heap, ValueType};
 
 /// Returns the type of a field's operand.

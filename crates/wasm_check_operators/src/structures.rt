@@ -8,7 +8,8 @@ use crate::checker::Checker;
 use crate::fields::{has_default, not_null, operand, same};
 use crate::types::nullable;
 use std::alloc::AllocError;
-use wasm_check_control::{Control, FieldType, ModuleContext};
+use wasm_check_control::{Control, ModuleContext};
+use wasm_types::FieldType;
 
 /// Takes the operands of these fields. The last is on top.
 fn expect_fields<M: ModuleContext>(

@@ -7,7 +7,7 @@ use Rattle.wasm_below.specs.declared.types.ValType.TheVariants as value
 use Rattle.wasm_typing.specs.Types.{FunctionType}
 use Rattle.wasm_typing.specs.Matching.{TypeOrder, CompositeKind, of_function, of_struct, of_array}
 use Rattle.wasm_check_control.specs.Environment.{Environment, Table, stack_of, global_of}
-use Rattle.wasm_check_control.specs.declared.context.FieldType.{FieldType}
+use Rattle.wasm_types.specs.declared.fields.FieldType.{FieldType}
 use Rattle.wasm_tests_check.specs.declared.row.OwnType.{OwnType}
 use Rattle.wasm_tests_check.specs.declared.row.OwnType.TheVariants as own
 use Rattle.wasm_tests_check.specs.declared.row.OwnTable.{OwnTable}

@@ -115,7 +115,7 @@ is_none_left _ = false
 abbrev pub closes : TypeOrder → Stack → State → Bool
 closes O leaves k = is_none_left (pop O leaves k.operands k.unreachable)
 
--- Those of the locals that are not set.
+-- Of a list of locals, those that are not in the list `set`.
 abbrev pub unset : {A : Type 0} → Context A → List ℕ → List ℕ → List ℕ
 unset C [] set = []
 unset C (x ∷ xs) set = if is_ready C (Some x) set then unset C xs set else x ∷ unset C xs set
