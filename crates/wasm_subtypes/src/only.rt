@@ -2,8 +2,9 @@
 use crate::types::Types;
 use wasm_below::{RefType, ValType};
 use wasm_check_control::{
-    CompositeKind, FieldType, FuncType, GlobalType, LocalType, ModuleContext, StructType, TableType,
+    CompositeKind, FuncType, GlobalType, LocalType, ModuleContext, StructType, TableType,
 };
+use wasm_types::FieldType;
 
 /// A context that has nothing but the order of the types, for matching.
 #[derive(Drop)]
