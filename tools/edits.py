@@ -4,14 +4,15 @@
     tools/edits.py [--log LOG]
     tools/edits.py --more [--keep DIR] [--record] [NAME..]
 
-It reads `crates/NAME/must-fail/X.edit`, which the gate tries, the edits in `more-must-fail`, which `--more` tries, and those
-in `tests-catch`, which `tools/run tests_catch` tries. Each replaces texts of a file, which must occur once, in order. With
-`--log` it also fails if the log of `rt ci` has a `BAD EDIT`, which `rt ci` skips.
+An edit replaces texts of files, which must occur once, in order: lines `file: PATH`, `old: TEXT`, `new: TEXT`. The gate
+tries `crates/NAME/must-fail/X.edit`, `--more` those in `crates/NAME/more-must-fail.edits`, and `tools/run tests_catch` those
+in `tests-catch.edits`. In these two, a line `edit: X` starts an edit. With `--log` the check also fails if the log of
+`rt ci` has a `BAD EDIT`, which `rt ci` skips.
 
-The gate does not try `more-must-fail`, since a second edit costs another proof of the crate. `--more` copies the crates,
-puts these edits in the place of the gate's, and runs `rt ci NAME..` there. Without NAME it takes every crate with such
-edits. After the gate, `rt ci` proves no crate below NAME again. `--keep DIR` keeps the copy, in a folder that is new, empty
-or such a copy. `RT_JOBS=N` has `rt` do N things at a time. `--record` writes the crates whose edits were all rejected into
+The gate leaves edits out, since a second edit costs another proof of the crate. `--more` copies the crates, puts these
+edits in the place of the gate's, and runs `rt ci NAME..` there. Without NAME it takes every crate with such edits. After
+the gate, `rt ci` proves no crate below NAME again. `--keep DIR` keeps the copy, in a folder that is new, empty or such a
+copy. `RT_JOBS=N` has `rt` do N things at a time. `--record` writes the crates whose edits were all rejected into
 tools/more_must_fail.tsv, with the commit and the date, for docs/GATE.md. It needs a checkout without changes in crates/.
 
 The last line has the numbers of edits and of wrong ones; the status is 0 if none is wrong.
@@ -31,7 +32,8 @@ from shared.arguments import read
 from shared.crates import TOP
 from shared.tables import rows_of
 
-FOLDERS = ("must-fail", "more-must-fail", "tests-catch")
+GATE, MORE, TESTS = "must-fail", "more-must-fail.edits", "tests-catch.edits"
+KINDS = (GATE, MORE, TESTS)
 PARTS = ("src/", "specs/", "proofs/")
 RECORD = TOP / "tools" / "more_must_fail.tsv"
 COLUMNS = ["crate", "edits", "commit", "date"]
@@ -41,6 +43,29 @@ REJECTED = re.compile(r"(?:rt: )?must-fail (\w+)/(\S+): refused")
 
 class BadEdit(Exception):
     """An edit that can't be applied."""
+
+
+class Edit:
+    """An edit of the crate in the folder `crate`. `place` is its path below that folder."""
+
+    def __init__(self, crate, place, text):
+        self.crate, self.place, self.text = crate, place, text
+        self.name = place.rpartition("/")[2].removesuffix(".edit")
+
+    def __str__(self):
+        return f"crates/{self.crate.name}/{self.place}"
+
+
+def edits_of(crate, kinds=KINDS):
+    """Returns the edits of a crate in the folder or the files of these names."""
+    found = []
+    for kind in kinds:
+        if kind == GATE:
+            found += [Edit(crate, f"{kind}/{it.name}", it.read_text(encoding="utf-8")) for it in sorted(crate.glob(f"{kind}/*.edit"))]
+        elif (crate / kind).exists():
+            parts = re.split(r"^edit: *(.*)\n", (crate / kind).read_text(encoding="utf-8"), flags=re.M)
+            found += [Edit(crate, f"{kind}/{name}", text) for name, text in zip(["", *parts[1::2]], parts[::2]) if name or text.strip()]
+    return found
 
 
 def replacements(text):
@@ -55,14 +80,14 @@ def replacements(text):
                 raise BadEdit("a 'new:' line without a 'file:' and an 'old:' line before it")
             yield name, old, line.removeprefix("new:").removeprefix(" ")
             old = None
-        elif line.strip() and not line.startswith(("#", "--", "//")):
+        elif line.strip() and not line.startswith(("#", "--", "//", "item: ")):
             raise BadEdit(f"a line that is not read: {line.strip()[:60]}")
 
 
-def edited(crate, text):
-    """Returns the changed files of a crate by name, or raises BadEdit."""
-    files, before = {}, {}
-    for name, old, new in replacements(text):
+def edited(edit, crate=None):
+    """Returns the files that an edit changes in its crate, or in the copy `crate`, by name, or raises BadEdit."""
+    files, before, crate = {}, {}, crate or edit.crate
+    for name, old, new in replacements(edit.text):
         if not name.startswith(PARTS):
             raise BadEdit(f"{name} is not below {', '.join(PARTS)}")
         if name not in files:
@@ -78,22 +103,21 @@ def edited(crate, text):
     return files
 
 
-def edits_of(crate, folders=FOLDERS):
-    return sorted(path for folder in folders for path in crate.glob(f"{folder}/*.edit"))
-
-
 def faults(top):
     found, count = [], 0
     for crate in sorted((top / "crates").iterdir()):
-        for path in edits_of(crate):
+        places = [edit.place for edit in edits_of(crate)]
+        found += [f"crates/{crate.name}/{place}: twice" for place in sorted(set(places)) if places.count(place) > 1]
+        for edit in edits_of(crate):
             count += 1
             try:
-                edited(crate, path.read_text(encoding="utf-8"))
+                edited(edit)
             except BadEdit as bad:
-                found.append(f"{path.relative_to(top)}: {bad}")
-        for folder in FOLDERS:
-            strays = [path for path in crate.glob(f"{folder}/*") if path.suffix not in (".edit", ".md")]
-            found += [f"{path.relative_to(top)}: not an edit" for path in strays]
+                found.append(f"{edit}: {bad}")
+        strays = [path for path in crate.glob(f"{GATE}/*") if path.suffix not in (".edit", ".md")]
+        strays += [path for path in crate.glob("*/*.edit") if path.parent.name != GATE]
+        strays += [path for path in crate.glob("*.edits") if path.name not in KINDS]
+        found += [f"{path.relative_to(top)}: not an edit" for path in strays]
     return found, count
 
 
@@ -119,9 +143,10 @@ def copied(folder):
 def exchanged(folder, names):
     """Replaces the gate's edits by the further ones in these crates, and takes all from the others."""
     for crate in (folder / "crates").iterdir():
-        shutil.rmtree(crate / "must-fail", ignore_errors=True)
-        if crate.name in names:
-            (crate / "more-must-fail").rename(crate / "must-fail")
+        shutil.rmtree(crate / GATE, ignore_errors=True)
+        for edit in edits_of(crate, [MORE]) if crate.name in names else []:
+            (crate / GATE).mkdir(exist_ok=True)
+            (crate / GATE / f"{edit.name}.edit").write_text(edit.text, encoding="utf-8")
 
 
 def rejected_in(lines):
@@ -141,7 +166,7 @@ def tried(folder, names):
         for line, edit in rejected_in(ran.stdout):
             print(line, end="", flush=True)
             seen |= {edit} - {None}
-    wanted = {(name, path.name) for name in names for path in edits_of(folder / "crates" / name, ["must-fail"])}
+    wanted = {(name, f"{edit.name}.edit") for name in names for edit in edits_of(folder / "crates" / name, [GATE])}
     wrong = [f"{name}/{edit}" for name, edit in sorted(wanted - seen)]
     if ran.returncode and not wrong:
         wrong = [f"{name}/ (rt ci failed)" for name in names]
@@ -164,20 +189,20 @@ def record(names, commit):
     rows = {row["crate"]: row for row in recorded()}
     today = datetime.date.today().isoformat()
     for name in names:
-        count = len(edits_of(TOP / "crates" / name, ["more-must-fail"]))
+        count = len(edits_of(TOP / "crates" / name, [MORE]))
         rows[name] = {"crate": name, "edits": str(count), "commit": commit, "date": today}
     with open(RECORD, "w", encoding="utf-8", newline="") as out:
         writer = csv.DictWriter(out, COLUMNS, delimiter="\t", lineterminator="\n")
         writer.writeheader()
-        writer.writerows(rows[name] for name in sorted(rows) if (TOP / "crates" / name / "more-must-fail").exists())
+        writer.writerows(rows[name] for name in sorted(rows) if (TOP / "crates" / name / MORE).exists())
 
 
 def try_more(names, kept, is_recorded):
     """Tries the edits that the gate leaves out. Returns how many were rejected, and the others."""
-    every = [path.parent.name for path in sorted(TOP.glob("crates/*/more-must-fail"))]
+    every = [path.parent.name for path in sorted(TOP.glob(f"crates/*/{MORE}"))]
     unknown = [name for name in names if name not in every]
     if unknown:
-        sys.exit(f"no edits in crates/{unknown[0]}/more-must-fail")
+        sys.exit(f"no crates/{unknown[0]}/{MORE}")
     names = names or every
     commit = committed() if is_recorded else None
     with tempfile.TemporaryDirectory(prefix="more-must-fail-") as scratch:

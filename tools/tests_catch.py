@@ -3,9 +3,9 @@
 
     tools/tests_catch.py [--keep DIR] [NAME..]      tries the edits of these crates, or of all
 
-The prover accepts most of them: no contract says, for example, which of a visitor's visits run. An edit
-`crates/NAME/tests-catch/X.edit` has the form of a must-fail edit. Its first line, `# ITEM`, names the item of `tools/test`
-that must fail. Each edit is made in a copy of the repository, in which the item passes before. `--keep DIR` keeps the
+The prover accepts most of them: no contract says, for example, which of a visitor's visits run. The edits in
+`crates/NAME/tests-catch.edits` have the form that `tools/run edits` describes. A line `item: ITEM` names the item of
+`tools/test` that must fail. Each edit is made in a copy of the repository, in which the item passes before. `--keep DIR` keeps the
 programs that are built. An edit takes a minute or two: the program is built again.
 
 The last line is `tests_catch: N caught, M wrong`. The status is 0 if none is wrong.
@@ -17,25 +17,24 @@ import sys
 import tempfile
 from pathlib import Path
 
-from edits import TOP, BadEdit, edited, edits_of
+from edits import TESTS, TOP, BadEdit, edited, edits_of
 from shared.arguments import read
 from testing.outcome import tail
 from testing.running import Clock
 from testing.selftest import LEFT_OUT, run_tool
 
-FOLDER = "tests-catch"
-ITEM = re.compile(r"# ([\w/-]+)\n")
+ITEM = re.compile(r"^item: ([\w/-]+)$", re.M)
 # What a program that does not compile writes.
 NOT_COMPILED = ("not compiled", "error[")
 
 
 def item_of(text):
-    found = ITEM.match(text)
+    found = ITEM.search(text)
     return found[1] if found else None
 
 
 def found_edits(top, names):
-    return [path for name in names for path in edits_of(top / "crates" / name, [FOLDER])]
+    return [edit for name in names for edit in edits_of(top / "crates" / name, [TESTS])]
 
 
 def run_item(copy, kept, item):
@@ -45,11 +44,11 @@ def run_item(copy, kept, item):
     return (item in passed if item in passed | failed else None), text
 
 
-def fault_of(copy, kept, path, item):
+def fault_of(copy, kept, edit, item):
     """Makes an edit in the copy and runs its item. Returns what is wrong, or None."""
-    crate = copy / path.parent.parent.relative_to(TOP)
+    crate = copy / "crates" / edit.crate.name
     try:
-        changed = edited(crate, path.read_text(encoding="utf-8"))
+        changed = edited(edit, crate)
     except BadEdit as bad:
         return f"BAD EDIT: {bad}"
     before = {name: (crate / name).read_text(encoding="utf-8") for name in changed}
@@ -65,32 +64,31 @@ def fault_of(copy, kept, path, item):
     return None if passes is False else f"NOT CAUGHT by {item}"
 
 
-def tried(copy, kept, paths):
+def tried(copy, kept, edits):
     """Tries the edits. Returns how many were caught, and how many not."""
     passes, caught = {}, 0
-    for path in paths:
-        name, clock = path.relative_to(TOP), Clock()
-        item = item_of(path.read_text(encoding="utf-8"))
+    for edit in edits:
+        clock, item = Clock(), item_of(edit.text)
         if item and item not in passes:
             passes[item] = run_item(copy, kept, item)[0]
         if item is None:
-            fault = "its first line names no item"
+            fault = "it names no item"
         elif not passes[item]:
             fault = f"{item} does not pass without it"
         else:
-            fault = fault_of(copy, kept, path, item)
+            fault = fault_of(copy, kept, edit, item)
         caught += fault is None
-        what = f"{clock.seconds():.0f} s {name}"
+        what = f"{clock.seconds():.0f} s {edit}"
         print(f"FAILED {what}: {fault}" if fault else f"caught {what}", flush=True)
-    return caught, len(paths) - caught
+    return caught, len(edits) - caught
 
 
 def main():
     given = read(__doc__, "--keep DIR", "NAME..")
-    every = sorted({path.parent.name for path in TOP.glob(f"crates/*/{FOLDER}")})
+    every = sorted({path.parent.name for path in TOP.glob(f"crates/*/{TESTS}")})
     unknown = [name for name in given.names if name not in every]
     if unknown:
-        sys.exit(f"no edits in crates/{unknown[0]}/{FOLDER}")
+        sys.exit(f"no crates/{unknown[0]}/{TESTS}")
     with tempfile.TemporaryDirectory(prefix="tests-catch-") as folder:
         copy = Path(folder) / "copy"
         shutil.copytree(TOP, copy, symlinks=True, ignore=shutil.ignore_patterns(*LEFT_OUT))

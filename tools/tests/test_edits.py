@@ -18,16 +18,29 @@ class Edits(unittest.TestCase):
         (self.crate / "src").mkdir(parents=True)
         (self.crate / "src" / "lib.rt").write_text(SOURCE)
 
-    def edit(self, folder, text):
-        (self.crate / folder).mkdir(exist_ok=True)
-        (self.crate / folder / "turned.edit").write_text(text)
+    def edit(self, text, kind=edits.GATE):
+        if kind == edits.GATE:
+            (self.crate / kind).mkdir(exist_ok=True)
+            (self.crate / kind / "turned.edit").write_text(text)
+        else:
+            (self.crate / kind).write_text(f"edit: turned\n{text}")
         return edits.faults(self.top)
 
     def test_edit_that_applies(self):
-        for folder in edits.FOLDERS:
-            found, count = self.edit(folder, "file: src/lib.rt\nold: 1 + 1\nnew: 2 + 1\n")
+        for kind in edits.KINDS:
+            found, count = self.edit("file: src/lib.rt\nold: 1 + 1\nnew: 2 + 1\n", kind)
             self.assertEqual(found, [])
-        self.assertEqual(count, len(edits.FOLDERS))
+        self.assertEqual(count, len(edits.KINDS))
+
+    def test_edits_of_a_file(self):
+        one, other = "file: src/lib.rt\nold: 1 + 1\nnew: 2\n\n", "item: low\nfile: src/lib.rt\nold: 1 + 1\nnew: 3\n"
+        (self.crate / edits.TESTS).write_text(f"edit: one\n{one}edit: other\n{other}")
+        found = edits.edits_of(self.crate)
+        self.assertEqual([(str(it), it.name, it.text) for it in found], [
+            ("crates/wasm_low/tests-catch.edits/one", "one", one), ("crates/wasm_low/tests-catch.edits/other", "other", other)])
+        self.assertEqual(edits.faults(self.top), ([], 2))
+        (self.crate / edits.TESTS).write_text(f"{one}edit: other\n{other}edit: other\n{other}")
+        self.assertEqual(edits.faults(self.top), (["crates/wasm_low/tests-catch.edits/other: twice"], 3))
 
     def test_edits_that_do_not_apply(self):
         for text, why in [
@@ -39,18 +52,21 @@ class Edits(unittest.TestCase):
             ("old: 1\nnew: 2\n", "without a 'file:'"),
             ("file: src/lib.rt\nold: 1 + 1\nnew: 2\nand so on\n", "a line that is not read"),
         ]:
-            found, _ = self.edit("must-fail", text)
+            found, _ = self.edit(text)
             self.assertEqual(len(found), 1, text)
             self.assertIn(why, found[0])
 
     def test_later_replacements_apply_to_the_result(self):
-        found, _ = self.edit("must-fail", "file: src/lib.rt\nold: 1 + 1\nnew: 2\nold:     2\nnew:     3\n")
+        found, _ = self.edit("file: src/lib.rt\nold: 1 + 1\nnew: 2\nold:     2\nnew:     3\n")
         self.assertEqual(found, [])
 
     def test_files_that_are_no_edits(self):
-        self.edit("must-fail", "file: src/lib.rt\nold: 1 + 1\nnew: 2\n")
+        self.edit("file: src/lib.rt\nold: 1 + 1\nnew: 2\n")
         (self.crate / "must-fail" / "turned.txt").write_text("")
-        self.assertEqual(edits.faults(self.top)[0], ["crates/wasm_low/must-fail/turned.txt: not an edit"])
+        (self.crate / "more-must-fail").mkdir()
+        (self.crate / "more-must-fail" / "lost.edit").write_text("")
+        names = ["must-fail/turned.txt", "more-must-fail/lost.edit"]
+        self.assertEqual(edits.faults(self.top)[0], [f"crates/wasm_low/{name}: not an edit" for name in names])
 
     def test_log(self):
         bad = "rt: must-fail wasm_low/turned.edit: BAD EDIT: an 'old:' text is in src/lib.rt 0 times"
@@ -99,13 +115,15 @@ class MoreMustFail(unittest.TestCase):
             edits.copied(self.folder)
 
     def test_exchange(self):
-        for name, folders in {"high": ["must-fail", "more-must-fail"], "low": ["must-fail", "more-must-fail"], "other": ["must-fail"]}.items():
-            for one in folders:
-                (self.folder / "crates" / name / one).mkdir(parents=True)
-                (self.folder / "crates" / name / one / f"{one}.edit").write_text("")
+        for name, has_more in {"high": True, "low": True, "other": False}.items():
+            crate = self.folder / "crates" / name
+            (crate / edits.GATE).mkdir(parents=True)
+            (crate / edits.GATE / "of_gate.edit").write_text("")
+            if has_more:
+                (crate / edits.MORE).write_text("edit: one\nold: 1\n\nedit: two\nold: 2\n")
         edits.exchanged(self.folder, ["low"])
-        left = sorted(str(path.relative_to(self.folder / "crates")) for path in self.folder.glob("crates/*/must-fail/*"))
-        self.assertEqual(left, ["low/must-fail/more-must-fail.edit"])
+        left = {str(path.relative_to(self.folder / "crates")): path.read_text() for path in self.folder.glob("crates/*/must-fail/*")}
+        self.assertEqual(left, {"low/must-fail/one.edit": "old: 1\n\n", "low/must-fail/two.edit": "old: 2\n"})
 
 
 if __name__ == "__main__":

@@ -4,8 +4,9 @@ from pathlib import Path
 from unittest import mock
 
 import tests_catch
+from edits import Edit
 
-EDIT = "# wasm_low\nfile: src/lib.rt\nold: 1\nnew: 2\n"
+EDIT = "item: wasm_low\nfile: src/lib.rt\nold: 1\nnew: 2\n"
 
 
 class TestsCatch(unittest.TestCase):
@@ -19,12 +20,10 @@ class TestsCatch(unittest.TestCase):
 
     def tried(self, run, text=EDIT):
         """Tries an edit, with `run` in the place of `tools/test`: it gets the edited source and returns what failed."""
-        path = self.top / "crates" / "wasm_low" / "tests-catch" / "turned.edit"
-        path.parent.mkdir(exist_ok=True)
-        path.write_text(text)
+        edit = Edit(self.top / "crates" / "wasm_low", "tests-catch.edits/turned", text)
         with mock.patch.object(tests_catch, "TOP", self.top), mock.patch.object(tests_catch, "run_tool", self.tool(run)):
             with mock.patch("builtins.print"):
-                found = tests_catch.tried(self.top, self.top, [path])
+                found = tests_catch.tried(self.top, self.top, [edit])
         self.assertIn("    1\n", self.source.read_text())
         return found
 
@@ -52,13 +51,13 @@ class TestsCatch(unittest.TestCase):
         self.assertEqual(self.tried(lambda text: (set(), ""), EDIT.replace("old: 1", "old: 3")), (0, 1))
 
     def test_names_no_item(self):
-        self.assertEqual(self.tried(lambda text: ({"wasm_low"}, ""), EDIT.removeprefix("# wasm_low\n")), (0, 1))
+        self.assertEqual(self.tried(lambda text: ({"wasm_low"}, ""), EDIT.removeprefix("item: wasm_low\n")), (0, 1))
 
     def test_every_edit_names_an_item(self):
-        paths = sorted(tests_catch.TOP.glob(f"crates/*/{tests_catch.FOLDER}/*.edit"))
-        for path in paths:
-            self.assertIsNotNone(tests_catch.item_of(path.read_text(encoding="utf-8")), path)
-        self.assertTrue(paths)
+        found = tests_catch.found_edits(tests_catch.TOP, [path.name for path in (tests_catch.TOP / "crates").iterdir()])
+        for edit in found:
+            self.assertIsNotNone(tests_catch.item_of(edit.text), str(edit))
+        self.assertTrue(found)
 
 
 if __name__ == "__main__":
