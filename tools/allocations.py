@@ -2,7 +2,7 @@
 """Runs programs with each of their allocations failing in turn.
 
     tools/allocations.py [NAME..]               runs what is built of these crates, or of all
-    tools/allocations.py --program PATH NAME    runs the program PATH of a crate
+    tools/allocations.py --program PROGRAM NAME runs PROGRAM, of a crate
 
 `rt ci` builds `crates/NAME/out/NAME`. Each run must end in time, with an exit status. If the crate has a file `refused`, it
 ends as that says:
@@ -146,7 +146,7 @@ def follow_crate(crate, given, library):
 
 
 def main():
-    words = read(__doc__, "--program PATH", "NAME..")
+    words = read(__doc__, "--program PROGRAM", "NAME..")
     given, names = words.program, words.names or sorted(path.name for path in (TOP / "crates").iterdir())
     wrong, runs = [], 0
     # a program that aborts leaves no core file

@@ -2,7 +2,7 @@
 """Runs programs on the cases in `crates/NAME/cases.tsv`, and compares how each run ends.
 
     tools/cases.py [NAME..]               runs both builds of `rt ci` in crates/NAME/out
-    tools/cases.py --program PATH NAME    runs the program PATH on the cases of NAME
+    tools/cases.py --program PROGRAM NAME runs PROGRAM on the cases of NAME
 
 Each row is a run, in the folder `crates/NAME/data` if there is one. Its columns, separated by tabs:
 
@@ -23,9 +23,10 @@ import sys
 import tempfile
 from pathlib import Path
 
-from testing.built import built, missing, program_of
+from shared.arguments import read
+from shared.crates import TOP
+from testing.built import built, missing
 
-TOP = Path(__file__).resolve().parent.parent
 COLUMNS = ["case", "words", "input", "status", "output", "complaint"]
 SECONDS = 60
 
@@ -90,11 +91,11 @@ def run_cases(program, path):
 
 
 def main():
-    given, words = program_of(sys.argv[1:])
-    if any(word.startswith("-") for word in words) or (given and len(words) != 1):
-        print(__doc__)
-        sys.exit(words not in (["--help"], ["-h"]))
-    names = words or sorted(path.parent.name for path in TOP.glob("crates/*/cases.tsv"))
+    words = read(__doc__, "--program PROGRAM", "NAME..")
+    given = words.program
+    if given and len(words.names) != 1:
+        sys.exit("--program needs one NAME")
+    names = words.names or sorted(path.parent.name for path in TOP.glob("crates/*/cases.tsv"))
     runs, wrong = 0, 0
     for name in names:
         path = TOP / "crates" / name / "cases.tsv"

@@ -2,7 +2,7 @@
 """Compares modules that `wasm_compact` rewrites with the modules that it reads, and with other tools.
 
     tools/compactions.py                       runs the two programs that `rt ci` built on crates/wasm_compact/data
-    tools/compactions.py --program PATH        runs the program PATH
+    tools/compactions.py --program PROGRAM     runs PROGRAM
     tools/compactions.py .. MODULE..           also on these modules; prints how much each saves
     tools/compactions.py .. --engines DIR      also compares with wasm-tools 1.239, wabt and wasm-encoder 0.239, which the
                                                programs under DIR/root are, and with 200 modules of `wasm-tools smith`
@@ -19,7 +19,6 @@ Of the modules in data/, each proper prefix and the module with each byte change
 status 1, a message and no output, or with status 0 and a module as above.
 """
 
-import os
 import random
 import re
 import shutil
@@ -29,9 +28,11 @@ import tempfile
 import time
 from pathlib import Path
 
-from testing.built import built, missing, program_of
+from shared import leb128
+from shared.arguments import read
+from shared.crates import TOP
+from testing.built import built, missing
 
-TOP = Path(__file__).resolve().parent.parent
 NAME = "wasm_compact"
 DATA = TOP / "crates" / NAME / "data"
 REENCODER = Path(__file__).resolve().parent / "compactions.rs"
@@ -61,35 +62,26 @@ ARRAY_ACCESS = re.compile(rb"align=\d{10}")
 LINE = re.compile(rb"^ [0-9a-f]+:(?: [0-9a-f]{2})+ *\| (.*)$|^[0-9a-f]+ (func\[.*)$")
 
 
-def number_at(module, at):
-    value, shift = 0, 0
-    while True:
-        byte = module[at]
-        value, shift, at = value | (byte & 0x7F) << shift, shift + 7, at + 1
-        if byte < 0x80:
-            return value, at
-
-
 def sections_of(module):
     """Returns for each section its number, bytes and contents."""
     at, found = 8, []
     while at < len(module):
-        size, start = number_at(module, at + 1)
+        size, start = leb128.read(module, at + 1)
         found.append((module[at], module[at : start + size], module[start : start + size]))
         at = start + size
     return found
 
 
 def name_of(contents):
-    size, start = number_at(contents, 0)
+    size, start = leb128.read(contents, 0)
     return contents[start : start + size]
 
 
 def bodies_of(contents):
-    count, at = number_at(contents, 0)
+    count, at = leb128.read(contents, 0)
     found = []
     for _ in range(count):
-        size, start = number_at(contents, at)
+        size, start = leb128.read(contents, at)
         found.append(contents[start : start + size])
         at = start + size
     return found
@@ -103,7 +95,7 @@ class Engines:
     """Runs wasm-tools and wabt from a folder with a Debian root."""
 
     def __init__(self, folder):
-        self.root = Path(folder).resolve() / "root"
+        self.root = folder / "root"
         self.lib = self.root / "usr" / "lib" / "x86_64-linux-gnu"
         self.reencoder = None
 
@@ -294,23 +286,14 @@ def timed(program, path, folder):
     return time.perf_counter() - start
 
 
-def taken(words, flag):
-    if flag not in words[:-1]:
-        return None, words
-    at = words.index(flag)
-    return words[at + 1], words[:at] + words[at + 2 :]
-
-
 def main():
-    given, words = program_of(sys.argv[1:])
-    engines, words = taken(words, "--engines")
-    paths = [Path(word).resolve() for word in words if word != NAME]
-    if any(not path.is_file() for path in paths):
-        print(__doc__)
-        sys.exit(2)
-    programs = built(NAME, given)
+    given = read(__doc__, "--program PROGRAM", "--engines DIR", "WORD..")
+    engines, paths = given.engines, [Path(word).resolve() for word in given.words if word != NAME]
+    if lost := [str(path) for path in paths if not path.is_file()]:
+        sys.exit(f"{lost[0]}: no such file")
+    programs = built(NAME, given.program)
     if not programs:
-        print(missing(NAME, given))
+        print(missing(NAME, given.program))
     compared = Comparison(engines and Engines(engines))
     with tempfile.TemporaryDirectory() as temporary:
         folder = Path(temporary)

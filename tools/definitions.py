@@ -1,32 +1,30 @@
 #!/usr/bin/env python3
-"""Checks docs/DEFINITIONS.md, writes it from the comments in specs/, or prints what definitions say.
+"""Checks that words describe each definition that public contracts name, or prints what definitions say.
 
     tools/definitions.py             checks
-    tools/definitions.py --write     writes
-    tools/definitions.py NAME..      prints the words of the page for these definitions, with their files
+    tools/definitions.py NAME..      prints the words for these definitions, with their files; for a NAME such as
+                                     wasm_check or wasm_check/Typed, those of a crate or of a file in its specs/
 
-The page has each definition that a public contract names, and those that the comments of these refer to. A row has the
-comment above the definition, and the section that this comment or the head of the file names.
+A definition is described by the comment above it, and the section that this comment or the head of the file names. The
+check also wants words for those that the comments refer to.
 
 tools/definitions.tsv has what comments lack: a section, words, or a name that no public contract uses. Its columns are
 the file, the names (none: the section of the whole file), the section and the words. The words "as `NAME`" put names into
 the row of NAME. A comment of more than 40 words needs words there.
 
-The check fails if no words describe a definition (wanting), if a line of the table is wrong or adds nothing (misplaced),
-or if the page differs.
+The check fails if no words describe a definition (wanting), or if a line of the table is wrong or adds nothing
+(misplaced).
 """
 
 import re
 import sys
-from pathlib import Path
 
-from pages.definitions_page import group_of, page
-from pages.rows import LIMIT, count, faults_of, given_of, rows_of, with_referred
+from pages.rows import LIMIT, commented, count, faults_of, given_of, rows_of, with_referred
 from pages.specs import WORD, file_at, files_of, names_of
 from shared.arguments import read
+from shared.crates import TOP
 
-TOP = Path(__file__).resolve().parent.parent
-PAGE, TABLE = TOP / "docs" / "DEFINITIONS.md", TOP / "tools" / "definitions.tsv"
+TABLE = TOP / "tools" / "definitions.tsv"
 FUNCTION = re.compile(rf"^(?P<indent>\s*)(?P<pub>pub )?(?:const |unsafe )*fn (?P<name>{WORD})")
 
 
@@ -119,52 +117,50 @@ def rows_by_file(files, given, found):
             faults.append(f"no comment describes {name} ({path}.antt), used by {user}")
         long = [row.names[0] for row in rows[file] if count(row.words) > LIMIT]
         faults += [f"more than {LIMIT} words describe {name} ({path}.antt)" for name in long]
-        if group_of(file) is None:
-            faults.append(f"no group of tools/pages/definitions_page.py has {path}")
     return rows, faults
-
-
-def first_difference(old, new):
-    if old == new:
-        return None
-    pairs = zip(old.split("\n"), new.split("\n"))
-    return next((number for number, (one, other) in enumerate(pairs, 1) if one != other), old.count("\n") + 1)
 
 
 def report(rows, found, wanting, misplaced):
     lines = [row for of_file in rows.values() for row in of_file]
     names, given = sum(len(row.names) for row in lines), sum(row.is_given for row in lines)
     print("".join(f"{line}\n" for line in wanting + misplaced), end="")
-    print(f"definitions: {names} listed in {len(lines)} rows, {given} of them from tools/definitions.tsv; ", end="")
+    print(f"definitions: {names} described in {len(lines)} rows, {given} of them from tools/definitions.tsv; ", end="")
     print(f"{len(found)} used, {len(wanting)} wanting, {len(misplaced)} misplaced")
 
 
-def say(rows, names):
+def described(files, rows, name):
+    """Returns file, name, words and section of each definition that a name of the command line means."""
+    lines = [(row.file, it, row.words, row.section) for of_file in rows.values() for row in of_file for it in row.names]
+    if name.startswith("wasm_"):
+        return [line for line in lines if name in (line[0].crate, f"{line[0].crate}/{line[0].name}")]
+    known = [line for line in lines if line[1] == name]
+    others = [(file, name, commented(file, name)) for file in files.values() if name in file.definitions and file not in {it[0] for it in known}]
+    return known + [(file, name, own.words, own.section or file.section) for file, name, own in others if own]
+
+
+def say(files, rows, names):
     """Prints the words for the names. Returns whether one has none."""
-    lines = {name: row for of_file in rows.values() for row in of_file for name in row.names}
+    is_lost = False
     for name in names:
-        row = lines.get(name)
-        place = f"crates/{row.file.crate}/specs/{row.file.name}.antt" if row else "not on the page"
-        print(f"{name} ({place}){f': {row.words}' if row else ''}{f' {row.section}' if row and row.section else ''}")
-    return any(name not in lines for name in names)
+        found = described(files, rows, name)
+        is_lost |= not found
+        for file, it, words, section in found:
+            print(" ".join([f"{it} (crates/{file.crate}/specs/{file.name}.antt):", words, *([f"[{section}]"] if section else [])]))
+        if not found:
+            print(f"{name}: no words describe it")
+    return is_lost
 
 
 def main():
-    wanted = read(__doc__, "--write", "NAME..")
+    wanted = read(__doc__, "NAME..")
     files, given = files_of(TOP), given_of(TABLE.read_text(encoding="utf-8"))
     found = used(names_of(TOP))
     rows, wanting = rows_by_file(files, given, found)
     if wanted.names:
-        sys.exit(say(rows, wanted.names))
+        sys.exit(say(files, rows, wanted.names))
     misplaced = [f"tools/definitions.tsv:{it.number}: {what}" for it, what in faults_of(files, given, by_file(found))]
     report(rows, found, wanting, misplaced)
-    if wanting or misplaced or not found:
-        sys.exit(1)
-    text = page(rows, PAGE.read_text(encoding="utf-8"))
-    if wanted.write:
-        PAGE.write_text(text, encoding="utf-8")
-    at = first_difference(PAGE.read_text(encoding="utf-8"), text)
-    sys.exit(f"docs/DEFINITIONS.md:{at}: differs from what tools/definitions.py --write writes" if at else 0)
+    sys.exit(bool(wanting or misplaced or not found))
 
 
 if __name__ == "__main__":

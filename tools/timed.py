@@ -1,7 +1,7 @@
 #!/usr/bin/env python3
 """Runs the proofs of the gate, and measures what each crate costs.
 
-    tools/timed.py COMMAND..
+    tools/timed.py [--] WORD..
 
 It runs the command (`rt ci`), passes on its output, and reads the CPU time of its provers once a second. When a crate's
 proof or must-fail edits begin or end, it writes the crates done, the minutes so far, and those that docs/GATE.md
@@ -25,6 +25,7 @@ import sys
 import threading
 import time
 
+from shared.arguments import read
 from shared.crates import TOP, crates
 
 TICKS = os.sysconf("SC_CLK_TCK")
@@ -164,14 +165,14 @@ def progress_of_repository():
 
 
 def main():
-    if len(sys.argv) < 2 or sys.argv[1] in ("--help", "-h"):
-        print(__doc__)
-        sys.exit(len(sys.argv) < 2)
+    command = read(__doc__, "WORD..").words
+    if not command:
+        sys.exit(__doc__)
     costs, progress, is_done, began = Costs(), progress_of_repository(), threading.Event(), time.monotonic()
     how = {"stdin": subprocess.DEVNULL, "stdout": subprocess.PIPE, "stderr": subprocess.STDOUT}
     # (so that rt's lines come at once)
     how["env"] = {**os.environ, "PYTHONUNBUFFERED": "1"}
-    with subprocess.Popen(sys.argv[1:], text=True, errors="replace", **how) as ran:
+    with subprocess.Popen(command, text=True, errors="replace", **how) as ran:
         watching = threading.Thread(target=watch, args=(costs, progress, ran.pid, is_done), daemon=True)
         watching.start()
         last = ""

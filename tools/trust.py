@@ -43,7 +43,7 @@ BESIDES = """\
 - Rattle's prover and its compiler; LLVM and the linker, which compile what is proved; the processor and Linux.
 - The statements of the kit's standard library and of `bitflags`. Their proofs are the kit's; this list does not check them.
 - The C library, and `liblibc_c.a` and `libos_c.a` of the kit: that they do what the assumed contracts say.
-- The definitions in `specs/`, which say what is proved (docs/DEFINITIONS.md), and the tables that they come from.
+- The definitions in `specs/`, which say what is proved (tools/run definitions), and the tables that they come from.
 - For callers in C: that they pass what include/wasm_operators.h asks for. For callers in Rust: the crate in bindings/rust.
 """
 

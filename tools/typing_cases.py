@@ -17,7 +17,6 @@ verdicts, `FILE ok` or `FILE OFFSET MESSAGE`.
 """
 
 import json
-import os
 import re
 import subprocess
 import sys
@@ -25,7 +24,9 @@ import tempfile
 from dataclasses import dataclass
 from pathlib import Path
 
-TOP = Path(__file__).resolve().parent.parent
+from shared.arguments import read
+from shared.crates import TOP
+
 TABLE = TOP / "tools" / "original" / "typing_cases.tsv"
 COLUMNS = ["name", "label", "verdict", "offset", "message", "module"]
 # The files of a folder, and whether their modules are unsupported.
@@ -150,23 +151,22 @@ def compared(program, cases, offsets):
     return out
 
 
-def main(words):
-    match words:
-        case ["--modules"]:
-            print("\n".join(it.module.hex() for it in cases_of()))
-        case ["--verdicts"]:
-            print("\n".join("ok" if it.is_valid else "error" for it in cases_of()))
-        case ["--write", folder, peer]:
-            TABLE.write_text(text_of(written(folder, os.path.abspath(peer))), encoding="utf-8")
-        case [*flags, program] if flags in ([], ["--offsets"]) and not program.startswith("-"):
-            cases = cases_of()
-            differ = compared(os.path.abspath(program), cases, flags != [])
-            print("\n".join([*differ, f"{len(differ)} of {len(cases)} differ"]))
-            sys.exit(differ != [])
-        case _:
-            print(__doc__)
-            sys.exit(words not in (["--help"], ["-h"]))
+def main():
+    given = read(__doc__, "--modules", "--verdicts", "--offsets", "--write FOLDER", "[PROGRAM]")
+    if given.modules:
+        print("\n".join(it.module.hex() for it in cases_of()))
+    elif given.verdicts:
+        print("\n".join("ok" if it.is_valid else "error" for it in cases_of()))
+    elif given.write:
+        TABLE.write_text(text_of(written(given.write, given.program)), encoding="utf-8")
+    elif given.program:
+        cases = cases_of()
+        differ = compared(given.program, cases, given.offsets)
+        print("\n".join([*differ, f"{len(differ)} of {len(cases)} differ"]))
+        sys.exit(differ != [])
+    else:
+        sys.exit(__doc__)
 
 
 if __name__ == "__main__":
-    main(sys.argv[1:])
+    main()

@@ -19,11 +19,9 @@ There is no row for a module with groups of types, subtypes, or two equal types.
 """
 
 import re
-import sys
-from pathlib import Path
 
-sys.path.insert(0, str(Path(__file__).resolve().parent))
 import typing_cases
+from shared.arguments import read
 
 ROWS = typing_cases.TOP / "crates" / "wasm_tests_check" / "stdin"
 VALUES = {0x7F: "i32", 0x7E: "i64", 0x7D: "f32", 0x7C: "f64", 0x7B: "v128"}
@@ -321,19 +319,14 @@ def all_rows():
     return rows, left
 
 
-def main(words):
+def main():
+    given = read(__doc__, "--left", "--write")
     rows, left = all_rows()
-    match words:
-        case []:
-            print("\n".join(rows))
-        case ["--write"]:
-            ROWS.write_text("\n".join(rows) + "\n", encoding="utf-8")
-        case ["--left"]:
-            print("\n".join(left))
-        case _:
-            print(__doc__)
-            sys.exit(words not in (["--help"], ["-h"]))
+    if given.write:
+        ROWS.write_text("\n".join(rows) + "\n", encoding="utf-8")
+    else:
+        print("\n".join(left if given.left else rows))
 
 
 if __name__ == "__main__":
-    main(sys.argv[1:])
+    main()

@@ -13,7 +13,6 @@ PARTS = ["README.md", "CALLING.md", "src", "specs", "proofs"]
 MORE = {
     "wasm_operators": {
         "ERRORS-AND-FEATURES.md": "docs/ERRORS-AND-FEATURES.md",
-        "DEFINITIONS.md": "docs/DEFINITIONS.md",
         "uses": "crates/uses",
     },
 }

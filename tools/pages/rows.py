@@ -1,4 +1,4 @@
-"""Chooses the rows of docs/DEFINITIONS.md."""
+"""Chooses the words that describe definitions."""
 
 import re
 

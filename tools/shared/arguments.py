@@ -39,4 +39,4 @@ def read(doc, *forms, words=None):
         else:
             name = value.lower() + "s" * bool(several)
             reader.add_argument(name, type=kind, metavar=value, nargs="*" if several else "?" if optional else None)
-    return reader.parse_args(words)
+    return reader.parse_intermixed_args(words)

@@ -1,16 +1,6 @@
 """Finds the programs that a script runs."""
 
-from pathlib import Path
-
-TOP = Path(__file__).resolve().parent.parent.parent
-
-
-def program_of(words, flag="--program"):
-    """Takes `--program PATH` from words."""
-    if flag not in words[:-1]:
-        return None, words
-    at = words.index(flag)
-    return Path(words[at + 1]).resolve(), words[:at] + words[at + 2 :]
+from shared.crates import TOP
 
 
 def built(name, given=None):

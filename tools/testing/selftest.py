@@ -12,8 +12,9 @@ from testing.running import Clock
 LIMIT = 7200
 LEFT_OUT = (".git", "out", "__pycache__", "target", "native")
 LINE = re.compile(r"(ok|FAILED) \d+ s ([\w/-]+)")
-WRONG_ROW = "\n| `NoSuchDefinition` | a word that nothing defines | | `Nothing.antt` |\n"
+WRONG_ROW = "wasm_below/Nothing\tNoSuchDefinition\t\tA word that nothing defines.\n"
 WRONG_BLOCK = "README.md\ta block that no page has\tshell\t\n"
+COMPACT = "wasm_compact"
 WRONG_EDIT = "file: src/lib.rt\nold: a text that does not occur\nnew: another\n"
 
 
@@ -57,7 +58,7 @@ def breaks_of_checks(top):
         Break("expected-reading", top / "crates" / "wasm_tests_decode" / "rows.tsv", lambda old: old + old.splitlines(True)[-1]),
         # (the program does not read the names of its rows)
         Break("expected-writing", top / "crates" / "wasm_tests_encode" / "stdin", replaced(r"^(\w+)", r"\1Other")),
-        Break("definitions", top / "docs" / "DEFINITIONS.md", more(WRONG_ROW)),
+        Break("definitions", top / "tools" / "definitions.tsv", more(WRONG_ROW)),
         Break("contracts", top / "crates" / "wasm_operators" / "CALLING.md", replaced(r"^  ensures: Reads", "  ensures: Read")),
         Break("edges", top / "crates.txt", replaced(r"^(uses:.*)$", r"\1 bitflags")),
         Break("picture", top / "docs" / "crates.svg", more("<!-- more -->\n")),
@@ -75,13 +76,13 @@ def breaks_of_program(folder, items):
         stored = folder / "stdout.short"
         yield Break(name, folder / "status", lambda old: f"{int(old or 0) + 1}\n")
         # (wasm_compact writes a module, which is no text)
-        if name not in OVER_MODULES:
+        if name != COMPACT:
             # (scripts check some of the files that they write)
             yield Break(name, stored if stored.exists() else folder / "stdout", more("one line more\n"), CHECKS)
     if f"{name}/cases" in items:
         yield Break(f"{name}/cases", folder / "cases.tsv", wrong_status)
-    if f"{name}/modules" in items and name in OVER_MODULES:
-        tool = folder.parents[1] / "tools" / OVER_MODULES[name]
+    if f"{name}/modules" in items and name == COMPACT:
+        tool = folder.parents[1] / "tools" / OVER_MODULES[name][0]
         yield Break(f"{name}/modules", tool, replaced(r"^CODE = 10$", "CODE = 11"))
     elif f"{name}/modules" in items:
         yield Break(f"{name}/modules", first((folder / "data").glob("*.txt")), more("one line more\n"))

@@ -1,7 +1,7 @@
 import unittest
 from pathlib import Path
 
-from pages import definitions_page, rows, specs
+from pages import rows, specs
 
 TOP = Path(__file__).resolve().parent.parent.parent
 HEAD = "-- Written by tools/lists.py from tools/operators.tsv.\n"
@@ -164,39 +164,6 @@ class Rows(unittest.TestCase):
             (11, words),
             (13, f"the head of the file {section}"),
         ])
-
-
-class Page(unittest.TestCase):
-    def row(self, of_file, name, section):
-        out = rows.Row(of_file, "One | two.", section, False)
-        out.names.append(name)
-        return out
-
-    def test_table(self):
-        low, other = file(), file(name="Other")
-        rows_of_low = [("One", "Structure"), ("Two", "Structure"), ("Three", "")]
-        lines = [*(self.row(low, *it) for it in rows_of_low), self.row(other, "Four", "")]
-        self.assertEqual(definitions_page.table(lines).split("\n")[2:-1], [
-            "|**Words.antt**||Structure|",
-            "|`One`|One \\| two.||",
-            "|`Two`|One \\| two.||",
-            "|`Three`|One \\| two.|none|",
-            "|**Other.antt**|||",
-            "|`Four`|One \\| two.||",
-        ])
-
-    def test_order(self):
-        low = [("ListFaults", ""), ("Lists", ""), ("Above", "use Rattle.wasm_below.specs.Lists.{List}\n")]
-        files = [file(text, "wasm_below", name) for name, text in low] + [file("", "wasm_grammar", "Zero")]
-        self.assertEqual([it.name for it in definitions_page.in_order(files)], ["Lists", "Above", "ListFaults", "Zero"])
-        self.assertIsNone(definitions_page.group_of(file()))
-
-    def test_page(self):
-        low = file("", "wasm_grammar", "Role")
-        text = definitions_page.page({low: [self.row(low, "One", "Structure")]}, "# Definitions\n\n## Old\n")
-        self.assertTrue(text.startswith("# Definitions\n\n## Trees"))
-        self.assertIn("\n## Trees (`crates/wasm_grammar/specs`)\n\n|Name|", text)
-        self.assertEqual(text.count("\n## "), 1)
 
 
 if __name__ == "__main__":

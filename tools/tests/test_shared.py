@@ -15,6 +15,8 @@ class Arguments(unittest.TestCase):
     def test_read(self):
         given = self.read("--count", "3", "--to", "a", "low", "high")
         self.assertEqual((given.check, given.count, given.to, given.names), (False, 3, Path("a").absolute(), ["low", "high"]))
+        given = self.read("low", "--to", "a", "high")
+        self.assertEqual((given.to, given.names), (Path("a").absolute(), ["low", "high"]))
         given = self.read("--check")
         self.assertEqual((given.check, given.count, given.names), (True, None, []))
         self.assertIsNone(arguments.read(DOC, "[FILE]", words=[]).file)

@@ -3,6 +3,7 @@ import tempfile
 import time
 import unittest
 from pathlib import Path
+from unittest import mock
 
 from testing import built, items, outcome, pool, running, selftest
 from testing.crates import Crates
@@ -58,8 +59,10 @@ class Finding(unittest.TestCase):
 
     def test_items_by_files(self):
         files = {"crates/program/stdout": "", "crates/program/cases.tsv": "", "crates/program/data/a.wasm": ""}
-        self.assertEqual(self.items(files), ["program", "program/cases", "program/modules"])
-        self.assertEqual(self.items(files, is_full=True)[-1], "program/allocations")
+        self.assertEqual(self.items(files), ["program", "program/cases"])
+        with mock.patch.dict(items.OVER_MODULES, {"program": ["wabt.py", "stored"]}):
+            self.assertEqual(self.items(files), ["program", "program/cases", "program/modules"])
+            self.assertEqual(self.items(files, is_full=True)[-1], "program/allocations")
 
     def test_what_needs_the_library(self):
         listed = {"crates.txt": CRATES + "wasm_c_exports staticlib: low\n", "crates/wasm_c_exports/src/lib.rt": ""}
@@ -162,11 +165,6 @@ class Running(unittest.TestCase):
 
 
 class Scripts(unittest.TestCase):
-    def test_given(self):
-        path, words = built.program_of(["a", "--program", "/b", "c"])
-        self.assertEqual((str(path), words), ("/b", ["a", "c"]))
-        self.assertEqual(built.program_of(["a", "--program"]), (None, ["a", "--program"]))
-
     def test_missing(self):
         self.assertEqual(built.built("no_crate"), [])
         self.assertIn("crates/no_crate/out/no_crate is missing", built.missing("no_crate"))

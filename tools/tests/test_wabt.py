@@ -2,9 +2,7 @@ import tempfile
 import unittest
 from pathlib import Path
 
-import clang_modules
-import compare_objdump
-import disassemblies
+import wabt
 
 # Writes a file, or the list of its sections. Of its input, writes a function if it begins with 0, fails with x, and ends
 # badly with y and z.
@@ -21,18 +19,18 @@ esac
 """
 
 
-class Disassemblies(unittest.TestCase):
+class Stored(unittest.TestCase):
     def test_spoiled(self):
-        found = dict(disassemblies.spoiled(b"ab"))
+        found = dict(wabt.spoiled(b"ab"))
         self.assertEqual(found["byte 0 changed"], b"Nb")
         self.assertEqual(found["byte 1 changed"], b"a\x9d")
         self.assertEqual(len(found), 2)
 
     def test_answers(self):
-        self.assertTrue(disassemblies.is_answer(0, b""))
-        self.assertTrue(disassemblies.is_answer(1, b"error at 3: no\nerror in function 1 at 4: no\n"))
+        self.assertTrue(wabt.is_answer(0, b""))
+        self.assertTrue(wabt.is_answer(1, b"error at 3: no\nerror in function 1 at 4: no\n"))
         for status, complaint in ((None, b""), (0, b"error\n"), (1, b""), (1, b"error"), (1, b"error\nsee\n"), (3, b"error\n"), (-11, b"")):
-            self.assertFalse(disassemblies.is_answer(status, complaint), (status, complaint))
+            self.assertFalse(wabt.is_answer(status, complaint), (status, complaint))
 
     def faults(self, module, text, code_end=1):
         with tempfile.TemporaryDirectory() as folder:
@@ -42,7 +40,7 @@ class Disassemblies(unittest.TestCase):
             path.write_bytes(module)
             path.with_suffix(".txt").write_bytes(text)
             path.with_suffix(".sections.txt").write_text(f"     Code start=0x0 end=0x{code_end:x} (size=0x1) count: 1\n", encoding="utf-8")
-            return disassemblies.compared(program, path)
+            return wabt.stored(program, path)
 
     def test_compared(self):
         self.assertEqual(self.faults(b"xa", b"xa"), ([], 6))
@@ -58,7 +56,7 @@ class Disassemblies(unittest.TestCase):
 
 class Compared(unittest.TestCase):
     def kinds(self, ours, theirs):
-        return compare_objdump.kinds_of(ours, theirs)
+        return wabt.kinds_of(ours, theirs)
 
     def test_names(self):
         ours = " 000030: 10 00                      | call 0"
@@ -85,22 +83,22 @@ class Compared(unittest.TestCase):
         self.assertEqual(self.kinds(ours, " 000031: 02 7e                      | local[0..2] type=i64"), ["other"])
 
     def test_counted(self):
-        counts, others = compare_objdump.differences(["a", "b", "c"], ["a", "d"])
+        counts, others = wabt.differences(["a", "b", "c"], ["a", "d"])
         self.assertEqual((counts["lines"], counts["other"]), (3, 2))
         self.assertEqual(others, ["line 2: 'b', and wabt has 'd'", "line 3: 'c', and wabt has None"])
 
     def test_runs(self):
         with tempfile.TemporaryDirectory() as folder:
-            status, seconds, memory = compare_objdump.ran(["sh", "-c", "echo a; exit 3"], f"{folder}/text")
-            self.assertEqual(list(compare_objdump.lines_of(f"{folder}/text")), ["a"])
+            status, seconds, memory = wabt.ran(["sh", "-c", "echo a; exit 3"], f"{folder}/text")
+            self.assertEqual(list(wabt.lines_of(f"{folder}/text")), ["a"])
         self.assertEqual(status, 3)
         self.assertTrue(0 <= seconds < 10 and 0 < memory < 100)
 
 
 class Modules(unittest.TestCase):
     def test_each_has_a_compiler(self):
-        for name, (source, words) in clang_modules.MODULES.items():
-            path = clang_modules.SOURCES / source
+        for name, (source, words) in wabt.MODULES.items():
+            path = wabt.SOURCES / source
             self.assertIn(words[0], {".c": "clang", ".cc": "clang++", ".wat": "wat2wasm"}[path.suffix], name)
             self.assertTrue(path.exists(), name)
 

@@ -1,0 +1,314 @@
+#!/usr/bin/env python3
+"""Compares disassemblies, and the names of the text format, with wabt's.
+
+    tools/wabt.py stored [wasm_objdump]     compares the modules in crates/wasm_objdump/data, and runs on damaged ones
+    tools/wabt.py objdump MODULE..          compares other modules with `wasm-objdump -d`
+    tools/wabt.py names                     compares the names of the table with those that `wasm-objdump` prints
+    tools/wabt.py modules FOLDER            makes modules of several kinds with clang, for `objdump`
+
+`--program PROGRAM` is the program that `stored` and `objdump` run, in place of those that `rt ci` or `rt run` built. Only
+`stored` needs no wabt (`apt-get install wabt`; tried with 1.0.32).
+
+`stored`: for NAME.wasm the program must write NAME.txt, which `wasm-objdump -d` of wabt wrote, and with `-h`
+NAME.sections.txt. Then it runs on each proper prefix of the module, and on the module with each byte changed. Each run
+must end in time, with status 0 and no message, or with status 1 and messages. On a prefix with the whole code section it
+must list all functions, on another none.
+
+`objdump`: for each module it prints how many lines differ, by the kinds that docs/OBJDUMP.md explains and others, and the
+CPU seconds (least of three runs) and the memory of both. The status is 1 if a line differs otherwise, or the two statuses
+differ.
+
+`names`: lists a module with each operator alone. Names that wabt lacks are compared with tools/original/text_names.tsv,
+which is written by hand from the proposals. An operator must be named by one of the two.
+
+`modules` needs `apt-get install clang lld wabt wasi-libc libclang-rt-14-dev-wasm32 libc++-14-dev-wasm32
+libc++abi-14-dev-wasm32` (tried with clang 14).
+"""
+
+import itertools
+import os
+import re
+import shutil
+import subprocess
+import sys
+import tempfile
+from pathlib import Path
+
+sys.path.insert(0, str(Path(__file__).resolve().parent / "generate"))
+sys.dont_write_bytecode = True
+
+from immediates import KINDS as IMMEDIATES
+from shared.arguments import read
+from shared.crates import TOP
+from shared.leb128 import unsigned
+from shared.tables import rows_of
+from table import table
+from testing.built import built, missing
+
+CRATE = TOP / "crates" / "wasm_objdump"
+THEIRS = ["wasm-objdump", "-d"]
+SECONDS = 10
+RUNS = 3
+
+# The lines with the offset of a function, and the offset after the code section in a list of sections.
+FUNCTION = re.compile(rb"^[0-9a-f]{6,} func\[", re.M)
+CODE_END = re.compile(rb"^ +Code start=0x[0-9a-f]+ end=0x([0-9a-f]+)", re.M)
+
+
+def spoiled(module):
+    for at, byte in enumerate(module):
+        yield f"byte {at} changed", module[:at] + bytes([byte ^ (0xFF if at % 2 else 0x2F)]) + module[at + 1 :]
+
+
+def is_answer(status, complaint):
+    lines = complaint.decode(errors="replace").split("\n")
+    has_errors = len(lines) > 1 and lines[-1] == "" and all("error" in line for line in lines[:-1])
+    return (status == 0 and not complaint) or (status == 1 and has_errors)
+
+
+def ended(program, words, given=b"", folder=None):
+    try:
+        ran = subprocess.run([program, *words], input=given, capture_output=True, timeout=SECONDS, cwd=folder)
+    except subprocess.TimeoutExpired:
+        return None, b"", b""
+    return ran.returncode, ran.stdout, ran.stderr
+
+
+def stored(program, path):
+    """Compares one module with the files beside it. Returns what is wrong, and the number of runs."""
+    wrong, text, sections = [], path.with_suffix(".txt").read_bytes(), path.with_suffix(".sections.txt").read_bytes()
+    for words, wanted, what in (([], text, "what"), (["-h"], sections, "the sections that")):
+        if ended(program, [*words, path.name], folder=path.parent) != (0, wanted, b""):
+            wrong.append(f"{path.name}: not {what} wabt wrote")
+    whole, code_end, functions = path.read_bytes(), int(CODE_END.search(sections)[1], 16), len(FUNCTION.findall(text))
+    for at in range(len(whole)):
+        status, wrote, complained = ended(program, [], whole[:at])
+        found = len(FUNCTION.findall(wrote))
+        if not is_answer(status, complained) or found != (functions if at >= code_end else 0):
+            wrong.append(f"{path.name}, cut after {at} bytes: status {status}, {complained!r}, {found} functions")
+    for what, module in spoiled(whole):
+        status, _, complained = ended(program, [], module)
+        if not is_answer(status, complained):
+            wrong.append(f"{path.name}, {what}: status {status}, {complained!r}")
+    return [f"{program.name}, {fault}" for fault in wrong], 2 + 2 * len(whole)
+
+
+def stored_modules(given):
+    programs = built(CRATE.name, given.program)
+    if not programs:
+        print(missing(CRATE.name, given.program))
+    wrong, runs = [], 0
+    for program, path in itertools.product(programs, sorted((CRATE / "data").glob("*.wasm"))):
+        found, some = stored(program, path)
+        wrong, runs = wrong + found, runs + some
+    for fault in wrong:
+        print(f"WRONG: {fault}")
+    print(f"stored: {runs} run, {len(wrong)} wrong")
+    return bool(wrong) or not runs
+
+
+# Prints a program's status, CPU seconds and most memory. A child's memory counts from its parent's, so a small
+# process starts it.
+RUNNER = """\
+import os, sys
+child = os.posix_spawnp(sys.argv[2], sys.argv[2:], os.environ, file_actions=[(os.POSIX_SPAWN_OPEN, 1, sys.argv[1], os.O_WRONLY | os.O_CREAT | os.O_TRUNC, 0o600)])
+_, status, used = os.wait4(child, 0)
+print(os.waitstatus_to_exitcode(status), used.ru_utime + used.ru_stime, used.ru_maxrss)
+"""
+# The differences: a name after an operand, a sign, the indices of locals, the type of a tail call.
+NAME = re.compile(r"^( [0-9a-f]+:(?: [0-9a-f]{2}){1,9} *\| .*?) <.*>(\)?)$")
+TABLE = re.compile(r"^(.*\| +(?:return_)?call_indirect \d+) <.*>( \(type \d+.*\))$")
+CONSTANT = re.compile(r"^(.*\| +i(32|64)\.const )(\d+)$")
+TAIL = re.compile(r"^(.*\| +return_call_indirect) (\d+) (\d+)$")
+LOCALS = re.compile(r"^(.*\| local)\[(\d+)(?:\.\.(\d+))?\]( type=.*)$")
+
+
+def signed(text, width):
+    number = int(text)
+    return str(number - (1 << width) if number >> (width - 1) else number)
+
+
+def without_indices(line):
+    count = lambda found: int(found[3]) - int(found[2]) + 1 if found[3] else 1
+    return LOCALS.sub(lambda found: f"{found[1]}[{count(found)}]{found[4]}", line)
+
+
+KINDS = {
+    "names": lambda line: NAME.sub(r"\1\2", TABLE.sub(r"\1\2", line)),
+    "signs": lambda line: CONSTANT.sub(lambda found: found[1] + signed(found[3], int(found[2])), line),
+    "locals": without_indices,
+    "tail calls": lambda line: TAIL.sub(r"\1 \3 (type \2)", line),
+}
+
+
+def kinds_of(ours, theirs):
+    found = []
+    for kind, plain in KINDS.items():
+        if ours != theirs and (plain(ours), plain(theirs)) != (ours, theirs):
+            ours, theirs = plain(ours), plain(theirs)
+            found.append(kind)
+    return found if ours == theirs else ["other"]
+
+
+def differences(ours, theirs):
+    """Returns the number of lines, of differences of each kind, and the first other ones."""
+    counts, others = dict.fromkeys(["lines", *KINDS, "other"], 0), []
+    for at, (line, wanted) in enumerate(itertools.zip_longest(ours, theirs), 1):
+        counts["lines"] += line is not None
+        if line != wanted:
+            kinds = ["other"] if None in (line, wanted) else kinds_of(line, wanted)
+            for kind in kinds:
+                counts[kind] += 1
+            if kinds == ["other"] and len(others) < 5:
+                others.append(f"line {at}: {line!r}, and wabt has {wanted!r}")
+    return counts, others
+
+
+def ran(words, into):
+    """Returns status, CPU seconds and megabytes, the least of some runs."""
+    runs = []
+    for _ in range(RUNS):
+        words_of_runner = [sys.executable, "-I", "-S", "-c", RUNNER, into, *words]
+        status, seconds, kilobytes = subprocess.run(words_of_runner, capture_output=True, text=True, check=True).stdout.split()
+        runs.append((int(status), float(seconds), int(kilobytes) / 1024))
+    return tuple(min(column) for column in zip(*runs))
+
+
+def lines_of(path):
+    with open(path, encoding="utf-8", errors="replace", newline="\n") as text:
+        for line in text:
+            yield line.rstrip("\n")
+
+
+def compared(program, module, folder):
+    """Compares one module. Returns whether only explained lines differ."""
+    status, seconds, memory = ran([str(program), module], f"{folder}/ours")
+    their_status, their_seconds, their_memory = ran([*THEIRS, module], f"{folder}/theirs")
+    counts, others = differences(lines_of(f"{folder}/ours"), lines_of(f"{folder}/theirs"))
+    said = ", ".join(f"{kind} {count:,}" for kind, count in counts.items())
+    print(f"{module}: {os.path.getsize(module):,} bytes, status {status} and {their_status}; {said}")
+    print(f"    {seconds:.3f} s and {their_seconds:.3f} s, {memory:.1f} MB and {their_memory:.1f} MB", flush=True)
+    for other in others:
+        print(f"    {other}")
+    return not counts["other"] and status == their_status
+
+
+def other_modules(given):
+    programs = built(CRATE.name, given.program)
+    if not programs or not given.words:
+        return "name a module" if programs else missing(CRATE.name, given.program)
+    with tempfile.TemporaryDirectory() as folder:
+        return not all([compared(programs[0], module, folder) for module in given.words])
+
+
+BY_HAND = TOP / "tools" / "original" / "text_names.tsv"
+# Names that a proposal changed: what wabt prints, and the standard's.
+OLDER = {
+    "i16x8.dot_i8x16_i7x16_s": "i16x8.relaxed_dot_i8x16_i7x16_s",
+    "i32x4.dot_i8x16_i7x16_add_s": "i32x4.relaxed_dot_i8x16_i7x16_add_s",
+}
+# What opens the construct around an operator, by its role.
+BEFORE = {"turns_else": "0440", "turns_catch": "0640", "turns_catch_all": "0640", "delegates": "0640"}
+# The same for operators whose role does not need it, but wabt does.
+INSIDE = {"Rethrow": "064019"}
+# The other sections of a module around an operator: their numbers and contents.
+SECTIONS = {1: "01600000", 3: "0100", 4: "01700000", 5: "01030101", 13: "010000", 6: "017f0141000b", 9: "01010000", 12: "01"}
+
+
+def encoding(op):
+    out = bytes.fromhex(op.prefix) + (unsigned(op.code) if op.prefix else bytes([op.code]))
+    for immediate in op.immediates:
+        word, *more = immediate.split()
+        out += bytes.fromhex(IMMEDIATES[word].least.format(**dict(zip(("sort", "align"), more))))
+    return out
+
+
+def module_of(op):
+    before = bytes.fromhex(BEFORE.get(op.role) or INSIDE.get(op.name, ""))
+    is_open = (op.role.startswith("opens") or bool(before)) and op.role != "delegates"
+    body = b"\x00" + before + encoding(op) + b"\x0b" * (is_open + (op.role != "ends"))
+    parts = {number: bytes.fromhex(contents) for number, contents in SECTIONS.items()}
+    parts |= {10: b"\x01" + unsigned(len(body)) + body, 11: b"\x01\x01\x00"}
+    return b"\0asm\1\0\0\0" + b"".join(bytes([number]) + unsigned(len(it)) + it for number, it in parts.items())
+
+
+def wabt_name(op, path):
+    path.write_bytes(module_of(op))
+    wanted = encoding(op)[:9].hex(" ")
+    for line in subprocess.run([*THEIRS, path], capture_output=True, text=True).stdout.splitlines():
+        found = re.match(r" [0-9a-f]{6}: ((?:[0-9a-f]{2} )+) *\| *(\S+)", line)
+        if found and found[1].strip() == wanted:
+            return OLDER.get(found[2], found[2])
+    return None
+
+
+def names(given):
+    written = {(row["prefix"], int(row["code"], 16), row["immediates"]): row["name"] for row in rows_of(BY_HAND)}
+    known, faults = 0, []
+    with tempfile.TemporaryDirectory() as folder:
+        for op in table():
+            name = wabt_name(op, Path(folder) / "one.wasm")
+            other = written.pop((op.prefix, op.code, "types" if "types" in op.kinds else ""), None)
+            known += name is not None
+            if name is not None and other is not None:
+                faults.append(f"{op.place}: wabt names it {name}: take it out of {BY_HAND.name}")
+            if (name or other) != op.text:
+                faults.append(f"{op.place}: {op.text}, and {'wabt' if name else 'the list by hand'} has {name or other or 'none'}")
+    faults += [f"{BY_HAND.name}: {prefix} {code:02x}: no such operator" for prefix, code, _ in written]
+    print(f"{known} names as wabt prints them, {len(table()) - known} as the list by hand has them, {len(faults)} faults")
+    return "\n".join(faults)
+
+
+WASI = ["--target=wasm32-wasi"]
+BARE = ["--target=wasm32", "-nostdlib", "-Wl,--no-entry", "-Wl,--export-all"]
+CPP = [*WASI, "-fno-exceptions", "-std=c++20"]
+SOURCES = TOP / "tools" / "modules"
+MODULES = {
+    "library": ("library.c", ["clang", *WASI, "-O2"]),
+    "library_small": ("library.c", ["clang", *WASI, "-Oz", "-Wl,--strip-all"]),
+    "library_whole": ("library.c", ["clang", *WASI, "-O0", "-g", "-Wl,--whole-archive", "-lc", "-Wl,--no-whole-archive"]),
+    "vectors": ("vectors.c", ["clang", *BARE, "-O3", "-msimd128"]),
+    "threads": ("threads.c", ["clang", *BARE, "-O2", "-pthread", "-matomics", "-mbulk-memory", "-Wl,--shared-memory,--max-memory=131072"]),
+    "tails": ("tails.c", ["clang", *BARE, "-O2", "-mtail-call"]),
+    "throws": ("throws.cc", ["clang++", *BARE, "-O1", "-fwasm-exceptions", "-Wl,--allow-undefined"]),
+    "exceptions": ("exceptions.wat", ["wat2wasm", "--enable-exceptions", "--debug-names"]),
+    "large": ("large.cc", ["clang++", *CPP, "-O1", "-DCOUNT=24"]),
+    "larger": ("large.cc", ["clang++", *CPP, "-O0", "-DCOUNT=96"]),
+}
+
+
+def modules(given):
+    if len(given.words) != 1:
+        return "name a folder"
+    folder = Path(given.words[0])
+    folder.mkdir(parents=True, exist_ok=True)
+    for name, (source, words) in MODULES.items():
+        module = folder / f"{name}.wasm"
+        made = subprocess.run([*words, str(SOURCES / source), "-o", str(module)], stderr=subprocess.PIPE)
+        if made.returncode:
+            return f"{name}: {made.stderr.decode(errors='replace')}"
+        print(f"{module}: {module.stat().st_size:,} bytes: {' '.join(words)}", flush=True)
+    return 0
+
+
+# Each command, and the program that it needs.
+COMMANDS = {
+    "stored": (stored_modules, None),
+    "objdump": (other_modules, THEIRS[0]),
+    "names": (names, THEIRS[0]),
+    "modules": (modules, "clang"),
+}
+
+
+def main():
+    given = read(__doc__, "--program PROGRAM", "COMMAND", "WORD..")
+    if given.command not in COMMANDS:
+        sys.exit(f"{given.command}: the commands are {', '.join(COMMANDS)}")
+    command, needed = COMMANDS[given.command]
+    if needed and not shutil.which(needed):
+        sys.exit(f"{needed}: not found")
+    sys.exit(command(given) or 0)
+
+
+if __name__ == "__main__":
+    main()
