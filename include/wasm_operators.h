@@ -19,8 +19,11 @@
 extern "C" {
 #endif
 
-/* The version of this header. wasm_operators_version() returns the library's. */
+/* The number of this header's structs and calls. wasm_operators_version() returns the library's. */
 #define WASM_OPERATORS_VERSION 4u
+
+/* The release, by semantic versioning. Its operators are those of wasmparser 0.263.0. */
+#define WASM_OPERATORS_RELEASE "0.1.0"
 
 /* The lengths in bytes of the longest names that wasm_operator_name and wasm_operator_text_name write. */
 #define WASM_LONGEST_NAME 29

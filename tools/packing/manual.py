@@ -3,6 +3,7 @@
 import re
 import subprocess
 
+from packing import texts
 from packing.builds import TOP
 from shared.tables import rows_of
 
@@ -101,7 +102,7 @@ def man_page(name, text, commit, others=()):
     shown = [line for command, words in examples(name) for line in (".TP", f"\\fB{escaped(command)}\\fR", escaped(words))]
     also = [", ".join(f"\\fB{escaped(other)}\\fR(1)" for other in others if other != name)]
     return "".join([
-        f'.TH {name.upper()} 1 "" "{commit[:12]}"\n',
+        f'.TH {name.upper()} 1 "" "{texts.release()} ({commit[:12]})"\n',
         section("NAME", [f"{escaped(name)} \\- {escaped(what)}"]),
         section("SYNOPSIS", [escaped(help_text.usage)]),
         section("DESCRIPTION", filled(help_text.paragraphs)),
@@ -139,7 +140,7 @@ def header_page(header, commit, programs):
     also = [", ".join(f"\\fB{escaped(name)}\\fR(1)" for name in programs)]
     flags = "cc .. $(pkg-config --cflags --libs wasm_operators)"
     return "".join([
-        f'.TH WASM_OPERATORS 3 "" "{commit[:12]}"\n',
+        f'.TH WASM_OPERATORS 3 "" "{texts.release()} ({commit[:12]})"\n',
         section("NAME", ["wasm_operators \\- a decoder of the operators of WebAssembly function bodies"]),
         section("SYNOPSIS", [".nf", "#include <wasm_operators.h>", escaped(flags), ".fi"]),
         section("DESCRIPTION", filled(head)),

@@ -4,13 +4,16 @@ import io
 import re
 import tarfile
 
-from packing import package, texts
+from packing import texts
 from packing.builds import TOP, Failed
 
 
 def notes():
-    """Returns the newest part of CHANGELOG.md, with its title."""
-    found = re.search(r"^## .*?(?=^## |\Z)", (TOP / "CHANGELOG.md").read_text(encoding="utf-8"), re.M | re.S)
+    """Returns the part of CHANGELOG.md about the release, with its title."""
+    parts = rf"^## {re.escape(texts.release())}, .*?(?=^## |\Z)"
+    found = re.search(parts, (TOP / "CHANGELOG.md").read_text(encoding="utf-8"), re.M | re.S)
+    if not found:
+        raise Failed(f"CHANGELOG.md has no part about {texts.release()}")
     return texts.relinked("CHANGELOG.md", found[0], lambda path: None).rstrip() + "\n"
 
 
@@ -28,7 +31,7 @@ def make(out):
     """Writes the archive, its checksum and the notes into the folder that has dist/, and prints their names."""
     if not (out / "PROVED").exists():
         raise Failed(f"{out} is not proved: a release is made of what is")
-    name = f"wasm-operators-{package.field('version')}-x86_64-linux"
+    name = f"wasm-operators-{texts.release()}-x86_64-linux"
     archive = out.with_name(f"{name}.tar.xz")
     packed(out, name, archive)
     archive.with_name(f"{archive.name}.sha256").write_text(f"{texts.sum_of(archive)}  {archive.name}\n", encoding="utf-8")

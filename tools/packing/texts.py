@@ -11,6 +11,7 @@ from packing.builds import TOP
 PKG_CONFIG = (TOP / "tools/packing/wasm_operators.pc").read_text(encoding="utf-8")
 CMAKE = {path.name: path.read_text(encoding="utf-8") for path in sorted((TOP / "tools/packing").glob("*.cmake"))}
 PROVED = """\
+release {release}
 commit  {commit}
 kit     {kit}
 system  Linux on x86-64{glibc}
@@ -26,6 +27,7 @@ lib/libwasm_c.a: proved and built by `rattle build` over the libraries that `rt 
 UNPROVED = """\
 NOT PROVED: built without proofs, for tests only.
 
+release {release}
 commit  {commit}
 kit     {kit}
 system  Linux on x86-64{glibc}
@@ -34,9 +36,19 @@ The programs and the library have the checks of `rt try`: a run stops at an inde
 """
 
 
-def version():
+def defined(name):
+    """Returns the value of a macro of the header."""
     header = (TOP / "include/wasm_operators.h").read_text(encoding="utf-8")
-    return re.search(r"^#define WASM_OPERATORS_VERSION (\d+)u$", header, re.M)[1]
+    return re.search(rf'^#define {name} "?(.*?)[u"]$', header, re.M)[1]
+
+
+def release():
+    return defined("WASM_OPERATORS_RELEASE")
+
+
+def interface():
+    """Returns the number of the structs and calls, which the shared library's name has."""
+    return defined("WASM_OPERATORS_VERSION")
 
 
 NOTE = """\

@@ -189,7 +189,7 @@ The exit status is 0.
 class Manual(Folders):
     def test_man_page(self):
         page = manual.man_page("wasm_objdump", HELP, "abc", ["wasm_objdump", "wasm_dump"])
-        self.assertTrue(page.startswith('.TH WASM_OBJDUMP 1 "" "abc"\n.SH NAME\nwasm_objdump \\- lists the sections '))
+        self.assertTrue(page.startswith(f'.TH WASM_OBJDUMP 1 "" "{texts.release()} (abc)"\n.SH NAME\nwasm_objdump \\- lists the sections '))
         self.assertIn(".SH SYNOPSIS\nwasm_objdump [OPTION].. [FILE]..\n.SH DESCRIPTION\nLists modules. Reads\n\\&.dot\n", page)
         self.assertIn(".TP\n\\fB\\-h, \\-\\-headers\\fR\nlist the sections\n.TP\n", page)
         self.assertIn("names: MULTI_MEMORY, MEMORY64\n.SH EXIT STATUS\nThe exit status is 0.\n.SH EXAMPLES\n", page)
@@ -304,8 +304,20 @@ class Texts(Folders):
         self.file("CALLERS.md", "[x](lost.md)")
         self.assertEqual(list(trial.dead_links(self.folder)), ["CALLERS.md: [x](lost.md)"])
 
+    def test_one_release(self):
+        text = lambda path: (texts.TOP / path).read_text(encoding="utf-8")
+        version = texts.release()
+        self.assertEqual(package.field("version"), version)
+        self.assertIn(f'name = "wasm-operators"\nversion = "{version}"\n', text("bindings/rust/Cargo.lock"))
+        self.assertIn(f"/wasm-operators-{version}`", text("docs/CALLERS.md"))
+        self.assertRegex(text("CHANGELOG.md"), rf"\A# Changelog\n[^#]*\n## {version}, ")
+        self.assertIn("follows wasmparser 0.263.0", release.notes().split("\n")[0])
+        for path in texts.TOP.glob("crates/*/src/main.rt"):
+            for found in re.findall(r'^const VERSION: &str = "(.*)";$', path.read_text(encoding="utf-8"), re.M):
+                self.assertEqual(found, f"{path.parts[-3]} {version}, follows wasmparser 0.263.0\\n")
+
     def test_pkg_config(self):
-        text = texts.PKG_CONFIG.format(version=texts.version(), note="")
+        text = texts.PKG_CONFIG.format(version=texts.release(), note="")
         self.assertIn("prefix=${pcfiledir}/../..\n", text)
         self.assertIn("Libs: -L${libdir} -lwasm_c -llibc_c\n", text)
 
@@ -358,7 +370,7 @@ class Install(Folders):
             self.assertEqual(prefix_of(Path("/usr")), Path("/usr"))
 
     def test_commit_of_a_build(self):
-        self.file("PROVED", texts.PROVED.format(commit="abc", kit="k", glibc="", said="", verdict=""))
+        self.file("PROVED", texts.PROVED.format(release="0.0.0", commit="abc", kit="k", glibc="", said="", verdict=""))
         self.assertTrue(tool("dist").is_of(self.folder, "abc"))
         self.assertFalse(tool("dist").is_of(self.folder, "ab"))
         self.assertFalse(tool("dist").is_of(self.folder / "none", "abc"))

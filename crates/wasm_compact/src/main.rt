@@ -37,7 +37,7 @@ rewritten, 2 if an argument is wrong, and 3 if input, output or allocation fails
 output is a closed pipe. After a failure, OUT is as it was.
 ";
 
-const VERSION: &str = "wasm_compact 0.263.0\n";
+const VERSION: &str = "wasm_compact 0.1.0, follows wasmparser 0.263.0\n";
 
 /// The exit status if the module is not rewritten.
 const REFUSED: u8 = 1;

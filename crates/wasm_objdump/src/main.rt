@@ -46,7 +46,7 @@ does not define function F. It is 2 if an argument is wrong, and 3 if input, out
 fails. For several files it is the largest. It is 141 if the output is a closed pipe.
 ";
 
-const VERSION: &str = "wasm_objdump 0.263.0\n";
+const VERSION: &str = "wasm_objdump 0.1.0, follows wasmparser 0.263.0\n";
 
 /// The capacity of the output buffer in bytes.
 const WRITTEN: usize = 0x1_0000;
