@@ -17,6 +17,8 @@ from testing.programs import Builder
 TOP = Path(__file__).resolve().parent.parent.parent
 EXPORTS = "wasm_c_exports"
 READ = ["crates", "crates.txt", "HANDLES"]
+# It reads a function body, has no options, and is for tests.
+LEFT_OUT = ["wasm_dump"]
 # A function of C whose contract a proof assumes, and the verdict, in the output of `rattle build --list-axioms`.
 VERDICT = re.compile(r"^(?:  (\S+)   reached|(logic=proved .*))$", re.M)
 
@@ -45,7 +47,7 @@ def notices_of(kit, crates):
 
 
 def programs_of(crates):
-    is_program = lambda name: (crates.folder(name) / "src/main.rt").exists()
+    is_program = lambda name: (crates.folder(name) / "src/main.rt").exists() and name not in LEFT_OUT
     return [name for name in crates.uses if is_program(name) and not name.startswith("wasm_tests_")]
 
 

@@ -28,8 +28,6 @@ CASE = """\
         mapfile -t COMPREPLY < <(compgen -W '{words}' -- "$word")
         ;;
 """
-# The words that an option may have, by the name of its value.
-FEATURES = re.compile(r"\b[A-Z][A-Z\d]*_?[A-Z_\d]+\b")
 
 
 def purpose_of(name):
@@ -37,33 +35,25 @@ def purpose_of(name):
     return " ".join(re.match(r"(?://! .*\n)+", text)[0].replace("//!", "").split())
 
 
-def help_of(name, program):
-    """Returns what a program prints for --help. Without that option, its page."""
-    how = {"stdin": subprocess.DEVNULL, "capture_output": True, "text": True, "errors": "replace"}
-    ran = subprocess.run([program, "--help"], **how)
-    if ran.returncode == 0 and ran.stdout.strip():
-        return ran.stdout
-    text = (TOP / f"crates/{name}/README.md").read_text(encoding="utf-8")
-    return re.sub(r"\[([^\]]*)\]\([^)]*\)", r"\1", text.split("\n", 1)[1]).replace("`", "").strip() + "\n"
+def help_of(program):
+    return subprocess.run([program, "--help"], stdin=subprocess.DEVNULL, capture_output=True, text=True, check=True).stdout
 
 
 class Help:
     """The parts of a help text: the usage line, options with their texts, paragraphs, and those about the exit status."""
 
     def __init__(self, name, text):
-        self.usage, self.options, self.paragraphs, self.status, self.last = name, [], [], [], None
+        self.usage, self.options, self.paragraphs, self.status = name, [], [], []
         for paragraph in text.strip("\n").split("\n\n"):
             lines = paragraph.split("\n")
             if lines[0].startswith("Usage: "):
                 self.usage = " ".join(line.strip() for line in lines).removeprefix("Usage: ")
             elif OPTION.match(lines[0]):
                 self.read_options(lines)
-            elif paragraph.startswith(STATUS) or (lines[0].startswith("- ") and self.status == self.last):
+            elif paragraph.startswith(STATUS):
                 self.status.append(paragraph)
-                self.last = self.status
             else:
                 self.paragraphs.append(paragraph)
-                self.last = self.paragraphs
 
     def read_options(self, lines):
         for line in lines:
@@ -151,11 +141,11 @@ def header_page(header, commit, programs):
 
 
 def completion(name, text):
-    """Returns the completion of a program for bash, or nothing if its help has no options."""
+    """Returns the completion of a program for bash."""
     options, cases = [], ""
     for option, words in Help(name, text).options:
         names = re.findall(r"(?<![\w-])--?[\w-]*\w", option)
         options += names
         if "--features" in names:
-            cases += CASE.format(option=" | ".join(names), words=" ".join(["all", "none", *FEATURES.findall(words)]))
-    return COMPLETION.format(name=name, cases=cases, options=" ".join(options)) if options else ""
+            cases += CASE.format(option=" | ".join(names), words=" ".join(["all", "none", *re.split(r",\s*", words.partition(": ")[2])]))
+    return COMPLETION.format(name=name, cases=cases, options=" ".join(options))

@@ -99,8 +99,20 @@ def block_of(prefix, language):
     return re.search(rf"^```{language}\n(.*?)^```", page, re.M | re.S)[1].replace("PREFIX", str(prefix))
 
 
+def try_page(prefix, folder, env):
+    """Runs the command of the page CALLERS.md that needs no clone, beside the examples."""
+    page = (prefix / installed.DOC / "CALLERS.md").read_text(encoding="utf-8")
+    (command,) = re.findall(r"^```sh\n(cc .*pkg-config.*)\n```", page, re.M)
+    shutil.copy(prefix / installed.DOC / "list.c", folder)
+    ran(["sh", "-euc", command], folder, env)
+    (folder / "body").write_bytes(BODY)
+    ran([folder / "list", "body"], folder, env, LISTED)
+    (folder / "list").unlink()
+
+
 def try_c(prefix, folder, env):
     env = {**env, "PKG_CONFIG_PATH": str(prefix / "lib/pkgconfig")}
+    try_page(prefix, folder, env)
     flags = ran(["pkg-config", "--cflags", "--libs", "wasm_operators"], folder, env).split()
     for source in sorted((prefix / installed.DOC).glob("*.c")):
         ran(["cc", "-std=c99", "-Wall", "-Werror", "-o", source.stem, source, *flags], folder, env)

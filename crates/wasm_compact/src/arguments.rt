@@ -19,6 +19,8 @@ pub struct Options {
 pub enum Mistake {
     /// An argument is no option of this program.
     Unknown(String),
+    /// An argument is empty.
+    Empty,
     /// The last option lacks its value.
     NoValue(&'static str),
     /// No file is named.
@@ -34,7 +36,11 @@ pub enum Mistake {
 impl fmt::Display for Mistake {
     fn fmt<W: fmt::Write>(&self, f: &mut fmt::Formatter<W>) -> fmt::Result {
         match self {
-            Mistake::Unknown(word) => write!(f, "unknown option: {word}"),
+            Mistake::Unknown(word) => write!(
+                f,
+                "unknown option: {word}; --help prints the options"
+            ),
+            Mistake::Empty => f.write_str("an argument is empty; --help prints the options"),
             Mistake::NoValue(word) => write!(f, "{word} needs a value"),
             Mistake::NoFile => f.write_str("no file is named; --help prints the options"),
             Mistake::Second(word) => write!(f, "more than one file: {word}"),
@@ -100,24 +106,26 @@ fn with_name(mut read: Read, word: String) -> Result<Read, Mistake> {
 }
 
 /// Reads one argument, of the kind `next`. Returns the kind of the argument after it.
-fn read_word(read: Read, next: Next, word: String) -> Result<(Read, Next), Mistake> {
+fn read_word(alloc: Global, read: Read, next: Next, word: String) -> Result<(Read, Next), Mistake> {
     match next {
         Next::Help | Next::Version => Ok((read, next)),
         Next::File => Ok((with_file(read, word)?, Next::File)),
         Next::Output => Ok((with_output(read, word)?, Next::Any)),
         Next::Keep => Ok((with_name(read, word)?, Next::Any)),
         Next::Any => {
-            if word.as_str() == "-" || !word.as_str().starts_with('-') {
+            if word.is_empty() {
+                Err(Mistake::Empty)
+            } else if word.as_str() == "-" || !word.as_str().starts_with('-') {
                 Ok((with_file(read, word)?, Next::Any))
             } else {
-                read_option(read, word)
+                read_option(alloc, read, word)
             }
         }
     }
 }
 
 /// Reads an option.
-fn read_option(mut read: Read, word: String) -> Result<(Read, Next), Mistake> {
+fn read_option(alloc: Global, mut read: Read, word: String) -> Result<(Read, Next), Mistake> {
     let next = match word.as_str() {
         "--" => Next::File,
         "--help" => Next::Help,
@@ -128,7 +136,16 @@ fn read_option(mut read: Read, word: String) -> Result<(Read, Next), Mistake> {
             read.drop_offsets = true;
             Next::Any
         }
-        _ => return Err(Mistake::Unknown(word)),
+        _ => {
+            let Some(name) = word.as_str().strip_prefix("--keep=") else {
+                return Err(Mistake::Unknown(word));
+            };
+            let Ok(name) = String::from_str(alloc, name) else {
+                return Err(Mistake::Memory);
+            };
+            read = with_name(read, name)?;
+            Next::Any
+        }
     };
     Ok((read, next))
 }
@@ -162,7 +179,7 @@ pub fn read_words(alloc: Global, words: Vec<String>) -> Words {
     };
     let mut next = Next::Any;
     for word in words {
-        match read_word(read, next, word) {
+        match read_word(alloc, read, next, word) {
             Ok((more, after)) => {
                 read = more;
                 next = after;

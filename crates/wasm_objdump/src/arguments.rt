@@ -1,4 +1,4 @@
-use std::alloc::Global;
+use std::alloc::{AllocError, Global};
 use std::fmt;
 use wasm_listing::features_of;
 use wasm_operators::WasmFeatures;
@@ -36,8 +36,10 @@ pub struct Options {
 /// Why the arguments are wrong.
 #[derive(Drop)]
 pub enum Mistake {
-    /// An argument is no option of this program.
-    Unknown(String),
+    /// An argument is no option of this program. The text is an option that starts in the same way.
+    Unknown(String, Option<&'static str>),
+    /// An argument is empty.
+    Empty,
     /// An option of `wasm-objdump` that this program does not have.
     Unsupported(String),
     /// The last option lacks its value.
@@ -53,13 +55,25 @@ pub enum Mistake {
 impl fmt::Display for Mistake {
     fn fmt<W: fmt::Write>(&self, f: &mut fmt::Formatter<W>) -> fmt::Result {
         match self {
-            Mistake::Unknown(word) => write!(f, "unknown option: {word}"),
+            Mistake::Unknown(word, None) => {
+                write!(f, "unknown option: {word}; --help prints the options")
+            }
+            Mistake::Unknown(word, Some(option)) => {
+                write!(f, "unknown option: {word}; did you mean {option}?")
+            }
+            Mistake::Empty => f.write_str("an argument is empty; --help prints the options"),
             Mistake::Unsupported(word) => write!(f, "not supported: {word}"),
             Mistake::NoValue(word) => write!(f, "{word} needs a value"),
             Mistake::NoFeatures(word) => write!(f, "unknown features: {word}"),
             Mistake::NotText => f.write_str("an argument is not UTF-8"),
             Mistake::Memory => f.write_str("out of memory"),
         }
+    }
+}
+
+impl From<AllocError> for Mistake {
+    fn from(_: AllocError) -> Mistake {
+        Mistake::Memory
     }
 }
 
@@ -83,11 +97,75 @@ enum Next {
     Version,
 }
 
+/// The long options of this program.
+const LONG: [&str; 8] = [
+    "--headers",
+    "--details",
+    "--disassemble",
+    "--census",
+    "--function",
+    "--features",
+    "--help",
+    "--version",
+];
+
+/// How many bytes a suggestion has in common with the word, at least: two letters after the dashes.
+const LEAST: usize = 4;
+
+/// Returns how many bytes at the start are the same in both texts.
+fn same_start(one: &str, other: &str) -> usize {
+    let mut count = 0;
+    for (byte, wanted) in one.bytes().zip(other.bytes()) {
+        if byte != wanted {
+            return count;
+        }
+        count += 1;
+    }
+    count
+}
+
+/// Returns the first option of those with the most bytes at the start in common with the word.
+fn suggested(word: &str) -> Option<&'static str> {
+    let mut found = None;
+    let mut most = LEAST - 1;
+    for option in LONG {
+        let count = same_start(word, option);
+        if count > most {
+            most = count;
+            found = Some(option);
+        }
+    }
+    found
+}
+
+/// Returns the mistake of a word that is no option.
+fn unknown(word: String) -> Mistake {
+    let option = suggested(word.as_str());
+    Mistake::Unknown(word, option)
+}
+
+/// Returns the features that a word names: in capital or small letters, with commas or bars between
+/// them.
+fn named_features(alloc: Global, word: &str) -> Result<Option<WasmFeatures>, AllocError> {
+    let small = word.to_ascii_lowercase(alloc)?;
+    if let Some(features) = features_of(Some(small.as_str())) {
+        return Ok(Some(features));
+    }
+    let capital = word.to_ascii_uppercase(alloc)?;
+    let joined = capital.as_str().replace(alloc, ',', "|")?;
+    Ok(features_of(Some(joined.as_str())))
+}
+
 /// Reads `word` as the value of the option `next`. `--function` takes an index, in decimal or after
 /// `0x` in hexadecimal, or a name.
-fn read_value(mut options: Options, next: Next, word: String) -> Result<Options, Mistake> {
+fn read_value(
+    alloc: Global,
+    mut options: Options,
+    next: Next,
+    word: String,
+) -> Result<Options, Mistake> {
     match next {
-        Next::Features => match features_of(Some(word.as_str())) {
+        Next::Features => match named_features(alloc, word.as_str())? {
             Some(features) => {
                 options.features = features;
                 Ok(options)
@@ -126,9 +204,11 @@ fn read_word(
     match next {
         Next::Help | Next::Version => Ok((options, next)),
         Next::File => Ok((with_file(options, word)?, Next::File)),
-        Next::Function | Next::Features => Ok((read_value(options, next, word)?, Next::Any)),
+        Next::Function | Next::Features => Ok((read_value(alloc, options, next, word)?, Next::Any)),
         Next::Any => {
-            if word.as_str() == "-" || !word.as_str().starts_with('-') {
+            if word.is_empty() {
+                Err(Mistake::Empty)
+            } else if word.as_str() == "-" || !word.as_str().starts_with('-') {
                 Ok((with_file(options, word)?, Next::Any))
             } else if word.as_str().starts_with("--") {
                 read_long(alloc, options, word)
@@ -178,15 +258,15 @@ fn read_long(
 /// Reads an option with its value after `=`.
 fn read_assigned(alloc: Global, options: Options, word: String) -> Result<Options, Mistake> {
     let Some((option, value)) = word.as_str().split_once('=') else {
-        return Err(Mistake::Unknown(word));
+        return Err(unknown(word));
     };
     let next = match option {
         "--function" => Next::Function,
         "--features" => Next::Features,
-        _ => return Err(Mistake::Unknown(word)),
+        _ => return Err(unknown(word)),
     };
     match String::from_str(alloc, value) {
-        Ok(value) => read_value(options, next, value),
+        Ok(value) => read_value(alloc, options, next, value),
         Err(_) => Err(Mistake::Memory),
     }
 }
@@ -222,7 +302,7 @@ fn read_short(mut options: Options, word: String) -> Result<Options, Mistake> {
     match letters {
         Letters::Known => Ok(options),
         Letters::Unsupported => Err(Mistake::Unsupported(word)),
-        Letters::Unknown => Err(Mistake::Unknown(word)),
+        Letters::Unknown => Err(Mistake::Unknown(word, None)),
     }
 }
 

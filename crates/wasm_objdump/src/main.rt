@@ -34,9 +34,9 @@ Reads standard input if no FILE is given, and for a FILE that is `-`.
   -d, --disassemble    disassemble the functions; the default without -h and -x
       --census         count the operators by proposal, in place of -h, -x and -d
       --function F     only the function with index F, such as 3 or 0x3, or with the name F
-      --features WORD  all (the default), none, or names joined by |: MULTI_MEMORY, MEMORY64,
-                       CALL_INDIRECT_OVERLONG, LEGACY_EXCEPTIONS, ACQUIRE_RELEASE_ATOMICS,
-                       MULTIBYTE_ARRAY_ACCESS
+      --features WORD  all (the default), none, or names separated by commas: multi_memory,
+                       memory64, call_indirect_overlong, legacy_exceptions,
+                       acquire_release_atomics, multibyte_array_access
       --help           print this text
       --version        print the version
       --               treat the other arguments as files
