@@ -26,9 +26,9 @@ import tempfile
 from pathlib import Path
 
 from shared.arguments import read
+from shared.crates import TOP
 from testing.built import built, missing
 
-TOP = Path(__file__).resolve().parent.parent
 SECONDS = 60
 # A program with more should be smaller.
 MOST = 1500

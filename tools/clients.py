@@ -25,10 +25,10 @@ import tempfile
 from pathlib import Path
 
 from shared.arguments import read
+from shared.crates import TOP
 from shared.leb128 import unsigned
 from shared.tables import rows_of
 
-TOP = Path(__file__).resolve().parent.parent
 CLIENTS = TOP / "bindings/clients"
 # The program of each client: its source, the version of the client, and the client's features.
 PROGRAMS = {
@@ -231,5 +231,4 @@ def main():
 
 
 if __name__ == "__main__":
-    sys.dont_write_bytecode = True
     main()

@@ -16,11 +16,10 @@ shortened: `S` is what `self` points to at the call, `S'` at the return, and `x`
 
 import re
 import sys
-from pathlib import Path
 
 from shared.arguments import read
+from shared.crates import TOP
 
-TOP = Path(__file__).resolve().parent.parent
 QUOTE = re.compile(r"(<!-- contracts\n(.*?)-->\n\n```text\n)(.*?)(```\n)", re.S)
 SHORTER = [(r"\bself\.old\b", "S"), (r"\bself\.new\b", "S'"), (r"\bself\.now\b", "S"), (r"\b(\w+)\.entry\b", r"\1")]
 
@@ -113,5 +112,4 @@ def main():
 
 
 if __name__ == "__main__":
-    sys.dont_write_bytecode = True
     main()

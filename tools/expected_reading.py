@@ -216,5 +216,4 @@ def files():
 
 
 if __name__ == "__main__":
-    sys.dont_write_bytecode = True
     write_or_check(files(), read(__doc__, "--check").check, "tools/expected_reading.py")

@@ -9,8 +9,6 @@ Instructions). Each LEB128 number gets its fewest bytes, an abstract reference t
 0 no index. The targets of a branch table stay.
 """
 
-import sys
-
 from expected_reading import samples
 from original import GROUPS, originals
 from shared import arguments
@@ -155,5 +153,4 @@ def files():
 
 
 if __name__ == "__main__":
-    sys.dont_write_bytecode = True
     write_or_check(files(), arguments.read(__doc__, "--check").check, "tools/expected_writing.py")

@@ -14,8 +14,8 @@ import tempfile
 from pathlib import Path
 
 from shared.arguments import read
+from shared.crates import TOP
 
-TOP = Path(__file__).resolve().parent.parent
 PAGE = TOP / "CONTRIBUTING.md"
 STEP = re.compile(r"^\*\*(\d)\. ", re.M)
 # The changes of the page's text: its file, and the code before and after.

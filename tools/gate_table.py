@@ -19,8 +19,8 @@ sys.path[:0] = [str(Path(__file__).resolve().parent / "generate"), str(Path(__fi
 
 from edits import recorded
 from shared import arguments
+from shared.crates import TOP
 
-TOP = Path(__file__).resolve().parent.parent
 PAGE = TOP / "docs" / "GATE.md"
 CHART = TOP / "docs" / "gate.svg"
 # The rows of a table, and the bars of the chart; the other crates are one.

@@ -17,9 +17,9 @@ import time
 from pathlib import Path
 
 from shared.arguments import read
+from shared.crates import TOP
 from shared.leb128 import unsigned
 
-TOP = Path(__file__).resolve().parent.parent
 PROGRAM = TOP / "crates" / "wasm_dump" / "out" / "wasm_dump"
 LIBRARY = TOP / "crates" / "wasm_bench" / "out" / "libwasm_bench.a"
 # Memory grows by doubling, and other work shares the machine.

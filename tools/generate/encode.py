@@ -4,7 +4,7 @@ from immediates import FORMS, KINDS, ROW_WORDS
 from plain import BOUND, bound
 from source import joined_arm, rust_pattern
 from table import ENUMS, held, imported
-from templates import filled, filled_file, with_uses
+from templates import filled, with_uses
 
 CRATE = "crates/wasm_encode_operators"
 # The capacity that the writer of each kind requires, as `most` in wasm_encode_immediates. A list reserves more itself.
