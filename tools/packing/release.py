@@ -28,7 +28,7 @@ def packed(folder, name, archive):
 
 
 def make(out):
-    """Writes the archive, its checksum and the notes into the folder that has dist/, and prints their names."""
+    """Writes the archive, its checksum and the notes into the folder that has dist/. Returns the archive."""
     if not (out / "PROVED").exists():
         raise Failed(f"{out} is not proved: a release is made of what is")
     name = f"wasm-operators-{texts.release()}-x86_64-linux"
@@ -37,3 +37,4 @@ def make(out):
     archive.with_name(f"{archive.name}.sha256").write_text(f"{texts.sum_of(archive)}  {archive.name}\n", encoding="utf-8")
     archive.with_name(f"{name}.md").write_text(notes(), encoding="utf-8")
     print(f"dist: wrote {archive.name}, {archive.name}.sha256 and {name}.md")
+    return archive

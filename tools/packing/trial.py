@@ -65,10 +65,15 @@ def dead_links(prefix):
                 yield f"{page.relative_to(prefix)}: {found[0]}"
 
 
+def page_of(prefix, name):
+    """Returns a page's path. An unpacked release has some in its folder."""
+    return prefix / name if (prefix / name).exists() else prefix / installed.DOC / name
+
+
 def try_tree(prefix, env):
     if dead := list(dead_links(prefix)):
         raise Failed("links that lead nowhere:\n" + "\n".join(dead))
-    ran(["sha256sum", "--check", "--quiet", installed.SUMS], prefix, env)
+    ran(["sha256sum", "--check", "--quiet", page_of(prefix, installed.SUMS.name)], prefix, env)
 
 
 def try_uninstalling(prefix):
@@ -95,7 +100,7 @@ def try_examples(prefix, folder, env):
 
 def block_of(prefix, language):
     """Returns the first block of code in this language in the installed README."""
-    page = (prefix / installed.DOC / "README.md").read_text(encoding="utf-8")
+    page = page_of(prefix, "README.md").read_text(encoding="utf-8")
     return re.search(rf"^```{language}\n(.*?)^```", page, re.M | re.S)[1].replace("PREFIX", str(prefix))
 
 
@@ -153,15 +158,22 @@ def try_cargo(prefix, folder, env):
     ran(["cargo", "test", "--offline", "--quiet"], folder / name, env)
 
 
-def run(out):
+def unpacked(archive, folder, env):
+    ran(["tar", "-xf", archive], folder, env)
+    return folder / archive.name.removesuffix(".tar.xz")
+
+
+def run(out, archive=None):
+    """Uses the files of `out`, installed, or those of a release."""
     with tempfile.TemporaryDirectory(prefix="dist-try-") as made:
         folder = Path(made)
         env = {name: value for name, value in os.environ.items() if name in ("HOME", "RUSTUP_HOME", "CARGO_HOME", "LANG")}
         env["PATH"] = path_without_rt(folder / "path")
         if any(shutil.which(name, path=env["PATH"]) for name in ("rt", "rattle")):
             raise Failed("rt is still on the PATH")
-        prefix = folder / "prefix"
-        installed.install(out, prefix)
+        prefix = unpacked(archive, folder, env) if archive else folder / "prefix"
+        if not archive:
+            installed.install(out, prefix)
         try_tree(prefix, env)
         try_programs(prefix)
         try_examples(prefix, folder, env)
@@ -170,5 +182,6 @@ def run(out):
                 tries(prefix, folder, env)
             else:
                 print(f"dist: no {command} here, so what needs it is not tried")
-        try_uninstalling(prefix)
+        if not archive:
+            try_uninstalling(prefix)
         print("dist: the programs, the C programs and the cargo crate work without the kit")
