@@ -55,6 +55,19 @@ NOTE = """\
 > From the repository. What this page says of a clone, such as commands with `crates/` or `tools/`, needs one.
 
 """
+CALLERS = "docs/CALLERS.md"
+# What the installed CALLERS.md has in place of the commands in a clone.
+IN_PLACE = [
+    (r"Commands run in a clone's root\.", "Commands run in a copy of this folder. The variable `prefix` is the path of the folder that has `bin`, and `PKG_CONFIG_PATH` is `$prefix/lib/pkgconfig`."),
+    (r"With the Rattle kit \(`rt doc` .*?, programs need neither clone nor kit:", "Programs need neither clone nor kit:"),
+    (r"-Iinclude -o (\w+) examples/c/(\w+\.c) bindings/rust/native/libwasm_c\.a bindings/rust/native/liblibc_c\.a -lm", r"-o \1 \2 $(pkg-config --cflags --libs wasm_operators)"),
+    (r"--manifest-path bindings/rust/Cargo\.toml", "--manifest-path CRATE/Cargo.toml --target-dir target"),
+    (r"<< 'TEXT'\n(wasm-operators = \{ path = )\"\.\./bindings/rust\"", r'<< TEXT\n\1"CRATE"'),
+    (r"path = \"\.\./bindings/rust\"", 'path = "CRATE"'),
+    (r"`bindings/rust`", "`CRATE`"),
+    (r"examples/c/|crates/wasm_objdump/data/", ""),
+    (r"\bDIR\b", "$prefix"),
+]
 LINK = re.compile(r"\[([^\]]*)\]\(([^)#\s]*)(#[^)\s]*)?\)")
 
 
@@ -75,7 +88,17 @@ def installed_page(page, kept):
     """Returns a page of the repository for a folder with the files `kept`."""
     title, _, rest = (TOP / page).read_text(encoding="utf-8").partition("\n\n")
     names = {path: PurePosixPath(path).name for path in kept}
+    if page == CALLERS:
+        return f"{title}\n\n{relinked(page, for_installed(rest), names.get)}"
     return f"{title}\n\n{NOTE}{relinked(page, rest, names.get)}"
+
+
+def for_installed(text):
+    """Returns the text of CALLERS.md with commands for the installed files in place of those for a clone."""
+    for pattern, new in IN_PLACE:
+        text, count = re.subn(pattern, new.replace("CRATE", f"$prefix/share/wasm-operators/wasm-operators-{release()}"), text, flags=re.S)
+        assert count, f"{CALLERS} has no {pattern}"
+    return text
 
 
 def glibc_of(programs):

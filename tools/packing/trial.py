@@ -6,6 +6,7 @@ import shutil
 import subprocess
 import sys
 import tempfile
+import textwrap
 from pathlib import Path
 
 from packing import installed, manual, package, shared_library, texts
@@ -104,20 +105,18 @@ def block_of(prefix, language):
     return re.search(rf"^```{language}\n(.*?)^```", page, re.M | re.S)[1].replace("PREFIX", str(prefix))
 
 
-def try_page(prefix, folder, env):
-    """Runs the command of the page CALLERS.md that needs no clone, beside the examples."""
-    page = (prefix / installed.DOC / "CALLERS.md").read_text(encoding="utf-8")
-    (command,) = re.findall(r"^```sh\n(cc .*pkg-config.*)\n```", page, re.M)
-    shutil.copy(prefix / installed.DOC / "list.c", folder)
-    ran(["sh", "-euc", command], folder, env)
-    (folder / "body").write_bytes(BODY)
-    ran([folder / "list", "body"], folder, env, LISTED)
-    (folder / "list").unlink()
+def try_callers(prefix, folder, env):
+    """Runs the commands of the page CALLERS.md in a copy of its folder, and compares the output that it shows."""
+    here = shutil.copytree(prefix / installed.DOC, folder / "callers")
+    env = {**env, "prefix": str(prefix), "PKG_CONFIG_PATH": str(prefix / "lib/pkgconfig")}
+    page = (here / "CALLERS.md").read_text(encoding="utf-8")
+    for command, shown in re.findall(r"^```sh\n(.*?)^```\n(?:\nprints\n\n((?:    .*\n)+))?", page, re.M | re.S):
+        if "cargo " not in command or shutil.which("cargo", path=env["PATH"]):
+            ran(["bash", "-euc", command], here, env, textwrap.dedent(shown) or None)
 
 
 def try_c(prefix, folder, env):
     env = {**env, "PKG_CONFIG_PATH": str(prefix / "lib/pkgconfig")}
-    try_page(prefix, folder, env)
     flags = ran(["pkg-config", "--cflags", "--libs", "wasm_operators"], folder, env).split()
     for source in sorted((prefix / installed.DOC).glob("*.c")):
         ran(["cc", "-std=c99", "-Wall", "-Werror", "-o", source.stem, source, *flags], folder, env)
@@ -177,7 +176,7 @@ def run(out, archive=None):
         try_tree(prefix, env)
         try_programs(prefix)
         try_examples(prefix, folder, env)
-        for command, tries in (("cc", try_c), ("cc", try_shared), ("cmake", try_cmake), ("cargo", try_cargo)):
+        for command, tries in (("cc", try_c), ("cc", try_callers), ("cc", try_shared), ("cmake", try_cmake), ("cargo", try_cargo)):
             if shutil.which(command, path=env["PATH"]):
                 tries(prefix, folder, env)
             else:
