@@ -5,12 +5,12 @@ use Rattle.wasm_module.specs.declared.fault.ModuleFault.{ModuleFault}
 use Rattle.wasm_module.specs.declared.fault.ModuleFault.TheVariants as whole_fault
 use Rattle.wasm_module.specs.declared.preamble.PreambleKind.{PreambleKind}
 use Rattle.wasm_module.specs.declared.preamble.PreambleKind.TheVariants as kind
-use Rattle.wasm_module.specs.declared.bodies.WasmBodies.{WasmBodies}
+use Rattle.wasm_module.specs.declared.bodies.Bodies.{Bodies}
 use Rattle.wasm_module.specs.declared.body_fault.BodiesFault.{BodiesFault}
 use Rattle.wasm_module.specs.declared.body_fault.BodiesFault.TheVariants as fault
 use Rattle.wasm_module.specs.declared.body_fault.NoBody.{NoBody}
 use Rattle.wasm_module.specs.declared.body_fault.NoBody.TheVariants as no_body
-use Rattle.wasm_module.specs.declared.next.WasmBody.{WasmBody}
+use Rattle.wasm_module.specs.declared.next.Body.{Body}
 use Rattle.wasm_module.specs.Bodies.{OpensBodies, FailsBodies, TakesBody, StopsBodies, NamesFunction, FailsName}
 use Rattle.wasm_c.specs.declared.refusal.WasmRefusal.{WasmRefusal}
 use Rattle.wasm_c.specs.OperatorTexts.{PlacesText, out_of_memory}
@@ -46,12 +46,12 @@ refusal_of_next (no_body.Refused e) = refusal_of e
 refusal_of_next no_body.NotBodies = misuse 103 0
 
 -- `wasm_open_bodies` returns the place before the first body. On an error, nothing changes.
-abbrev pub ReturnsBodies : WasmRefusal → List ℕ → WasmBodies → WasmBodies → Type 0
+abbrev pub ReturnsBodies : WasmRefusal → List ℕ → Bodies → Bodies → Type 0
 ReturnsBodies r bytes old new =
     ((r ≡ no_refusal 0) × OpensBodies bytes new) ⊎ ((new ≡ old) × (f : BodiesFault) × (r ≡ refusal_of_bodies f) × FailsBodies f bytes)
 
 -- `wasm_next_body` returns the next body. Without one, it returns why, and nothing changes.
-abbrev pub ReturnsBody : WasmRefusal → List ℕ → WasmBodies → WasmBodies → WasmBody → WasmBody → Type 0
+abbrev pub ReturnsBody : WasmRefusal → List ℕ → Bodies → Bodies → Body → Body → Type 0
 ReturnsBody r bytes old new body_old body_new =
     ((r ≡ no_refusal body_new.offset) × TakesBody bytes old new body_new) ⊎
     ((new ≡ old) × (body_new ≡ body_old) × (reason : NoBody) × (r ≡ refusal_of_next reason) × StopsBodies reason bytes old)

@@ -57,7 +57,7 @@ pub use crate::reader::WasmReader;
 pub use crate::refusal::WasmRefusal;
 pub use crate::value::WasmValue;
 use std::alloc::Global;
-pub use wasm_module::{WasmBodies, WasmBody};
+pub use wasm_module::{Bodies as WasmBodies, Body as WasmBody};
 use wasm_view::laws::names;
 use wasm_view::name_at;
 pub use wasm_view::{WasmHandler, WasmOperator, WasmType};

@@ -6,7 +6,7 @@ use crate::operator_text::{out_of_memory, place_text};
 use crate::refusal::{NOT_A_READER, WasmRefusal};
 use std::alloc::Global;
 use wasm_module::{
-    BodiesFault, ModuleFault, NoBody, PreambleKind, WasmBodies, WasmBody, function_name, next_body,
+    Bodies, BodiesFault, Body, ModuleFault, NoBody, PreambleKind, function_name, next_body,
     open_bodies,
 };
 
@@ -78,7 +78,7 @@ fn refusal_of_next(reason: &NoBody) -> WasmRefusal
 }
 
 /// Opens the bodies of a module.
-pub fn open(alloc: Global, bytes: &[u8], bodies: &mut WasmBodies) -> WasmRefusal
+pub fn open(alloc: Global, bytes: &[u8], bodies: &mut Bodies) -> WasmRefusal
     ensures { ReturnsBodies result bytes.now bodies.old bodies.new }
 {
     match open_bodies(alloc, bytes) {
@@ -91,7 +91,7 @@ pub fn open(alloc: Global, bytes: &[u8], bodies: &mut WasmBodies) -> WasmRefusal
 }
 
 /// Reads the next body of a module.
-pub fn next(bytes: &[u8], bodies: &mut WasmBodies, body: &mut WasmBody) -> WasmRefusal
+pub fn next(bytes: &[u8], bodies: &mut Bodies, body: &mut Body) -> WasmRefusal
     ensures { ReturnsBody result bytes.now bodies.old bodies.new body.old body.new }
 {
     match next_body(bytes, bodies) {

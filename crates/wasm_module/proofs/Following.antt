@@ -4,8 +4,8 @@ use Rattle.wasm_below.specs.Number.{EncodesUnsigned}
 use Rattle.wasm_below.specs.Source.{Reader, HasRead, rest, offset_of, end_of}
 use Rattle.wasm_module.specs.Items.{ItemsOccur}
 use Rattle.wasm_module.specs.ModuleFunctions.{ModuleFunctions}
-use Rattle.wasm_module.specs.declared.bodies.WasmBodies.{WasmBodies}
-use Rattle.wasm_module.specs.declared.next.WasmBody.{WasmBody}
+use Rattle.wasm_module.specs.declared.bodies.Bodies.{Bodies}
+use Rattle.wasm_module.specs.declared.next.Body.{Body}
 use Rattle.wasm_module.specs.Bodies.{after_bytes, InSection, DeclaresIn, StartsItems, OpensBodies, TakesBody, BodiesOccur, IsAfter, IsBodyOf}
 use Rattle.wasm_module.proofs.Places.{OneSection, same_place}
 
@@ -41,7 +41,7 @@ start_of bytes id count n some (Some contents, is, (text, encodes, takes)) =
 plus_none : (n : ℕ) → n ≡ 0 + n
 plus_none n = omega arith
 
-pub after_none : (bytes : List ℕ) (c : WasmBodies) (opens : OpensBodies bytes c) → 0 < c.left → IsAfter bytes opens.functions [] [] c
+pub after_none : (bytes : List ℕ) (c : Bodies) (opens : OpensBodies bytes c) → 0 < c.left → IsAfter bytes opens.functions [] [] c
 after_none bytes c opens some =
     let code = start_of bytes 10 c.left c.code some opens.code in
     let types = start_of bytes 3 c.left c.types some opens.types in
@@ -62,7 +62,7 @@ after_none bytes c opens some =
       read = opens.read;
     }
 
-pub after_next : OneSection → (bytes : List ℕ) (functions : ModuleFunctions) (bodies : List Reader) (types : List ℕ) (old new : WasmBodies) (body : WasmBody) →
+pub after_next : OneSection → (bytes : List ℕ) (functions : ModuleFunctions) (bodies : List Reader) (types : List ℕ) (old new : Bodies) (body : Body) →
     IsAfter bytes functions bodies types old → TakesBody bytes old new body →
     (part : Reader) × IsAfter bytes functions (bodies ++ part ∷ []) (types ++ body.type_index ∷ []) new × IsBodyOf functions (length bodies) part body
 after_next law bytes functions bodies types old new body a b =

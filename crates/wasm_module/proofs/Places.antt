@@ -4,7 +4,7 @@ use Rattle.wasm_below.specs.FromReader.{EncodesReader}
 use Rattle.wasm_below.specs.Number.{EncodesUnsigned}
 use Rattle.wasm_below.specs.Source.{Reader, HasRead, Takes, IsRefusal, rest, offset_of, end_of, at_position}
 use Rattle.wasm_module.specs.Sections.{IsSection}
-use Rattle.wasm_module.specs.declared.bodies.WasmBodies.{WasmBodies}
+use Rattle.wasm_module.specs.declared.bodies.Bodies.{Bodies}
 use Rattle.wasm_module.specs.Bodies.{module_of, after_bytes, InSection, HasType, TakesPart, IsPlace}
 use Rattle.wasm_below.proofs.Blocks.{refused_now}
 
@@ -74,13 +74,13 @@ no_type law bytes n place e there refused (new, ty, (before, after, a, b, (text,
     refused_now (EncodesUnsigned 32) e place refused text (rest after) ty encodes (ap rest same ∙ takes.parts)
 
 -- No place: no body is left, some bytes were read, and the code section has fewer.
-pub no_end : (bytes : List ℕ) (c : WasmBodies) → c.left ≡ 0 → (c.code ≡ 0 → ⊥) → ((there : Reader) → InSection bytes 10 c.code there → ⊥) →
+pub no_end : (bytes : List ℕ) (c : Bodies) → c.left ≡ 0 → (c.code ≡ 0 → ⊥) → ((there : Reader) → InSection bytes 10 c.code there → ⊥) →
     IsPlace bytes c → ⊥
 no_end bytes c none some nowhere (inl (zero, inl start)) = some start
 no_end bytes c none some nowhere (inl (zero, inr (there, a))) = nowhere there a
 no_end bytes c none some nowhere (inr (left, ty, code)) = absurd (omega (arith, left, none))
 
 -- No place before a body: the code section has fewer bytes.
-pub no_body_there : (bytes : List ℕ) (c : WasmBodies) → (c.left ≡ 0 → ⊥) → ((there : Reader) → InSection bytes 10 c.code there → ⊥) → IsPlace bytes c → ⊥
+pub no_body_there : (bytes : List ℕ) (c : Bodies) → (c.left ≡ 0 → ⊥) → ((there : Reader) → InSection bytes 10 c.code there → ⊥) → IsPlace bytes c → ⊥
 no_body_there bytes c some nowhere (inl (zero, h)) = some zero
 no_body_there bytes c some nowhere (inr (left, ty, (there, a))) = nowhere there a

@@ -11,8 +11,8 @@ use Rattle.wasm_module.specs.Items.{ItemsOccur}
 use Rattle.wasm_module.specs.ModuleFunctions.{ModuleFunctions, DescribesFunctions, IsDefined, index_of}
 use Rattle.wasm_module.specs.Refusals.{ModuleFunctionsFault, IsRefusedAs}
 use Rattle.wasm_module.specs.Sections.{IsSection}
-use Rattle.wasm_module.specs.declared.bodies.WasmBodies.{WasmBodies}
-use Rattle.wasm_module.specs.declared.next.WasmBody.{WasmBody}
+use Rattle.wasm_module.specs.declared.bodies.Bodies.{Bodies}
+use Rattle.wasm_module.specs.declared.next.Body.{Body}
 use Rattle.wasm_module.specs.declared.body_fault.BodiesFault.{BodiesFault}
 use Rattle.wasm_module.specs.declared.body_fault.BodiesFault.TheVariants as fault
 use Rattle.wasm_module.specs.declared.body_fault.NoBody.{NoBody}
@@ -51,7 +51,7 @@ abbrev pub Describes : List ℕ → Type 0
 Describes bytes = (t : ModuleFunctions) × DescribesFunctions (module_of bytes) t
 
 -- The place before the first body of a module with as many bodies as defined functions.
-pub record OpensBodies (bytes : List ℕ) (c : WasmBodies) : Type 0 where
+pub record OpensBodies (bytes : List ℕ) (c : Bodies) : Type 0 where
   pub functions : ModuleFunctions
   pub described : DescribesFunctions (module_of bytes) functions
   pub types : DeclaresIn bytes 3 c.left c.types
@@ -88,7 +88,7 @@ pub record TakesPart (bytes : List ℕ) (old new : ℕ) (part : Reader) : Type 0
   pub place : end_of part ≡ offset_of after
 
 -- The next body is read, with the index and the type of its function.
-pub record TakesBody (bytes : List ℕ) (old new : WasmBodies) (body : WasmBody) : Type 0 where
+pub record TakesBody (bytes : List ℕ) (old new : Bodies) (body : Body) : Type 0 where
   pub left : old.left ≡ new.left + 1
   pub type_index : TakesType bytes old.types new.types body.type_index
   pub part : Reader
@@ -104,7 +104,7 @@ abbrev pub HasCode : List ℕ → ℕ → Type 0
 HasCode bytes n = (there : Reader) × InSection bytes 10 n there
 
 -- The C struct is a place of this module: before a body and a type index, or after the last body.
-abbrev pub IsPlace : List ℕ → WasmBodies → Type 0
+abbrev pub IsPlace : List ℕ → Bodies → Type 0
 IsPlace bytes c = ((c.left ≡ 0) × ((c.code ≡ 0) ⊎ HasCode bytes c.code)) ⊎ ((0 < c.left) × HasType bytes c.types × HasCode bytes c.code)
 
 -- Data is left in the code section, which is this error.
@@ -116,7 +116,7 @@ abbrev pub RefusesPart : Error → List ℕ → ℕ → Type 0
 RefusesPart e bytes n = (there : Reader) × InSection bytes 10 n there × IsRefusedAs (EncodesReader there.features) ReaderFault e there
 
 -- Why no body is read. At the end, no body and no data of the code section is left.
-abbrev pub StopsBodies : NoBody → List ℕ → WasmBodies → Type 0
+abbrev pub StopsBodies : NoBody → List ℕ → Bodies → Type 0
 StopsBodies no_body.End bytes c = (c.left ≡ 0) × ((c.code ≡ 0) ⊎ ((there : Reader) × InSection bytes 10 c.code there × (rest there ≡ [])))
 StopsBodies (no_body.Refused e) bytes c =
     ((c.left ≡ 0) × (c.code ≢ 0) × LeavesData e bytes c.code) ⊎ ((0 < c.left) × HasType bytes c.types × RefusesPart e bytes c.code)
@@ -133,7 +133,7 @@ StartsItems bytes id count first =
     (contents : Reader) × IsSection (module_of bytes) id (Some contents) × HasRead (EncodesUnsigned 32) count contents first
 
 -- The C struct is the place after these bodies, the first of the module, and as many type indices.
-pub record IsAfter (bytes : List ℕ) (functions : ModuleFunctions) (bodies : List Reader) (types : List ℕ) (c : WasmBodies) : Type 0 where
+pub record IsAfter (bytes : List ℕ) (functions : ModuleFunctions) (bodies : List Reader) (types : List ℕ) (c : Bodies) : Type 0 where
   pub described : DescribesFunctions (module_of bytes) functions
   pub imported : c.imported ≡ index_of functions 0
   pub first_body : Reader
@@ -150,7 +150,7 @@ pub record IsAfter (bytes : List ℕ) (functions : ModuleFunctions) (bodies : Li
   pub read : c.read ≡ min (length bodies) (2 ^ 32 - 1)
 
 -- The body is this part of the module. Its function is the defined function with this ordinal.
-pub record IsBodyOf (functions : ModuleFunctions) (ordinal : ℕ) (part : Reader) (body : WasmBody) : Type 0 where
+pub record IsBodyOf (functions : ModuleFunctions) (ordinal : ℕ) (part : Reader) (body : Body) : Type 0 where
   pub offset : body.offset ≡ offset_of part
   pub length : body.length ≡ length (rest part)
   pub index : body.index ≡ index_of functions ordinal

@@ -10,7 +10,7 @@ use wasm_below::WasmFeatures;
 /// The place between two bodies of a module, as a C struct of 32 bytes without padding.
 #[repr(C)]
 #[derive(Clone, Copy, Debug, PartialEq, Eq)]
-pub struct WasmBodies {
+pub struct Bodies {
     /// The number of bytes of the code section's contents that were read.
     pub code: u64,
     /// The number of bytes of the function section's contents that were read.
@@ -26,7 +26,7 @@ pub struct WasmBodies {
 }
 
 /// Returns the place before the first body of a module. Fails with any fault except `NoFunction`.
-pub fn open_bodies(alloc: Global, bytes: &[u8]) -> Result<WasmBodies, BodiesFault>
+pub fn open_bodies(alloc: Global, bytes: &[u8]) -> Result<Bodies, BodiesFault>
     ensures opens { IfOk result (λ bodies. OpensBodies bytes.now bodies) }
     ensures fault { IfErr result (λ fault. FailsBodies fault bytes.now) }
 {
@@ -52,7 +52,7 @@ pub fn open_bodies(alloc: Global, bytes: &[u8]) -> Result<WasmBodies, BodiesFaul
     if bodies_count != functions_count {
         return Err(BodiesFault::Counts);
     }
-    Ok(WasmBodies {
+    Ok(Bodies {
         code,
         types,
         imported: functions.index(0),

@@ -37,7 +37,7 @@ mod sections;
 mod skip;
 mod types;
 
-pub use bodies::{WasmBodies, open_bodies};
+pub use bodies::{Bodies, open_bodies};
 pub use body_fault::{BodiesFault, NoBody};
 pub use body_name::function_name;
 pub use composite::{CompositeType, read_rec_type_len};
@@ -48,7 +48,7 @@ pub use function_names::FunctionName;
 pub use functions::{Functions, module_name};
 pub use import::Import;
 pub use name::{Name, NameAssociation};
-pub use next::{WasmBody, next_body};
+pub use next::{Body, next_body};
 pub use preamble::{Preamble, PreambleKind, read_preamble};
 pub use section::{Section, read_section};
 pub use sections::{find_section, open_sections};

@@ -1,7 +1,7 @@
 ghost use Rattle.std.specs.Prelude.{◌≡◌, IfOk, IfErr, IfSome, IfNone};
 ghost use Rattle.wasm_module.specs.Bodies.{TakesType, HasType, TakesBody, StopsBodies};
 
-use crate::bodies::WasmBodies;
+use crate::bodies::Bodies;
 use crate::body_fault::NoBody;
 use crate::body_sections::{CODE, FUNCTIONS, place_in};
 use crate::function_laws::sections;
@@ -10,7 +10,7 @@ use wasm_below::{Error, Message};
 /// A body of a module, as a C struct of 24 bytes without padding.
 #[repr(C)]
 #[derive(Clone, Copy, Debug, PartialEq, Eq)]
-pub struct WasmBody {
+pub struct Body {
     /// The offset of the first byte in the module.
     pub offset: u64,
     /// The number of bytes.
@@ -23,7 +23,7 @@ pub struct WasmBody {
 
 /// Returns the next type index, and the offset after it in the function section's contents; `None`
 /// if there is no type index.
-fn read_type(bytes: &[u8], bodies: &WasmBodies) -> Option<(u32, u64)>
+fn read_type(bytes: &[u8], bodies: &Bodies) -> Option<(u32, u64)>
     ensures some { IfSome result (λ found. TakesType bytes.now bodies.now.types found.1 found.0) }
     ensures none { IfNone result (HasType bytes.now bodies.now.types → ⊥) }
 {
@@ -39,7 +39,7 @@ fn read_type(bytes: &[u8], bodies: &WasmBodies) -> Option<(u32, u64)>
 }
 
 /// Returns why there is no body after all are read.
-fn end_of_bodies(bytes: &[u8], bodies: &WasmBodies) -> NoBody
+fn end_of_bodies(bytes: &[u8], bodies: &Bodies) -> NoBody
     requires { bodies.now.left ≡ 0 }
     ensures { StopsBodies result bytes.now bodies.now }
 {
@@ -59,7 +59,7 @@ fn end_of_bodies(bytes: &[u8], bodies: &WasmBodies) -> NoBody
 }
 
 /// Reads the next body of a module. `bodies` is then the place after it, or unchanged on failure.
-pub fn next_body(bytes: &[u8], bodies: &mut WasmBodies) -> Result<WasmBody, NoBody>
+pub fn next_body(bytes: &[u8], bodies: &mut Bodies) -> Result<Body, NoBody>
     ensures takes { IfOk result (λ body. TakesBody bytes.now bodies.old bodies.new body) }
     ensures stops { IfErr result (λ reason. StopsBodies reason bytes.now bodies.old) }
     ensures unchanged { IfErr result (λ reason. bodies.new ≡ bodies.old) }
@@ -75,13 +75,13 @@ pub fn next_body(bytes: &[u8], bodies: &mut WasmBodies) -> Result<WasmBody, NoBo
     };
     match place.read_reader() {
         Ok(part) => {
-            let body = WasmBody {
+            let body = Body {
                 offset: part.original_position(),
                 length: part.bytes_remaining() as u64,
                 index: bodies.imported.saturating_add(bodies.read),
                 type_index,
             };
-            *bodies = WasmBodies {
+            *bodies = Bodies {
                 code: (place.current_position() - start) as u64,
                 types,
                 imported: bodies.imported,
