@@ -50,7 +50,7 @@ MADE_OF = """
 OUTSIDE = """
 ## Must-fail edits outside the gate
 
-`tools/run edits --more` tries the edits in `crates/*/more-must-fail.edits`. The prover rejected all of them at these commits:
+`tools/run edits --more` tries the edits in `crates/*/more-must-fail.edits`. The prover rejected these numbers of them at these commits. The gate had tried the edits that moved here since:
 
 | Crate | Edits | Commit | Date |
 |---|---|---|---|
