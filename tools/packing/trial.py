@@ -110,7 +110,7 @@ def try_callers(prefix, folder, env):
     here = shutil.copytree(prefix / installed.DOC, folder / "callers")
     env = {**env, "prefix": str(prefix), "PKG_CONFIG_PATH": str(prefix / "lib/pkgconfig")}
     page = (here / "CALLERS.md").read_text(encoding="utf-8")
-    for command, shown in re.findall(r"^```sh\n(.*?)^```\n(?:\nprints\n\n((?:    .*\n)+))?", page, re.M | re.S):
+    for command, shown in re.findall(r"^```sh\n(.*?)^```\n(?:\nprints\n\n((?:    [^\n]*\n)+))?", page, re.M | re.S):
         if "cargo " not in command or shutil.which("cargo", path=env["PATH"]):
             ran(["bash", "-euc", command], here, env, textwrap.dedent(shown) or None)
 

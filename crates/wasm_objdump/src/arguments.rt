@@ -119,7 +119,7 @@ fn same_start(one: &str, other: &str) -> usize {
         if byte != wanted {
             return count;
         }
-        count += 1;
+        count = count.saturating_add(1);
     }
     count
 }
