@@ -22,7 +22,7 @@ extern "C" {
 /* The number of this header's structs and calls. wasm_operators_version() returns the library's. */
 #define WASM_OPERATORS_VERSION 4u
 
-/* The release, by semantic versioning. Its operators are those of wasmparser 0.263.0. */
+/* The release, by semantic versioning. It follows wasmparser 0.263.0. */
 #define WASM_OPERATORS_RELEASE "0.1.0"
 
 /* The lengths in bytes of the longest names that wasm_operator_name and wasm_operator_text_name write. */

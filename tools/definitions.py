@@ -2,8 +2,8 @@
 """Checks that words describe each definition that public contracts name, or prints what definitions say.
 
     tools/definitions.py             checks
-    tools/definitions.py NAME..      prints the words for these definitions, with their files; for a NAME such as
-                                     wasm_check or wasm_check/Typed, those of a crate or of a file in its specs/
+    tools/definitions.py NAME..      prints the words for these definitions, with their files. A NAME such as
+                                     wasm_check or wasm_check/Typed means all of a crate or of a file in its specs/
 
 A definition is described by the comment above it, and the section that this comment or the head of the file names. The
 check also wants words for those that the comments refer to.

@@ -75,7 +75,7 @@ def ended(program, words, given=b"", folder=None):
 
 
 def stored(program, path):
-    """Compares one module with the files beside it. Returns what is wrong, and the number of runs."""
+    """Compares one module with the files of its name. Returns what is wrong, and the number of runs."""
     wrong, text, sections = [], path.with_suffix(".txt").read_bytes(), path.with_suffix(".sections.txt").read_bytes()
     for words, wanted, what in (([], text, "what"), (["-h"], sections, "the sections that")):
         if ended(program, [*words, path.name], folder=path.parent) != (0, wanted, b""):

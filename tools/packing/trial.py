@@ -163,7 +163,7 @@ def unpacked(archive, folder, env):
 
 
 def run(out, archive=None):
-    """Uses the files of `out`, installed, or those of a release."""
+    """Installs `out` and uses its files, or unpacks a release and uses its files."""
     with tempfile.TemporaryDirectory(prefix="dist-try-") as made:
         folder = Path(made)
         env = {name: value for name, value in os.environ.items() if name in ("HOME", "RUSTUP_HOME", "CARGO_HOME", "LANG")}
