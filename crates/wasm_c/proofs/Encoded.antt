@@ -1,14 +1,13 @@
 -- The bytes of a C struct, read again.
 use Rattle.std.specs.Prelude.{IsTrue, ◌↔◌}
-use Rattle.std.proofs.Common.{arith, ◌+◌, ◌≤◌, ◌^◌, ◌≡◌, ◌≢◌, ℕ, ◌<◌, ◌⊎◌, Bool, true, false, inl, inr, List, [], ◌∷◌, ◌++◌, drop, Option, Some, None, Result, Ok, Err, refl, sym, ap, subst, ◌∙◌, append-nil}
+use Rattle.std.proofs.Common.{arith, ◌+◌, ◌≡◌, ◌≢◌, ℕ, ◌<◌, ◌⊎◌, Bool, true, false, inl, inr, List, [], ◌++◌, Some, Result, Ok, Err, refl, sym, ap, subst, ◌∙◌, append-nil}
 use Rattle.wasm_operators.specs.below.declared.error.Error.{Error}
 use Rattle.wasm_operators.specs.below.declared.features.WasmFeatures.{WasmFeatures}
 use Rattle.wasm_operators.specs.below.declared.message.Message.{Message}
 use Rattle.wasm_operators.specs.below.declared.message.Message.TheVariants as message
 use Rattle.wasm_operators.specs.below.Features.{features_of}
-use Rattle.wasm_operators.specs.below.Source.{Reader, rest, reader_of, Refuses, MayFollow, NoPrefix}
+use Rattle.wasm_operators.specs.below.Source.{Reader, rest, reader_of, MayFollow}
 use Rattle.wasm_operators.specs.grammar.declared.frame_kind.FrameKind.{FrameKind}
-use Rattle.wasm_operators.specs.grammar.declared.frame_kind.FrameKind.TheVariants as frame
 use Rattle.wasm_operators.specs.grammar.Frames.{Allows}
 use Rattle.wasm_operators.specs.instr.declared.operator.Operator.{Operator}
 use Rattle.wasm_operators.specs.instr.declared.operator.Operator.TheVariants as operator
@@ -16,10 +15,8 @@ use Rattle.wasm_operators.specs.instr.Encoding.{EncodesOperator}
 use Rattle.wasm_operators.specs.instr.Kinds.{HoldsList}
 use Rattle.wasm_operators.specs.instr.Roles.{role_of}
 use Rattle.wasm_operators.specs.instr.Row.{immediates_of}
-use Rattle.wasm_operators.specs.opcodes.Allowed.{EncodesAllowed}
 use Rattle.wasm_operators.specs.Single.{PeeksOperator}
 use Rattle.wasm_instr.proofs.OperatorPrefixCode.{operator_prefix_code}
-use Rattle.wasm_encode_numbers.specs.Appended.{Appends}
 use Rattle.wasm_encode_immediates.specs.Reasons.{HoldList}
 use Rattle.wasm_encode_immediates.specs.declared.unwritable.Unwritable.{Unwritable}
 use Rattle.wasm_encode_immediates.specs.declared.unwritable.Unwritable.TheVariants as why

@@ -51,7 +51,7 @@ mod viewer;
 use crate::body::read_body;
 use crate::encoding::write_view_of;
 use crate::features::known_features;
-use crate::lists::{catches_at, handles_at, targets_at, types_at};
+use crate::lists::list_at;
 use crate::operator_text::{write_name_at, write_text_at};
 pub use crate::reader::WasmReader;
 pub use crate::refusal::WasmRefusal;
@@ -59,7 +59,7 @@ pub use crate::value::WasmValue;
 use std::alloc::Global;
 pub use wasm_module::{Bodies as WasmBodies, Body as WasmBody};
 use wasm_view::laws::names;
-use wasm_view::name_at;
+use wasm_view::{Catches, Handles, Targets, Types, name_at};
 pub use wasm_view::{WasmHandler, WasmOperator, WasmType};
 
 /// The version of the structs and calls, also in `wasm_operators.h`.
@@ -285,12 +285,11 @@ pub fn wasm_br_table_targets(
     ensures outcome { result ≡ refusal.new.number }
     ensures list { ReturnsList targets_of refusal.new bytes.now offset features at index count.old count.new out.old out.new }
 {
-    *refusal = targets_at(alloc, bytes, offset, features, at, index, out, count);
+    *refusal = list_at::<Targets>(alloc, bytes, offset, features, at, index, out, count);
     refusal.number
 }
 
-/// Writes the types of the typed `select` at the offset `at`: those from index `index` on that fit.
-/// Sets `count` to the number of all.
+/// Writes the types of a typed `select`, like `wasm_br_table_targets`.
 pub fn wasm_select_types(
     alloc: Global,
     bytes: &[u8],
@@ -305,12 +304,11 @@ pub fn wasm_select_types(
     ensures outcome { result ≡ refusal.new.number }
     ensures list { ReturnsList types_of refusal.new bytes.now offset features at index count.old count.new out.old out.new }
 {
-    *refusal = types_at(alloc, bytes, offset, features, at, index, out, count);
+    *refusal = list_at::<Types>(alloc, bytes, offset, features, at, index, out, count);
     refusal.number
 }
 
-/// Writes the clauses of the `try_table` at the offset `at`: those from index `index` on that fit.
-/// Sets `count` to the number of all.
+/// Writes the clauses of a `try_table`, like `wasm_br_table_targets`.
 pub fn wasm_try_table_catches(
     alloc: Global,
     bytes: &[u8],
@@ -325,12 +323,12 @@ pub fn wasm_try_table_catches(
     ensures outcome { result ≡ refusal.new.number }
     ensures list { ReturnsList catches_of refusal.new bytes.now offset features at index count.old count.new out.old out.new }
 {
-    *refusal = catches_at(alloc, bytes, offset, features, at, index, out, count);
+    *refusal = list_at::<Catches>(alloc, bytes, offset, features, at, index, out, count);
     refusal.number
 }
 
-/// Writes the clauses of the `resume`, `resume_throw` or `resume_throw_ref` at the offset `at`:
-/// those from index `index` on that fit. Sets `count` to the number of all.
+/// Writes the clauses of a `resume`, `resume_throw` or `resume_throw_ref`, like
+/// `wasm_br_table_targets`.
 pub fn wasm_resume_handlers(
     alloc: Global,
     bytes: &[u8],
@@ -345,7 +343,7 @@ pub fn wasm_resume_handlers(
     ensures outcome { result ≡ refusal.new.number }
     ensures list { ReturnsList handles_of refusal.new bytes.now offset features at index count.old count.new out.old out.new }
 {
-    *refusal = handles_at(alloc, bytes, offset, features, at, index, out, count);
+    *refusal = list_at::<Handles>(alloc, bytes, offset, features, at, index, out, count);
     refusal.number
 }
 

@@ -1,6 +1,5 @@
 //! The list of the operator at an offset.
 ghost use Rattle.std.specs.Prelude.{◌≡◌, ◌<◌, ◌≤◌, ◌+◌, ◌^◌, length, IfSome, IfNone, Ok, Err};
-ghost use Rattle.wasm_view.specs.Lists.{targets_of, types_of, catches_of, handles_of};
 ghost use Rattle.wasm_c.specs.Members.{reader_from, ReadsAt, ReturnsList};
 ghost use Rattle.wasm_c.specs.Reads.{IsWithin};
 ghost use Rattle.wasm_c.specs.Refused.{no_refusal, misuse};
@@ -10,7 +9,7 @@ use crate::in_frame::InFrame;
 use crate::refusal::{NO_LIST, WasmRefusal};
 use std::alloc::Global;
 use wasm_operators::{BinaryReader, FrameKind, Operator, ReadOperators};
-use wasm_view::{WasmHandler, WasmType, catches_of, handles_of, targets_of, types_of};
+use wasm_view::MemberList;
 
 /// Returns a reader of the bytes from the offset `at` on.
 pub fn reader_from<'a>(
@@ -79,75 +78,22 @@ fn store_count(found: Option<usize>, at: u64, count: &mut usize) -> WasmRefusal
     }
 }
 
-/// Writes the targets of the `br_table` at the offset `at`, from an index on.
-pub fn targets_at(
+/// Writes the members of the list that the operator at the offset `at` has, from an index on. Sets
+/// `count` to the number of all. Fails with 104 if that operator has no such list.
+pub fn list_at<L: MemberList>(
     alloc: Global,
     bytes: &[u8],
     offset: u64,
     features: u32,
     at: u64,
     index: usize,
-    out: &mut [u32],
+    out: &mut [L::Member],
     count: &mut usize,
 ) -> WasmRefusal
-    ensures { ReturnsList targets_of result bytes.now offset features at index count.old count.new out.old out.new }
+    ensures { ReturnsList L.members_of result bytes.now offset features at index count.old count.new out.old out.new }
 {
     match operator_at(alloc, bytes, offset, features, at) {
-        Ok(op) => store_count(targets_of(&op, index, out), at, count),
-        Err(refused) => refused,
-    }
-}
-
-pub fn types_at(
-    alloc: Global,
-    bytes: &[u8],
-    offset: u64,
-    features: u32,
-    at: u64,
-    index: usize,
-    out: &mut [WasmType],
-    count: &mut usize,
-) -> WasmRefusal
-    ensures { ReturnsList types_of result bytes.now offset features at index count.old count.new out.old out.new }
-{
-    match operator_at(alloc, bytes, offset, features, at) {
-        Ok(op) => store_count(types_of(&op, index, out), at, count),
-        Err(refused) => refused,
-    }
-}
-
-pub fn catches_at(
-    alloc: Global,
-    bytes: &[u8],
-    offset: u64,
-    features: u32,
-    at: u64,
-    index: usize,
-    out: &mut [WasmHandler],
-    count: &mut usize,
-) -> WasmRefusal
-    ensures { ReturnsList catches_of result bytes.now offset features at index count.old count.new out.old out.new }
-{
-    match operator_at(alloc, bytes, offset, features, at) {
-        Ok(op) => store_count(catches_of(&op, index, out), at, count),
-        Err(refused) => refused,
-    }
-}
-
-pub fn handles_at(
-    alloc: Global,
-    bytes: &[u8],
-    offset: u64,
-    features: u32,
-    at: u64,
-    index: usize,
-    out: &mut [WasmHandler],
-    count: &mut usize,
-) -> WasmRefusal
-    ensures { ReturnsList handles_of result bytes.now offset features at index count.old count.new out.old out.new }
-{
-    match operator_at(alloc, bytes, offset, features, at) {
-        Ok(op) => store_count(handles_of(&op, index, out), at, count),
+        Ok(op) => store_count(L::place_members(&op, index, out), at, count),
         Err(refused) => refused,
     }
 }

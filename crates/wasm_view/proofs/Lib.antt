@@ -2,5 +2,5 @@ pub mod ByNumber
 pub mod Immediates
 pub mod Determined
 pub mod Placed
-pub mod Targets
+pub mod PlacedTargets
 pub mod Named

@@ -13,7 +13,7 @@ mod view;
 mod views;
 
 pub use common::view_of;
-pub use lists::{catches_of, handles_of, targets_of, types_of};
+pub use lists::{Catches, Handles, MemberList, Targets, Types};
 pub use members::{WasmHandler, WasmType, catch_of, handle_of, type_of};
 pub use names::name_at;
 pub use view::WasmOperator;

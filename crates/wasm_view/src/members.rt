@@ -59,3 +59,44 @@ pub fn handle_of(handle: &Handle) -> WasmHandler
         Handle::OnSwitch { tag } => handler(1, tag, 0),
     }
 }
+
+/// A member of a list, of which there is a C struct.
+pub trait Member {
+    type Plain: Copy;
+
+    ghost plain: { Self → Self.Plain };
+
+    /// Returns the C struct.
+    fn plain(&self) -> Self::Plain
+        ensures { result ≡ plain self.now };
+}
+
+impl Member for ValType {
+    type Plain = WasmType;
+
+    ghost plain = { type_of };
+
+    fn plain(&self) -> WasmType {
+        type_of(self)
+    }
+}
+
+impl Member for Catch {
+    type Plain = WasmHandler;
+
+    ghost plain = { catch_of };
+
+    fn plain(&self) -> WasmHandler {
+        catch_of(self)
+    }
+}
+
+impl Member for Handle {
+    type Plain = WasmHandler;
+
+    ghost plain = { handle_of };
+
+    fn plain(&self) -> WasmHandler {
+        handle_of(self)
+    }
+}

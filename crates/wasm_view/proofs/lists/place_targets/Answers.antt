@@ -1,7 +1,7 @@
 use Rattle.std.proofs.Common.{refl, sym, ap, ◌∙◌, arith, ◌++◌, ◌∷◌, [], length}
 use Rattle.wasm_imm.specs.BranchTables.{numbers_of}
 use Rattle.wasm_view.proofs.Placed.{none_placed}
-use Rattle.wasm_view.proofs.Targets.{fits_below, one_fewer, one_further, none_left}
+use Rattle.wasm_view.proofs.PlacedTargets.{fits_below, one_fewer, one_further, none_left}
 use Rattle.wasm_view.proofs.lists.place_targets.Goals as goal
 use Rattle.wasm_imm.proofs.BranchTables.{numbers_are}
 use Rattle.wasm_imm.proofs.Returned.{first_returned, none_returned, never_refused}
