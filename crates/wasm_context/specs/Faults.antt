@@ -1,0 +1,148 @@
+-- What is wrong with a part of a module, if anything is.
+-- WebAssembly Core Specification 3.0: Validation, Types; Validation, Modules; Appendix, Implementation
+-- Limitations.
+use Rattle.std.specs.Prelude.{◌≡◌, ℕ, nat_lt, List, [], ◌∷◌, length, if◌then◌else◌, Option, Some, None, Result, Ok, Err, ◌⊎◌}
+use Rattle.wasm_below.specs.Reference.{Reference}
+use Rattle.wasm_below.specs.declared.types.HeapType.{HeapType}
+use Rattle.wasm_below.specs.declared.types.HeapType.TheVariants as heap_type
+use Rattle.wasm_below.specs.declared.types.ValType.{ValType}
+use Rattle.wasm_below.specs.declared.types.ValType.TheVariants as value
+use Rattle.wasm_externals.specs.declared.external.ExternalKind.{ExternalKind}
+use Rattle.wasm_externals.specs.declared.external.ExternalKind.TheVariants as kind
+use Rattle.wasm_externals.specs.declared.external.TypeRef.{TypeRef}
+use Rattle.wasm_externals.specs.declared.external.TypeRef.TheVariants as external
+use Rattle.wasm_externals.specs.declared.global_type.GlobalType.{GlobalType}
+use Rattle.wasm_externals.specs.declared.table_type.TableType.{TableType}
+use Rattle.wasm_externals.specs.declared.tag_type.TagType.{TagType}
+use Rattle.wasm_types.specs.declared.composites.CompositeInnerType.{CompositeInnerType}
+use Rattle.wasm_types.specs.declared.composites.CompositeInnerType.TheVariants as inner
+use Rattle.wasm_subtypes.specs.declared.error.TypeError.{TypeError}
+use Rattle.wasm_context.specs.declared.error.ContextError.{ContextError}
+use Rattle.wasm_context.specs.declared.error.ContextError.TheVariants as error
+use Rattle.wasm_context.specs.declared.error.Counted.{Counted}
+use Rattle.wasm_context.specs.declared.error.Counted.TheVariants as counted
+use Rattle.wasm_context.specs.Components.{Components, with_function, with_table, with_memory, with_global, with_tag, with_declared}
+use Rattle.wasm_context.specs.Environment.{expanded}
+
+abbrev pub or_else : Option ContextError → Option ContextError → Option ContextError
+or_else (Some e) other = Some e
+or_else None other = other
+
+-- Limits of wasmparser, not of the specification.
+abbrev pub most : Counted → ℕ
+most counted.Functions = 1000000
+most counted.Tables = 100
+most counted.Memories = 100
+most counted.Globals = 1000000
+most counted.Tags = 1000000
+most counted.ElementSegments = 100000
+most counted.DataSegments = 100000
+
+-- There may not be one more.
+abbrev pub limit_fault : ℕ → Counted → Option ContextError
+limit_fault n what = if nat_lt n (most what) then None else Some (error.TooMany what)
+
+abbrev pub index_fault : ℕ → ℕ → Option ContextError
+index_fault n x = if nat_lt x n then None else Some (error.UnknownType x)
+
+-- The heap type has a type index that is not below `n`.
+abbrev pub heap_fault : ℕ → HeapType → Option ContextError
+heap_fault n (heap_type.Abstract shared t) = None
+heap_fault n (heap_type.Concrete x) = index_fault n x
+heap_fault n (heap_type.Exact x) = index_fault n x
+
+abbrev pub value_fault : ℕ → ValType → Option ContextError
+value_fault n (value.Ref r) = heap_fault n r.heap_type
+value_fault n _ = None
+
+-- The composite type at an index is not the type of a function.
+abbrev pub use_fault : ℕ → Option CompositeInnerType → Option ContextError
+use_fault x None = Some (error.UnknownType x)
+use_fault x (Some (inner.Func f)) = None
+use_fault x (Some t) = Some (error.NotFunction x)
+
+-- The type of a tag has no results: an exception has none.
+abbrev pub results_fault : List ValType → Option ContextError
+results_fault [] = None
+results_fault (t ∷ ts) = Some error.TagResults
+
+abbrev pub tag_use_fault : ℕ → Option CompositeInnerType → Option ContextError
+tag_use_fault x (Some (inner.Func f)) = results_fault f.results
+tag_use_fault x t = use_fault x t
+
+-- A function of this type cannot be added.
+abbrev pub function_fault : Components → ℕ → Option ContextError
+function_fault c x = or_else (limit_fault (length c.functions) counted.Functions) (use_fault x (expanded c.types x))
+
+-- A table of this type cannot be added.
+abbrev pub table_fault : Components → TableType → Option ContextError
+table_fault c t = or_else (limit_fault (length c.tables) counted.Tables) (heap_fault (length c.types) t.element_type.heap_type)
+
+-- A memory cannot be added.
+abbrev pub memory_fault : Components → Option ContextError
+memory_fault c = limit_fault (length c.memories) counted.Memories
+
+-- A global of this type cannot be added.
+abbrev pub global_fault : Components → GlobalType → Option ContextError
+global_fault c t = or_else (limit_fault (length c.globals) counted.Globals) (value_fault (length c.types) t.content_type)
+
+-- A tag of this type cannot be added.
+abbrev pub tag_fault : Components → TagType → Option ContextError
+tag_fault c t = or_else (limit_fault (length c.tags) counted.Tags) (tag_use_fault t.func_type_idx (expanded c.types t.func_type_idx))
+
+-- An element segment of this type cannot be added.
+abbrev pub element_fault : Components → Reference → Option ContextError
+element_fault c t = or_else (limit_fault (length c.elements) counted.ElementSegments) (heap_fault (length c.types) t.heap_type)
+
+-- There may not be so many data segments.
+abbrev pub data_fault : ℕ → Option ContextError
+data_fault n = if nat_lt (most counted.DataSegments) n then Some (error.TooMany counted.DataSegments) else None
+
+-- How many there are of a kind.
+abbrev pub count_of : Components → ExternalKind → ℕ
+count_of c kind.Func = length c.functions
+count_of c kind.Table = length c.tables
+count_of c kind.Memory = length c.memories
+count_of c kind.Global = length c.globals
+count_of c kind.Tag = length c.tags
+
+-- There is nothing with this index.
+abbrev pub external_fault : Components → ExternalKind → ℕ → Option ContextError
+external_fault c k x = if nat_lt x (count_of c k) then None else Some (error.Unknown k x)
+
+-- What is imported cannot be added.
+abbrev pub import_fault : Components → TypeRef → Option ContextError
+import_fault c (external.Func x) = function_fault c x
+import_fault c (external.Table t) = table_fault c t
+import_fault c (external.Memory t) = memory_fault c
+import_fault c (external.Global t) = global_fault c t
+import_fault c (external.Tag t) = tag_fault c t
+
+-- One more component of the kind that is imported.
+abbrev pub with_import : Components → TypeRef → Components
+with_import c (external.Func x) = with_function c x
+with_import c (external.Table t) = with_table c t
+with_import c (external.Memory t) = with_memory c t
+with_import c (external.Global t) = with_global c t
+with_import c (external.Tag t) = with_tag c t
+
+-- An export declares the function that it exports.
+abbrev pub with_export : Components → ExternalKind → ℕ → Components
+with_export c kind.Func x = with_declared c x
+with_export c _ x = c
+
+-- If nothing is wrong, the components become `more`. On an error they are unchanged.
+abbrev pub Changes : Option ContextError → Components → Result Unit ContextError → Components → Components → Type 0
+Changes fault more (Ok u) old new = (fault ≡ None) × (new ≡ more)
+Changes fault more (Err e) old new = (new ≡ old) × (fault ≡ Some e)
+
+-- The same, unless allocation fails.
+abbrev pub Adds : Option ContextError → Components → Result Unit ContextError → Components → Components → Type 0
+Adds fault more (Ok u) old new = Changes fault more (Ok u) old new
+Adds fault more (Err e) old new = ((new ≡ old) × (e ≡ error.OutOfMemory)) ⊎ Changes fault more (Err e) old new
+
+-- An error of a group of types, with its cause.
+abbrev pub BlamesTypes : ContextError → (TypeError → Type 0) → Type 0
+BlamesTypes error.OutOfMemory cause = Unit {0}
+BlamesTypes (error.Type e) cause = cause e
+BlamesTypes _ cause = ⊥

@@ -1,0 +1,4 @@
+pub mod Components
+pub mod Environment
+pub mod Faults
+pub mod Validity

@@ -1,0 +1,32 @@
+use wasm_externals::ExternalKind;
+use wasm_subtypes::TypeError;
+
+/// What a module may have many of.
+#[derive(Clone, Copy, Debug, PartialEq, Eq)]
+pub enum Counted {
+    Functions,
+    Tables,
+    Memories,
+    Globals,
+    Tags,
+    ElementSegments,
+    DataSegments,
+}
+
+/// Why something cannot be added to a context.
+#[derive(Clone, Copy, Debug, PartialEq, Eq)]
+pub enum ContextError {
+    OutOfMemory,
+    /// A group of types is not valid, or too large.
+    Type(TypeError),
+    /// The module has the greatest number of these.
+    TooMany(Counted),
+    /// There is no type with this index.
+    UnknownType(u32),
+    /// The type with this index is not a function type.
+    NotFunction(u32),
+    /// The function type of a tag has results.
+    TagResults,
+    /// There is nothing of this kind with this index.
+    Unknown(ExternalKind, u32),
+}
