@@ -1,4 +1,4 @@
-ghost use Rattle.std.specs.Prelude.{◌≡◌};
+ghost use Rattle.std.specs.Prelude.{◌≡◌, length};
 ghost use Rattle.wasm_context.specs.Components.{of_types};
 ghost use Rattle.wasm_context.specs.Validity.{IsWellFormed};
 
@@ -72,6 +72,13 @@ impl Context {
             elements: Vec::new(alloc),
             data_segments: 0,
         }
+    }
+
+    /// Returns the number of functions, imported ones included.
+    pub fn function_count(&self) -> usize
+        ensures { result ≡ length self.now.functions }
+    {
+        self.functions.len()
     }
 
     /// States that each type index has a type, and that functions and tags have function
