@@ -9,8 +9,8 @@
 `--program PROGRAM` is the program that `stored` and `objdump` run, in place of those that `rt ci` or `rt run` built. Only
 `stored` needs no wabt (`apt-get install wabt`; tried with 1.0.32).
 
-`stored`: for NAME.wasm the program must write NAME.txt, which `wasm-objdump -d` of wabt wrote, and with `-h`
-NAME.sections.txt. Then it runs on each proper prefix of the module, and on the module with each byte changed. Each run
+`stored`: for NAME.wasm the program must write NAME.txt, which `wasm-objdump -d` of wabt wrote, with `-h` NAME.sections.txt
+and, if there are such files, with `-x` NAME.details.txt. Then it runs on each proper prefix of the module, and on the module with each byte changed. Each run
 must end in time, with status 0 and no message, or with status 1 and messages. On a prefix with the whole code section it
 must list all functions, on another none.
 
@@ -54,6 +54,9 @@ RUNS = 3
 FUNCTION = re.compile(rb"^[0-9a-f]{6,} func\[", re.M)
 CODE_END = re.compile(rb"^ +Code start=0x[0-9a-f]+ end=0x([0-9a-f]+)", re.M)
 
+# The options, the ends of the files with what wabt wrote, and how these are called.
+FILES = [([], ".txt", "what"), (["-h"], ".sections.txt", "the sections that"), (["-x"], ".details.txt", "the contents of sections that")]
+
 
 def spoiled(module):
     for at, byte in enumerate(module):
@@ -77,8 +80,9 @@ def ended(program, words, given=b"", folder=None):
 def stored(program, path):
     """Compares one module with the files of its name. Returns what is wrong, and the number of runs."""
     wrong, text, sections = [], path.with_suffix(".txt").read_bytes(), path.with_suffix(".sections.txt").read_bytes()
-    for words, wanted, what in (([], text, "what"), (["-h"], sections, "the sections that")):
-        if ended(program, [*words, path.name], folder=path.parent) != (0, wanted, b""):
+    files = [(words, end, what) for words, end, what in FILES if any(path.parent.glob(f"*{end}"))]
+    for words, end, what in files:
+        if ended(program, [*words, path.name], folder=path.parent) != (0, path.with_suffix(end).read_bytes(), b""):
             wrong.append(f"{path.name}: not {what} wabt wrote")
     whole, code_end, functions = path.read_bytes(), int(CODE_END.search(sections)[1], 16), len(FUNCTION.findall(text))
     for at in range(len(whole)):
@@ -90,7 +94,7 @@ def stored(program, path):
         status, _, complained = ended(program, [], module)
         if not is_answer(status, complained):
             wrong.append(f"{path.name}, {what}: status {status}, {complained!r}")
-    return [f"{program.name}, {fault}" for fault in wrong], 2 + 2 * len(whole)
+    return [f"{program.name}, {fault}" for fault in wrong], len(files) + 2 * len(whole)
 
 
 def stored_modules(given):
