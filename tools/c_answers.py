@@ -19,13 +19,14 @@ The lines of the input have cells with tabs between them:
     encode  HEX  AT  SHORTEST         a body with an operator, its offset, and its shortest encoding
 
 The README of the program says which bodies it takes. The texts are from crates/wasm_tests_bodies/stdin and
-crates/wasm_objdump/data, the encodings from crates/wasm_tests_encode/stdin. VALUES and FUNCTIONS are made by hand.
+crates/wasm_objdump/data, the encodings from crates/wasm_tests_encode/stdin. values.tsv of the program and FUNCTIONS are made by hand.
 """
 
 import re
 
 from shared.arguments import read
 from shared.crates import TOP
+from shared.tables import rows_of
 from shared.written import write_or_check
 
 ANSWERS = TOP / "crates/wasm_tests_replay/stdin"
@@ -70,48 +71,7 @@ NUMBERS = {"I32": 0x7F, "I64": 0x7E, "F32": 0x7D, "F64": 0x7C, "V128": 0x7B}
 # Added for a shared heap type, a nullable reference, and a reference that is a value type.
 SHARED, NULLABLE, REFERENCE = 256, 512, 1024
 # By the standard: kind, argument, bytes, and the numbers in C and the position after; or the error and its offset.
-VALUES = (
-    (0, 0, "ff", "255 0 0 at 1"),
-    (0, 0, "", "E1@0"),
-    (1, 0, "01020304ff", "67305985 0 0 at 4"),
-    (2, 0, "0100000000000080", "9223372036854775809 0 0 at 8"),
-    (2, 0, "01000000000000", "E1@0"),
-    (3, 0, "e58e26", "624485 0 0 at 3"),
-    (3, 0, "ffffffff1f", "E4@4"),
-    (4, 0, "ffffffffffffffffff01", "18446744073709551615 0 0 at 10"),
-    (5, 0, "c0bb78", "18446744073709428160 0 0 at 3"),
-    (5, 0, "7f", "18446744073709551615 0 0 at 1"),
-    (6, 0, "8080808070", "18446744069414584320 0 0 at 5"),
-    (7, 0, "8080808080808080807f", "9223372036854775808 0 0 at 10"),
-    (8, 2, "02", "2 0 0 at 1"),
-    (8, 1, "02", "E5@0"),
-    (9, 2, "aabbcc", "2 0 0 at 2"),
-    (9, 4, "aabbcc", "E1@0"),
-    (10, 0, "02000b", "2 0 0 at 3"),
-    (10, 0, "0300", "E1@1"),
-    (11, 0, "01027f0b", "0 0 0 at 3"),
-    (12, 0, "41050b00", "3 0 0 at 3"),
-    (13, 0, "7e", "0 126 0 at 1"),
-    (13, 0, "646c", "0 1132 0 at 2"),
-    (13, 0, "40", "E24@0"),
-    (14, 0, "630a", "0 1537 10 at 2"),
-    (14, 0, "70", "0 1648 0 at 1"),
-    (15, 0, "656e", "0 366 0 at 2"),
-    (15, 0, "05", "0 1 5 at 1"),
-    (15, 0, "6207", "0 2 7 at 2"),
-    (16, 0, "40", "0 64 0 at 1"),
-    (16, 0, "7f", "0 127 0 at 1"),
-    (16, 0, "02", "0 0 2 at 1"),
-    (17, 0, "037b", "3 123 0 at 2"),
-    (17, 4294967294, "017f", "1 127 0 at 2"),
-    (17, 4294967294, "027f", "E23@1"),
-    (18, 0, "010203", "2 1 3 at 3"),
-    (18, 0, "0305", "0 3 5 at 2"),
-    (18, 0, "04", "E22@0"),
-    (19, 0, "000203", "2 0 3 at 3"),
-    (19, 0, "0102", "2 1 0 at 2"),
-    (20, 0, "00", "E105@0"),
-)
+VALUES = CRATE / "values.tsv"
 # What the text of the first module in crates/wasm_tests_bodies/stdin says of its functions.
 FUNCTIONS = "1 102 6 1 main;2 109 4 2 other;"
 
@@ -184,7 +144,7 @@ def text_lines(text):
 
 
 def value_lines():
-    return ["\t".join(["value", *map(str, value)]) for value in VALUES]
+    return ["\t".join(["value", *row.values()]) for row in rows_of(VALUES)]
 
 
 def module_lines(folder=MODULES):

@@ -1,56 +1,18 @@
 """Writes the lists of operators of the cargo crate (bindings/rust/src)."""
 
+from pathlib import Path
+
 from arities import REACHING
 from changes import rust_change, with_role
 from immediates import TYPES
 from plain import bound, number
 from table import shared
+from shared.tables import rows_of
 from templates import filled, filled_file
 
 
 # What the fields are, by name.
-FIELDS = {
-    "argument_index": "The index of the old continuation type.",
-    "array_data_index": "The index of the data segment.",
-    "array_elem_index": "The index of the element segment.",
-    "array_size": "The number of elements.",
-    "array_type_index": "The index of the array type.",
-    "array_type_index_dst": "The index of the array type that is written.",
-    "array_type_index_src": "The index of the array type that is read.",
-    "blockty": "The type of the block.",
-    "cont_type_index": "The index of the continuation type.",
-    "data_index": "The index of the data segment.",
-    "dst_mem": "The index of the memory that is written.",
-    "dst_table": "The index of the table that is written.",
-    "elem_index": "The index of the element segment.",
-    "field_index": "The index of the field.",
-    "from_ref_type": "The type of the operand.",
-    "function_index": "The index of the function.",
-    "global_index": "The index of the global.",
-    "hty": "The heap type.",
-    "lane": "The index of the lane.",
-    "lanes": "The index of the lane of both operands for each lane of the result.",
-    "local_index": "The index of the local.",
-    "mem": "The index of the memory.",
-    "memarg": "The memory argument.",
-    "ordering": "The memory ordering.",
-    "relative_depth": "The label: how many open frames are further in.",
-    "result_index": "The index of the new continuation type.",
-    "resume_table": "The clauses for suspensions.",
-    "src_mem": "The index of the memory that is read.",
-    "src_table": "The index of the table that is read.",
-    "struct_type_index": "The index of the structure type.",
-    "table": "The index of the table.",
-    "table_index": "The index of the table.",
-    "tag_index": "The index of the tag.",
-    "targets": "The labels.",
-    "to_ref_type": "The type that is tested for.",
-    "try_table": "The type of the block and the clauses for exceptions.",
-    "ty": "The type of the operands.",
-    "tys": "The types of the operands.",
-    "type_index": "The index of the type.",
-    "value": "The constant.",
-}
+FIELDS = {row["field"]: row["what it is"] for row in rows_of(Path(__file__).with_name("fields.tsv"))}
 
 
 def variant(op):
