@@ -19,7 +19,8 @@ The lines of the input have cells with tabs between them:
     encode  HEX  AT  SHORTEST         a body with an operator, its offset, and its shortest encoding
 
 The README of the program says which bodies it takes. The texts are from crates/wasm_tests_bodies/stdin and
-crates/wasm_objdump/data, the encodings from crates/wasm_tests_encode/stdin. values.tsv of the program and FUNCTIONS are made by hand.
+crates/wasm_objdump/data, the encodings from crates/wasm_tests_encode/stdin. values.tsv of the
+program and FUNCTIONS are made by hand.
 """
 
 import re

@@ -58,9 +58,16 @@ NOTE = """\
 CALLERS = "docs/CALLERS.md"
 # What the installed CALLERS.md has in place of the commands in a clone.
 IN_PLACE = [
-    (r"Commands run in a clone's root\.", "Commands run in a copy of this folder. The variable `prefix` is the path of the folder that has `bin`, and `PKG_CONFIG_PATH` is `$prefix/lib/pkgconfig`."),
+    (
+        r"Commands run in a clone's root\.",
+        "Commands run in a copy of this folder. The variable `prefix` is the path of the folder that has `bin`, and "
+        "`PKG_CONFIG_PATH` is `$prefix/lib/pkgconfig`.",
+    ),
     (r"With the Rattle kit \(`rt doc` .*?, programs need neither clone nor kit:", "Programs need neither clone nor kit:"),
-    (r"-Iinclude -o (\w+) examples/c/(\w+\.c) bindings/rust/native/libwasm_c\.a bindings/rust/native/liblibc_c\.a -lm", r"-o \1 \2 $(pkg-config --cflags --libs wasm_operators)"),
+    (
+        r"-Iinclude -o (\w+) examples/c/(\w+\.c) bindings/rust/native/libwasm_c\.a bindings/rust/native/liblibc_c\.a -lm",
+        r"-o \1 \2 $(pkg-config --cflags --libs wasm_operators)",
+    ),
     (r"--manifest-path bindings/rust/Cargo\.toml", "--manifest-path CRATE/Cargo.toml --target-dir target"),
     (r"<< 'TEXT'\n(wasm-operators = \{ path = )\"\.\./bindings/rust\"", r'<< TEXT\n\1"CRATE"'),
     (r"path = \"\.\./bindings/rust\"", 'path = "CRATE"'),
@@ -96,7 +103,8 @@ def installed_page(page, kept):
 def for_installed(text):
     """Returns the text of CALLERS.md with commands for the installed files in place of those for a clone."""
     for pattern, new in IN_PLACE:
-        text, count = re.subn(pattern, new.replace("CRATE", f"$prefix/share/wasm-operators/wasm-operators-{release()}"), text, flags=re.S)
+        crate = f"$prefix/share/wasm-operators/wasm-operators-{release()}"
+        text, count = re.subn(pattern, new.replace("CRATE", crate), text, flags=re.S)
         assert count, f"{CALLERS} has no {pattern}"
     return text
 
