@@ -31,6 +31,8 @@ pub struct Options {
     pub features: WasmFeatures,
     /// The paths of the modules; `-` is standard input.
     pub files: Vec<String>,
+    /// Whether standard input is read because no file is named.
+    pub is_without_file: bool,
 }
 
 /// Why the arguments are wrong.
@@ -40,6 +42,8 @@ pub enum Mistake {
     Unknown(String, Option<&'static str>),
     /// An argument is empty.
     Empty,
+    /// No file is named, and standard input is a terminal.
+    NoFile,
     /// An option of `wasm-objdump` that this program does not have.
     Unsupported(String),
     /// The last option lacks its value.
@@ -61,6 +65,7 @@ impl fmt::Display for Mistake {
             Mistake::Unknown(word, Some(option)) => {
                 write!(f, "unknown option: {word}; did you mean {option}?")
             }
+            Mistake::NoFile => f.write_str("no file is named; --help prints the options"),
             Mistake::Empty => f.write_str("an argument is empty; --help prints the options"),
             Mistake::Unsupported(word) => write!(f, "not supported: {word}"),
             Mistake::NoValue(word) => write!(f, "{word} needs a value"),
@@ -311,6 +316,7 @@ fn read_short(mut options: Options, word: String) -> Result<Options, Mistake> {
 fn finished(alloc: Global, mut options: Options) -> Words {
     options.functions |= !options.headers && !options.details;
     if options.files.is_empty() {
+        options.is_without_file = true;
         let Ok(input) = String::from_str(alloc, "-") else {
             return Words::Mistake(Mistake::Memory);
         };
@@ -331,6 +337,7 @@ pub fn read_words(alloc: Global, words: Vec<String>) -> Words {
         function: Choice::All,
         features: features_of(None).unwrap_or(WasmFeatures::empty()),
         files: Vec::new(alloc),
+        is_without_file: false,
     };
     let mut next = Next::Any;
     for word in words {

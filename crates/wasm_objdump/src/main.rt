@@ -15,7 +15,7 @@ use crate::input::read_module;
 use crate::output::Watched;
 use crate::printed::{OUTSIDE, Printed, without_number};
 use std::env::Env;
-use std::io::{BufWriter, Write};
+use std::io::{BufWriter, IsTerminal, Write};
 use std::process::ExitCode;
 use std::{env, io};
 use wasm_details::list_details;
@@ -27,7 +27,7 @@ use wasm_module::Functions;
 const HELP: &str = "Usage: wasm_objdump [OPTION].. [FILE]..
 
 Lists the sections of WebAssembly modules, shows their contents and disassembles their functions.
-Reads standard input if no FILE is given, and for a FILE that is `-`.
+Reads standard input for a FILE that is `-`, and if no FILE is given, unless it is a terminal.
 
   -h, --headers        list the sections
   -x, --details        show the contents of the sections
@@ -307,7 +307,13 @@ fn main(rt: HostRuntime) -> ExitCode {
     ExitCode::from(match &words {
         Words::Help => print_text(&rt, HELP),
         Words::Version => print_text(&rt, VERSION),
-        Words::Options(options) => dump(&rt, options),
+        Words::Options(options) => {
+            if options.is_without_file && rt.stdin().is_terminal() {
+                complain_words(&rt, &Mistake::NoFile)
+            } else {
+                dump(&rt, options)
+            }
+        }
         Words::Mistake(mistake) => complain_words(&rt, mistake),
     })
 }
