@@ -1,4 +1,7 @@
 mod Appended
 mod Fits
-mod SameTypes
+mod LocalTypes
 pub mod Operators
+mod Puts
+mod SameTypes
+mod Sections
