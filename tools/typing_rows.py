@@ -7,20 +7,22 @@
 
 A row has cells, separated by tabs: the name of the case, then what the module says, by index: types, type indices of
 functions, globals, tables, memories, type indices of tags, types of element segments, the number of data segments, and for
-each function 1 if it is declared as a reference, else 0; then the locals and the results of the function, its expression in
-hexadecimal, and the verdict.
+each function 1 if it is declared as a reference, else 0; then the type index of the function, its body in hexadecimal, and
+the verdict. Or the type of a value, and a constant expression.
 
 A function type has `>` between parameters and results. A structure is `struct` and its fields, an array is `array` and its
-elements. What is mutable has `mut:` before it, a local that is not set at the start `unset:`. A reference type is `?` (nullable) or `!` and its heap type, which is a name
+elements. What is mutable has `mut:` before it. A reference type is `?` (nullable) or `!` and its heap type, which is a name
 or an index after `#`.
 
 A valid case has a row for each function body. An invalid one has a row for the body in which wasmparser reports the error.
-There is no row for a module with groups of types, subtypes, or two equal types.
+There is no row for a module with groups of types, subtypes, or two equal types. The last rows are not from
+cases: they are about declarations of locals, and about constant expressions.
 """
 
 import re
 
 import typing_cases
+from shared import leb128
 from shared.arguments import read
 
 ROWS = typing_cases.TOP / "crates" / "wasm_tests_check" / "stdin"
@@ -31,7 +33,42 @@ HEAPS = {
 }
 # The reader rejects these before a type is checked.
 GRAMMAR = {("else", "without if")}
+REF_FUNC = 0xD2
 PACKED = {0x78: "i8", 0x77: "i16"}
+# Declarations of locals: a label, the type of the function, the number of locals and their type for each declaration, and the
+# verdict. A function has at most 50,000 parameters and locals: WebAssembly JavaScript Interface, Implementation-defined Limits.
+LOCALS = [
+    ("none", ">", [], "valid"),
+    ("as many as allowed", ">", [(50000, "7f")], "valid"),
+    ("one more", ">", [(50001, "7f")], "invalid"),
+    ("as many as allowed, after parameters", "i32 i64>", [(49998, "7b")], "valid"),
+    ("one more, after parameters", "i32 i64>", [(49999, "7b")], "invalid"),
+    ("as many as allowed, in declarations", ">", [(40000, "7f"), (0, "7e"), (10000, "7f")], "valid"),
+    ("one more, in declarations", ">", [(40000, "7f"), (10000, "7e"), (1, "7f")], "invalid"),
+    ("of a type of the module", ">", [(2, "6300"), (1, "6400")], "valid"),
+    ("of a type that the module does not have", ">", [(1, "7f"), (1, "6301")], "invalid"),
+]
+# Constant expressions: a label, the types and the globals of the module, the type of the value, the expression without its end,
+# and the verdict. WebAssembly Core Specification 3.0: Validation, Constant Expressions.
+CONSTANTS = [
+    ("i64.add", "", "", "i64", "420142017c", "valid"),
+    ("f64.const", "", "", "f64", "440000000000000000", "valid"),
+    ("ref.null", "", "", "?func", "d070", "valid"),
+    ("ref.i31", "", "", "!i31", "4100fb1c", "valid"),
+    ("extern.convert_any", "", "", "?extern", "d06efb1b", "valid"),
+    ("struct.new_default", "struct i32", "", "!#0", "fb0100", "valid"),
+    ("array.new", "array i32", "", "!#0", "41014102fb0600", "valid"),
+    ("array.new_default", "array i32", "", "!#0", "4102fb0700", "valid"),
+    ("global.get", "", "i64 i32", "i32", "2301", "valid"),
+    ("global.get of a mutable global", "", "mut:i32", "i32", "2300", "invalid"),
+    ("global.get of another type", "", "i64", "i32", "2300", "invalid"),
+    ("nop", "", "", "i32", "014100", "invalid"),
+    ("block", "", "", "i32", "027f41000b", "invalid"),
+    ("call", ">i32", "", "i32", "1000", "invalid"),
+    ("i32.and", "", "", "i32", "4100410071", "invalid"),
+    ("two values", "", "", "i32", "41004100", "invalid"),
+    ("no value", "", "", "i32", "", "invalid"),
+]
 VERDICTS = {"valid": "valid", "invalid": "invalid", "unsupported": "invalid"}
 
 
@@ -154,7 +191,10 @@ class Bytes:
 
 
 class Module:
-    def __init__(self, data):
+    """What the sections of a module say. If `constant`, its global section has one global, whose expression is kept."""
+
+    def __init__(self, data, constant=False):
+        self.constant, self.expression = constant, None
         self.types, self.functions, self.globals, self.tables, self.memories = [], [], [], [], []
         self.elements, self.data_count, self.declared, self.bodies, self.imported = [], 0, set(), [], 0
         self.tags = []
@@ -218,6 +258,15 @@ class Module:
         self.memories += it.many(it.limits)
 
     def section_6(self, it):
+        if self.constant:
+            it.skip(1)
+            ty = it.value()
+            it.skip(1)
+            self.expression = ty, it.data[it.at : it.end]
+            if it.data[it.at] == REF_FUNC:
+                self.declared |= set(it.constant())
+            return
+
         def one():
             self.globals.append(self.a_global(it))
             self.declared |= set(it.constant())
@@ -261,10 +310,7 @@ class Module:
         def one():
             size = it.number()
             end = it.at + size
-            runs = it.many(lambda: (it.number(), it.value()))
-            if sum(count for count, _ in runs) > 200:
-                raise NoRow("many locals")
-            self.bodies.append((it.at, end, [ty for count, ty in runs for _ in range(count)]))
+            self.bodies.append((it.at, end))
             it.at = end
 
         it.many(one)
@@ -279,31 +325,47 @@ class Module:
         self.tags += it.many(it.tag)
 
     def row(self, name, number, data, verdict):
-        start, end, local_types = self.bodies[number]
-        local_types = [f"unset:{ty}" if ty.startswith("!") else ty for ty in local_types]
-        params, results = self.types[self.functions[self.imported + number]].split(">")
+        start, end = self.bodies[number]
+        return self.cells(name, str(self.functions[self.imported + number]), data[start:end], verdict)
+
+    def cells(self, name, ty, code, verdict):
         declared = ["1" if index in self.declared else "0" for index in range(len(self.functions))]
         lists = [self.globals, self.tables, self.memories, map(str, self.tags), self.elements]
         cells = [name, ";".join(self.types), " ".join(map(str, self.functions)), *map(" ".join, lists), str(self.data_count)]
-        cells += [" ".join(declared), " ".join([*params.split(), *local_types]), results]
-        return "\t".join([*cells, data[start:end].hex(), VERDICTS[verdict]])
+        return "\t".join([*cells, " ".join(declared), ty, code.hex(), VERDICTS[verdict]])
 
 
 def rows_of(case):
     if (case.name, case.label) in GRAMMAR:
         raise NoRow("not in the grammar")
-    module = Module(case.module)
     name = f"{case.name}, {case.label}"
+    if case.name == "const":
+        module = Module(case.module, constant=True)
+        if module.expression is None:
+            raise NoRow("no global")
+        return [module.cells(name, *module.expression, case.verdict)]
+    module = Module(case.module)
     if case.is_valid:
         numbers = range(len(module.bodies))
     elif case.offset == "":
         raise NoRow("no offset")
     else:
         offset = int(case.offset, 16)
-        numbers = [number for number, (start, end, _) in enumerate(module.bodies) if start <= offset <= end]
+        numbers = [number for number, (start, end) in enumerate(module.bodies) if start <= offset <= end]
     if not numbers:
         raise NoRow("nothing in a function body decides the verdict")
     return [module.row(name, number, case.module, case.verdict) for number in numbers]
+
+
+def row_of_locals(label, ty, declarations, verdict):
+    runs = [leb128.unsigned(count).hex() + of for count, of in declarations]
+    body = leb128.unsigned(len(runs)).hex() + "".join(runs) + "0b"
+    return "\t".join([f"locals, {label}", ty, "0", "", "", "", "", "", "0", "0", "0", body, verdict])
+
+
+def row_of_constant(label, types, of_globals, ty, code, verdict):
+    functions = "0" if ">" in types else ""
+    return "\t".join([f"constant, {label}", types, functions, of_globals, "", "", "", "", "0", functions, ty, f"{code}0b", verdict])
 
 
 def all_rows():
@@ -316,7 +378,7 @@ def all_rows():
             left.append(f"{case.name}, {case.label}: {reason}")
         except IndexError:
             left.append(f"{case.name}, {case.label}: malformed")
-    return rows, left
+    return rows + [row_of_locals(*case) for case in LOCALS] + [row_of_constant(*case) for case in CONSTANTS], left
 
 
 def main():

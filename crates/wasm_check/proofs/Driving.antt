@@ -1,17 +1,17 @@
 -- The loop of the checker.
-use Rattle.std.proofs.Common.{◌≡◌, ◌≢◌, ◌↔◌, ℕ, ◌+◌, ◌<◌, Bool, true, false, List, [], ◌++◌, length, Some, inl, inr, Ok, Err, refl, sym, ap, subst, ◌∙◌, length-append, arith}
-use Rattle.std.specs.Prelude.{Result, IfOk, OnOk, IsTrue}
+use Rattle.std.proofs.Common.{◌≡◌, ◌↔◌, ◌<◌, Bool, true, false, List, [], ◌∷◌, length, Some, inl, inr, Ok, Err, refl, sym, ap, subst, ◌∙◌, length-append, arith}
+use Rattle.std.specs.Prelude.{Result, IfOk, OnOk, IfErr, IsTrue}
 use Rattle.std.specs.Result.{is_err}
 use Rattle.wasm_below.specs.declared.error.Error.{Error}
 use Rattle.wasm_below.specs.declared.message.Message.TheVariants as message
-use Rattle.wasm_below.specs.Source.{Reader, rest, offset_of, source_of}
+use Rattle.wasm_below.specs.Source.{Source, Reader, rest, source_of}
 use Rattle.wasm_instr.specs.declared.operator.Operator.{Operator}
 use Rattle.wasm_instr.specs.declared.operator.Operator.TheVariants as operator
 use Rattle.wasm_instr.specs.Roles.{role_of, roles_of}
 use Rattle.wasm_operators.specs.opcodes.Allowed.{EncodesAllowed}
 use Rattle.wasm_operators.specs.Expression.{Placed, operators}
 use Rattle.wasm_operators.specs.Laws.{LaysOutBoth, TakesBytes}
-use Rattle.wasm_operators.specs.Next.{all_operators, collecting}
+use Rattle.wasm_operators.specs.Next.{collecting}
 use Rattle.wasm_operators.specs.MainTheorem.{ReadsBeginning}
 use Rattle.wasm_operators.specs.Reading.{State, TakesOperator, IsUnchanged, FramesLeft, StopsRead, StopsRun}
 use Rattle.wasm_typing.specs.Types.{Stack}
@@ -20,7 +20,8 @@ use Rattle.wasm_typing.specs.Steps.{Frame, step, steps, started}
 use Rattle.wasm_check_control.specs.State.{Answers, outermost}
 use Rattle.wasm_check.specs.declared.error.CheckError.{CheckError}
 use Rattle.wasm_check.specs.declared.error.CheckError.TheVariants as check
-use Rattle.wasm_check.specs.Typed.{Explains, IsSaidOf, IsUndecoded, StepsOne}
+use Rattle.wasm_check.specs.Constants.{MayOccur, IsTypedOf, ExplainsOf}
+use Rattle.wasm_check.specs.Typed.{IsTypedExpression, Explains, IsSaidOf, IsUndecoded, StepsOne}
 use Rattle.wasm_check.proofs.Along.{AcceptsTyped, GoesOn, can_be_typed, offset_along}
 
 pub ok_of : {X E : Type 0} (r : Result X E) (P : Type 0) → OnOk r P → is_err r ≡ false → P
@@ -44,13 +45,39 @@ shorter op old new progress takes =
 -- The error of the reader, as an error of the checker.
 pub memory_said : (e : Error) (said : CheckError) → IsSaidOf e said → e.message ≡ message.OutOfMemory → said ≡ check.Memory
 memory_said e (check.Untyped offset mismatch) h m = elim h [ ]
+memory_said e (check.InvalidLocal offset ty) h m = elim h [ ]
+memory_said e (check.TooManyLocals offset) h m = elim h [ ]
+memory_said e (check.NotConstant offset) h m = elim h [ ]
 memory_said e (check.Decode d) h m = absurd (h.1 m)
 memory_said e check.Memory h m = refl
 
-pub explained : (R : Rules Operator) (results : Stack) (r : Reader) (e : Error) (said : CheckError) → IsSaidOf e said → IsUndecoded R results r e → Explains R results r said
-explained R results r e (check.Untyped offset mismatch) h u = elim h [ ]
-explained R results r e (check.Decode d) h u = (subst (IsUndecoded R results r) (sym h.0) u, λ m. h.1 (ap (λ (x : Error). x.message) (sym h.0) ∙ m))
-explained R results r e check.Memory h u = tt
+pub explained : (may : Operator → Bool) (R : Rules Operator) (results : Stack) (r : Reader) (e : Error) (said : CheckError) → IsSaidOf e said → IsUndecoded R results r e → ExplainsOf may R results r said
+explained may R results r e (check.Untyped offset mismatch) h u = elim h [ ]
+explained may R results r e (check.InvalidLocal offset ty) h u = elim h [ ]
+explained may R results r e (check.TooManyLocals offset) h u = elim h [ ]
+explained may R results r e (check.NotConstant offset) h u = elim h [ ]
+explained may R results r e (check.Decode d) h u = (subst (IsUndecoded R results r) (sym h.0) u, λ m. h.1 (ap (λ (x : Error). x.message) (sym h.0) ∙ m))
+explained may R results r e check.Memory h u = tt
+
+-- If every operator may occur.
+pub all_occur : (may : Operator → Bool) → ((op : Operator) → may op ≡ true) → (ops : List Operator) → MayOccur may ops
+all_occur may all [] = tt
+all_occur may all (op ∷ ops) = (all op, all_occur may all ops)
+
+pub explained_all : (may : Operator → Bool) (R : Rules Operator) (results : Stack) (r : Reader) (result : Result (Unit {0}) CheckError) → ((op : Operator) → may op ≡ true) →
+    IfErr result (λ e. ExplainsOf may R results r e) → IfErr result (λ e. Explains R results r e)
+explained_all may R results r (Ok x) all h = h
+explained_all may R results r (Err (check.Untyped offset mismatch)) all h = h
+explained_all may R results r (Err (check.InvalidLocal offset ty)) all h = h
+explained_all may R results r (Err (check.TooManyLocals offset)) all h = h
+explained_all may R results r (Err (check.NotConstant offset)) all h = absurd (cc (sym (all h.op) ∙ h.none))
+explained_all may R results r (Err (check.Decode d)) all h = h
+explained_all may R results r (Err check.Memory) all h = h
+
+pub typed_all : (may : Operator → Bool) (R : Rules Operator) (results : Stack) (s : Source) (result : Result (Unit {0}) CheckError) →
+    OnOk result (IsTypedOf may R results s) → OnOk result (IsTypedExpression R results s)
+typed_all may R results s (Ok x) h = h.expression
+typed_all may R results s (Err e) h = h
 
 -- The reader fails after what was checked.
 pub undecoded : (R : Rules Operator) (results : Stack) (r : Reader) (fresh new : State) (placed : Placed) (control : List Frame) (e : Error) → fresh.reader ≡ r →

@@ -77,12 +77,18 @@ pub record IsUndecoded (R : Rules Operator) (results : Stack) (r : Reader) (e : 
 -- What an error says of the input.
 abbrev pub Explains : Rules Operator → Stack → Reader → CheckError → Type 0
 Explains R results r (check.Untyped offset mismatch) = IsUntypedAt R results (source_of r) offset
+Explains R results r (check.InvalidLocal offset ty) = ⊥
+Explains R results r (check.TooManyLocals offset) = ⊥
+Explains R results r (check.NotConstant offset) = ⊥
 Explains R results r (check.Decode e) = IsUndecoded R results r e × (e.message ≢ message.OutOfMemory)
 Explains R results r check.Memory = Unit {0}
 
 -- The error of the checker for this error of the reader.
 abbrev pub IsSaidOf : Error → CheckError → Type 0
 IsSaidOf e (check.Untyped offset mismatch) = ⊥
+IsSaidOf e (check.InvalidLocal offset ty) = ⊥
+IsSaidOf e (check.TooManyLocals offset) = ⊥
+IsSaidOf e (check.NotConstant offset) = ⊥
 IsSaidOf e (check.Decode d) = (d ≡ e) × (e.message ≢ message.OutOfMemory)
 IsSaidOf e check.Memory = e.message ≡ message.OutOfMemory
 

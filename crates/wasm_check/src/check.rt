@@ -1,7 +1,10 @@
-ghost use Rattle.std.specs.Prelude.{◌≡◌, OnOk, IfErr};
-ghost use Rattle.wasm_operators.specs.below.Source.{reader_of};
-ghost use Rattle.wasm_operators.specs.Expression.{Placed};
+ghost use Rattle.std.specs.Prelude.{◌≡◌, OnOk, IfErr, []};
+ghost use Rattle.wasm_operators.specs.below.Source.{reader_of, source_of};
+ghost use Rattle.wasm_operators.specs.Expression.{Placed, operators};
+ghost use Rattle.wasm_operators.specs.MainTheorem.{ReadSoFar};
+ghost use Rattle.wasm_operators.specs.Reading.{IsFresh};
 ghost use Rattle.wasm_check_operators.specs.Language.{rules_of};
+ghost use Rattle.wasm_check.specs.Constants.{may_occur, MayOccur, IsTypedOf, ExplainsOf};
 ghost use Rattle.wasm_check.specs.Typed.{IsTypedExpression, EncodesTyped, Explains, input};
 
 use crate::error::{CheckError, decoding};
@@ -29,12 +32,31 @@ pub fn check_expression<M: ModuleContext>(
         → IfErr result (λ e. e ≡ CheckError.Memory) }
     ensures error { IfErr result (λ e. Explains (rules_of (M.environment context.now)) (M.environment context.now).results (reader_of features 0 bytes.now) e) }
 {
+    let reader = OperatorsReader::new(alloc, BinaryReader::new_features(bytes, 0, features));
+    check_operators(alloc, context, false, reader)
+}
+
+/// Checks the operators of a new reader, to the end of its data. If `constant`, only operators of
+/// constant expressions may occur.
+pub(crate) fn check_operators<M: ModuleContext>(
+    alloc: Global,
+    context: &M,
+    constant: bool,
+    mut reader: OperatorsReader<'_>,
+) -> Result<(), CheckError>
+    requires { IsFresh reader × ReadSoFar [] reader }
+    ensures typed { OnOk result (IsTypedOf (may_occur constant (M.environment context.now)) (rules_of (M.environment context.now)) (M.environment context.now).results (source_of reader.entry.reader)) }
+    ensures whole { (placed : Placed) → EncodesTyped (rules_of (M.environment context.now)) (M.environment context.now).results (source_of reader.entry.reader) placed
+        → MayOccur (may_occur constant (M.environment context.now)) (operators placed) → IfErr result (λ e. e ≡ CheckError.Memory) }
+    ensures error { IfErr result (λ e. ExplainsOf (may_occur constant (M.environment context.now)) (rules_of (M.environment context.now)) (M.environment context.now).results reader.entry.reader e) }
+{
     laws::accepts_what_is_typed::<Operator<'_>>();
     laws::refuses_at_once::<Operator<'_>>();
     laws::same_frames::<Operator<'_>>();
     laws::steps_on::<Operator<'_>>();
     run_laws::single_reads();
     run_laws::read_to_the_end();
+    let features = reader.get_binary_reader().features();
     expression_laws::one_layout(features);
     expression_laws::layouts(features);
     expression_laws::whole_is_longest();
@@ -43,20 +65,29 @@ pub fn check_expression<M: ModuleContext>(
     let Ok(checker) = BodyChecker::new(alloc, context) else {
         return Err(CheckError::Memory);
     };
-    let mut visitor = TypeChecker { checker };
-    let mut reader = OperatorsReader::new(alloc, BinaryReader::new_features(bytes, 0, features));
+    let mut visitor = TypeChecker {
+        checker,
+        constant,
+        may_occur: true,
+    };
     while !reader.eof() {
         let offset = reader.original_position();
-        match reader.visit_operator_simd(&mut visitor) {
-            Ok(Ok(true)) => {}
-            Ok(Ok(false)) => {
+        let outcome = match reader.visit_operator_simd(&mut visitor) {
+            Ok(outcome) => outcome,
+            Err(error) => return Err(decoding(error)),
+        };
+        if !visitor.may_occur {
+            return Err(CheckError::NotConstant { offset });
+        }
+        match outcome {
+            Ok(true) => {}
+            Ok(false) => {
                 return Err(CheckError::Untyped {
                     offset,
                     mismatch: visitor.checker.operators.control.mismatch(),
                 });
             }
-            Ok(Err(_)) => return Err(CheckError::Memory),
-            Err(error) => return Err(decoding(error)),
+            Err(_) => return Err(CheckError::Memory),
         }
     }
     match reader.finish() {

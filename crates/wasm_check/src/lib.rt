@@ -1,11 +1,16 @@
-//! The type checker of expressions, from bytes.
+//! The type checker of function bodies, constant expressions and other expressions, from bytes.
 #![tactic(auto)]
 
+mod body;
 mod check;
+mod constant;
+mod constness;
 mod error;
 mod visitor;
 
+pub use body::{MAX_LOCALS, check_body};
 pub use check::check_expression;
+pub use constant::check_constant;
 pub use error::CheckError;
 pub use visitor::TypeChecker;
 pub use wasm_check_control::{

@@ -38,8 +38,8 @@ fn declared(ty: ValType) -> LocalType
     }
 }
 
-/// The context of a function's body: that of its module, with the function's locals and results.
-/// Specification: Validation, Functions.
+/// The context of a function's body: the context of its module, with the function's locals and
+/// results. Specification: Validation, Functions.
 #[derive(Clone, Copy)]
 pub struct BodyContext<'m, M> {
     pub module: &'m M,

@@ -1,4 +1,4 @@
-use Rattle.std.specs.Prelude.{ℕ, nat_eq, nat_lt, Bool, false, List, Option, Some, None}
+use Rattle.std.specs.Prelude.{ℕ, nat_eq, nat_lt, Bool, false, List, [], Option, Some, None}
 use Rattle.std.specs.List.{slice_get}
 use Rattle.std.specs.Option.{option_map, option_and_then}
 use Rattle.wasm_below.specs.Reference.{Reference}
@@ -56,7 +56,7 @@ environment row = record {
   structures = λ i. option_and_then structure_of (slice_get row.types.items i);
   arrays = λ i. option_and_then array_of (slice_get row.types.items i);
   functions = λ i. option_and_then (type_at row) (slice_get row.functions.items i);
-  locals = slice_get row.locals.items;
+  locals = λ i. None;
   globals = λ i. option_map global_of (slice_get row.globals.items i);
   tables = λ i. option_and_then table_of (slice_get row.tables.items i);
   memories = slice_get row.memories.items;
@@ -65,5 +65,5 @@ environment row = record {
   has_data = λ i. nat_lt i row.data_segments;
   is_declared = λ i. or_false (slice_get row.declared.items i);
   type_indices = slice_get row.functions.items;
-  results = stack_of row.results.items;
+  results = [];
 }

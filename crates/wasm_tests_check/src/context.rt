@@ -6,7 +6,7 @@ use wasm_check::{
     CompositeKind, FieldType, FuncType, GlobalType, LocalType, ModuleContext, StructType, TableType,
 };
 
-/// A module as the context of a function. No two types are equal, and none has a declared supertype.
+/// The context of a module. No two types are equal, and none has a declared supertype.
 #[derive(Clone, Copy)]
 pub struct RowContext<'m> {
     pub row: &'m Row,
@@ -67,8 +67,8 @@ impl<'m> ModuleContext for RowContext<'m> {
         }
     }
 
-    fn local_type(&self, index: u32) -> Option<LocalType> {
-        self.row.locals.get(index as usize).copied()
+    fn local_type(&self, _index: u32) -> Option<LocalType> {
+        None
     }
 
     fn global_type(&self, index: u32) -> Option<GlobalType> {
@@ -123,6 +123,6 @@ impl<'m> ModuleContext for RowContext<'m> {
     }
 
     fn results(&self) -> &[ValType] {
-        self.row.results.as_slice()
+        &[]
     }
 }

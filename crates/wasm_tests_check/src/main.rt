@@ -1,5 +1,5 @@
-//! Checks the expression of each row of its input, and prints each row with another verdict than
-//! expected.
+//! Checks the function body or constant expression of each row of its input, and prints each row with
+//! another verdict than expected.
 #![tactic(auto)]
 
 mod context;
@@ -9,8 +9,8 @@ mod types;
 use crate::context::RowContext;
 use crate::row::row_of;
 use std::io::{self, Print};
-use wasm_check::{CheckError, check_expression};
-use wasm_operators::WasmFeatures;
+use wasm_check::{CheckError, FuncType, ModuleContext, check_body, check_constant};
+use wasm_operators::{BinaryReader, WasmFeatures};
 use wasm_tests_texts::read_input;
 
 fn main(rt: HostRuntime) -> io::Result<()> {
@@ -25,14 +25,23 @@ fn main(rt: HostRuntime) -> io::Result<()> {
         let row = row_of(alloc, line)?;
         rows = rows.saturating_add(1);
         let context = RowContext { row: &row };
-        let found = match check_expression(
-            alloc,
-            &context,
-            WasmFeatures::all(),
-            row.expression.as_slice(),
-        ) {
+        let ty = context.type_at(row.ty).unwrap_or(FuncType {
+            params: &[],
+            results: &[],
+        });
+        let code = BinaryReader::new_features(row.code.as_slice(), 0, WasmFeatures::all());
+        let checked = match row.constant {
+            Some(ty) => check_constant(alloc, &context, ty, code),
+            None => check_body(alloc, &context, ty, code),
+        };
+        let found = match checked {
             Ok(()) => Verdict::Typed,
-            Err(CheckError::Untyped { .. }) => Verdict::Untyped,
+            Err(
+                CheckError::Untyped { .. }
+                | CheckError::InvalidLocal { .. }
+                | CheckError::TooManyLocals { .. }
+                | CheckError::NotConstant { .. },
+            ) => Verdict::Untyped,
             Err(CheckError::Decode(_)) => Verdict::Undecoded,
             Err(CheckError::Memory) => Verdict::NoMemory,
         };

@@ -1,7 +1,7 @@
 use crate::types::{field, storage_type, types_of, unmarked, value_type};
 use std::alloc::{AllocError, Global};
 use wasm_below::ValType;
-use wasm_check::{FieldType, GlobalType, LocalType};
+use wasm_check::{FieldType, GlobalType};
 use wasm_tests_texts::read_hex;
 
 /// A type that owns its lists.
@@ -22,7 +22,7 @@ pub struct OwnTable {
     pub table64: bool,
 }
 
-/// A module with one function body, and what a validator says of it.
+/// A module with one function body or constant expression, and what a validator says of it.
 #[derive(Drop)]
 pub struct Row {
     pub types: Vec<OwnType>,
@@ -38,9 +38,11 @@ pub struct Row {
     pub data_segments: u32,
     /// Whether each function is declared as a reference.
     pub declared: Vec<bool>,
-    pub locals: Vec<LocalType>,
-    pub results: Vec<ValType>,
-    pub expression: Vec<u8>,
+    /// The type index of the function.
+    pub ty: u32,
+    /// The type of a constant expression, if there is one in place of a function's body.
+    pub constant: Option<ValType>,
+    pub code: Vec<u8>,
     pub valid: bool,
 }
 
@@ -57,10 +59,11 @@ pub fn row_of(alloc: Global, line: &str) -> Result<Row, AllocError> {
     let elements = types_of(alloc, cells.next().unwrap_or(""))?;
     let data_segments = cells.next().unwrap_or("").parse::<u32>().unwrap_or(0);
     let declared = flags(alloc, cells.next().unwrap_or(""))?;
-    let locals = locals(alloc, cells.next().unwrap_or(""))?;
-    let results = types_of(alloc, cells.next().unwrap_or(""))?;
-    let mut expression = Vec::new(alloc);
-    read_hex(&mut expression, cells.next().unwrap_or(""))?;
+    let ty_cell = cells.next().unwrap_or("");
+    let constant = value_type(ty_cell);
+    let ty = ty_cell.parse::<u32>().unwrap_or(0);
+    let mut code = Vec::new(alloc);
+    read_hex(&mut code, cells.next().unwrap_or(""))?;
     let valid = matches!(cells.next(), Some("valid"));
     Ok(Row {
         types,
@@ -72,9 +75,9 @@ pub fn row_of(alloc: Global, line: &str) -> Result<Row, AllocError> {
         elements,
         data_segments,
         declared,
-        locals,
-        results,
-        expression,
+        ty,
+        constant,
+        code,
         valid,
     })
 }
@@ -144,24 +147,6 @@ fn globals(alloc: Global, text: &str) -> Result<Vec<GlobalType>, AllocError> {
             out.push(GlobalType {
                 content_type,
                 mutable,
-            })?;
-        }
-    }
-    Ok(out)
-}
-
-/// Reads locals. Before one that is not set at the start, there is `unset:`.
-fn locals(alloc: Global, text: &str) -> Result<Vec<LocalType>, AllocError> {
-    let mut out = Vec::new(alloc);
-    for word in text.split(' ') {
-        let (is_set, ty) = match word.strip_prefix("unset:") {
-            Some(ty) => (false, ty),
-            None => (true, word),
-        };
-        if let Some(content_type) = value_type(ty) {
-            out.push(LocalType {
-                content_type,
-                is_set,
             })?;
         }
     }
