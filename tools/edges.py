@@ -19,7 +19,7 @@ from shared.arguments import read
 from shared.crates import TOP, crates
 
 # Programs, static libraries and proved callers. Tests are known by their names.
-OUTSIDE = ("wasm_objdump", "wasm_dump", "wasm_compact", "wasm_c_exports", "wasm_bench", "uses")
+OUTSIDE = ("wasm_objdump", "wasm_validate", "wasm_dump", "wasm_compact", "wasm_c_exports", "wasm_bench", "uses")
 # The crates that list names of others for users.
 LISTS = ("wasm_operators", "wasm_encode", "wasm_check", "wasm_c")
 # The exceptions: crate, library and file of the lemmas, their names, and why.

@@ -1,18 +1,7 @@
 use std::fs::File;
-use std::io::{Read, Write};
+use std::io::Write;
 use std::path::Path;
-use std::rt::Files;
 use std::{fs, io};
-
-/// Reads a file, or standard input if the path is `-`.
-pub fn read_module<R: Files + Input + AllocGlobal>(rt: &R, path: &str) -> io::Result<Vec<u8>> {
-    if path != "-" {
-        return fs::read(rt, path);
-    }
-    let mut input = Vec::new(rt.alloc());
-    rt.reader().read_to_end(&mut input)?;
-    Ok(input)
-}
 
 /// Writes a file. The bytes go to a new file `PATH.partial`, which then gets the name of the file.
 /// So after an error the file is as it was. A device or a pipe is written directly.

@@ -6,22 +6,28 @@
 mod arguments;
 mod files;
 
-use crate::arguments::{Mistake, Options, Words, read_words};
-use crate::files::{read_module, write_module};
-use std::env::Env;
+use crate::arguments::{Options, Request, read_request};
+use crate::files::write_module;
+use std::io;
 use std::io::Write;
 use std::process::ExitCode;
-use std::{env, io};
 use wasm_compaction::{Choices, CompactionFault, compact};
 use wasm_module::CustomSection;
 use wasm_operators::BinaryReader;
+use wasm_programs::{
+    Mistake, OUTSIDE, REFUSED, complain_input, complain_mistake, complain_output, print_text,
+    read_module, shown_path, words_of,
+};
+
+/// The name of the program, in messages.
+const PROGRAM: &str = "wasm_compact";
 
 const HELP: &str = "Usage: wasm_compact [OPTION].. FILE
 
 Rewrites the code section of a WebAssembly module with numbers of the fewest bytes. Everything else
 is copied. Reads standard input if FILE is `-`, and writes to standard output without -o.
 
-  -o OUT               write to the file OUT, which may be FILE
+  -o, --output OUT     write to the file OUT, which may be FILE
       --drop-offsets   drop custom sections that may hold offsets of the code: .debug_*,
                        sourceMappingURL, external_debug_info, build_id, metadata.code.*
       --keep NAME      copy custom sections with the unknown name NAME
@@ -38,72 +44,6 @@ output is a closed pipe. After a failure, OUT is as it was.
 ";
 
 const VERSION: &str = "wasm_compact 0.1.0, follows wasmparser 0.263.0\n";
-
-/// The exit status if the module is not rewritten.
-const REFUSED: u8 = 1;
-
-/// The exit status if an argument is wrong.
-const USAGE: u8 = 2;
-
-/// The exit status if input, output or allocation fails.
-const OUTSIDE: u8 = 3;
-
-/// The exit status of a program that SIGPIPE ends, in shells.
-const CLOSED_PIPE: u8 = 141;
-
-/// Returns the arguments after the program's name.
-fn words_of<R: Env + AllocGlobal>(rt: &R) -> Result<Vec<String>, Mistake> {
-    let mut args = match env::args(rt) {
-        Ok(args) => args,
-        Err(error) => {
-            return match error.kind() {
-                io::ErrorKind::OutOfMemory => Err(Mistake::Memory),
-                _ => Err(Mistake::NotText),
-            };
-        }
-    };
-    let _program = args.next();
-    let mut words = Vec::new(rt.alloc());
-    for word in args {
-        if words.push(word).is_err() {
-            return Err(Mistake::Memory);
-        }
-    }
-    Ok(words)
-}
-
-/// Returns a path as shown in messages: `<stdin>` for `-`.
-fn shown_path(path: &str) -> &str {
-    if path == "-" { "<stdin>" } else { path }
-}
-
-/// Returns an error's text without its number.
-fn without_number(text: &str) -> &str {
-    match text.split_once(" (os error ") {
-        Some((reason, _)) => reason,
-        None => text,
-    }
-}
-
-/// Prints why input or output failed, and returns the exit status.
-fn complain_io(rt: &HostRuntime, what: &str, error: io::Error) -> u8 {
-    let _ = match error.to_string(rt.alloc()) {
-        Ok(text) => {
-            let reason = without_number(text.as_str());
-            eprintln!(rt; "wasm_compact: {what}: {reason}")
-        }
-        Err(_) => eprintln!(rt; "wasm_compact: {what}: {error}"),
-    };
-    OUTSIDE
-}
-
-/// Prints why standard output failed, unless it is a closed pipe. Returns the exit status.
-fn complain_output(rt: &HostRuntime, error: io::Error) -> u8 {
-    if error.kind() == io::ErrorKind::BrokenPipe {
-        return CLOSED_PIPE;
-    }
-    complain_io(rt, "cannot write output", error)
-}
 
 /// Prints which custom section can't be copied, and why.
 fn complain_custom(
@@ -151,7 +91,7 @@ fn rewrite(rt: &HostRuntime, options: &Options) -> u8 {
     let shown = shown_path(path);
     let bytes = match read_module(rt, path) {
         Ok(bytes) => bytes,
-        Err(error) => return complain_io(rt, shown, error),
+        Err(error) => return complain_input(rt, PROGRAM, shown, error),
     };
     let choices = Choices {
         drop_offsets: options.drop_offsets,
@@ -164,11 +104,11 @@ fn rewrite(rt: &HostRuntime, options: &Options) -> u8 {
     match &options.output {
         Some(out) => match write_module(rt, out.as_str(), module.as_slice()) {
             Ok(()) => 0,
-            Err(error) => complain_io(rt, out.as_str(), error),
+            Err(error) => complain_input(rt, PROGRAM, out.as_str(), error),
         },
         None => match print_bytes(rt, module.as_slice()) {
             Ok(()) => 0,
-            Err(error) => complain_output(rt, error),
+            Err(error) => complain_output(rt, PROGRAM, error),
         },
     }
 }
@@ -179,32 +119,17 @@ fn print_bytes(rt: &HostRuntime, bytes: &[u8]) -> io::Result<()> {
     writer.write_all(bytes)
 }
 
-/// Prints a text on standard output, and returns the exit status.
-fn print_text(rt: &HostRuntime, text: &str) -> u8 {
-    match print!(rt; "{text}") {
-        Ok(()) => 0,
-        Err(error) => complain_output(rt, error),
-    }
-}
-
-/// Prints why the arguments are wrong, and returns the exit status.
-fn complain_words(rt: &HostRuntime, mistake: &Mistake) -> u8 {
-    let _ = eprintln!(rt; "wasm_compact: {mistake}");
-    match mistake {
-        Mistake::Memory => OUTSIDE,
-        _ => USAGE,
-    }
+/// Reads the arguments.
+fn request_of(rt: &HostRuntime) -> Result<Request, Mistake> {
+    let words = words_of(rt)?;
+    read_request(rt.alloc(), words)
 }
 
 fn main(rt: HostRuntime) -> ExitCode {
-    let words = match words_of(&rt) {
-        Ok(words) => read_words(rt.alloc(), words),
-        Err(mistake) => Words::Mistake(mistake),
-    };
-    ExitCode::from(match &words {
-        Words::Help => print_text(&rt, HELP),
-        Words::Version => print_text(&rt, VERSION),
-        Words::Options(options) => rewrite(&rt, options),
-        Words::Mistake(mistake) => complain_words(&rt, mistake),
+    ExitCode::from(match &request_of(&rt) {
+        Ok(Request::Help) => print_text(&rt, PROGRAM, HELP),
+        Ok(Request::Version) => print_text(&rt, PROGRAM, VERSION),
+        Ok(Request::Options(options)) => rewrite(&rt, options),
+        Err(mistake) => complain_mistake(&rt, PROGRAM, mistake),
     })
 }

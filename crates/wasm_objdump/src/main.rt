@@ -6,23 +6,24 @@
 #![tactic(auto)]
 
 mod arguments;
-mod input;
 mod output;
 mod printed;
 
-use crate::arguments::{Choice, Mistake, Options, Words, read_words};
-use crate::input::read_module;
+use crate::arguments::{Functions as Wanted, Options, Request, read_request};
 use crate::output::Watched;
-use crate::printed::{OUTSIDE, Printed, without_number};
-use std::env::Env;
+use crate::printed::{PROGRAM, Printed};
+use std::io;
 use std::io::{BufWriter, IsTerminal, Write};
 use std::process::ExitCode;
-use std::{env, io};
 use wasm_details::list_details;
 use wasm_disassembly::{
     Fault, ModuleRequest, before_cut, find_cut, function_named, list_headers, run,
 };
 use wasm_module::Functions;
+use wasm_programs::{
+    Mistake, complain_input, complain_mistake, complain_output, print_text, read_module,
+    shown_path, words_of,
+};
 
 const HELP: &str = "Usage: wasm_objdump [OPTION].. [FILE]..
 
@@ -51,40 +52,8 @@ const VERSION: &str = "wasm_objdump 0.1.0, follows wasmparser 0.263.0\n";
 /// The capacity of the output buffer in bytes.
 const WRITTEN: usize = 0x1_0000;
 
-/// The exit status if an argument is wrong.
-const USAGE: u8 = 2;
-
-/// The exit status of a program that SIGPIPE ends, in shells.
-const CLOSED_PIPE: u8 = 141;
-
 /// Standard output, with a buffer.
 type Output<'a> = Watched<BufWriter<io::Printer<'a, HostRuntime>>>;
-
-/// Returns the arguments after the program's name.
-fn words_of<R: Env + AllocGlobal>(rt: &R) -> Result<Vec<String>, Mistake> {
-    let mut args = match env::args(rt) {
-        Ok(args) => args,
-        Err(error) => {
-            return match error.kind() {
-                io::ErrorKind::OutOfMemory => Err(Mistake::Memory),
-                _ => Err(Mistake::NotText),
-            };
-        }
-    };
-    let _program = args.next();
-    let mut words = Vec::new(rt.alloc());
-    for word in args {
-        if words.push(word).is_err() {
-            return Err(Mistake::Memory);
-        }
-    }
-    Ok(words)
-}
-
-/// Returns a path as shown in messages: `<stdin>` for `-`.
-fn shown_path(path: &str) -> &str {
-    if path == "-" { "<stdin>" } else { path }
-}
 
 /// Returns the index of the requested function, if one is requested.
 ///
@@ -96,9 +65,9 @@ fn chosen_index(
     bytes: &[u8],
 ) -> Result<Option<u32>, u8> {
     let name = match &options.function {
-        Choice::All => return Ok(None),
-        Choice::Index(index) => return Ok(Some(*index)),
-        Choice::Name(name) => name,
+        Wanted::All => return Ok(None),
+        Wanted::Index(index) => return Ok(Some(*index)),
+        Wanted::Name(name) => name,
     };
     let part = before_cut(find_cut(options.features, bytes), bytes);
     let functions = match Functions::new(rt.alloc(), options.features, part) {
@@ -237,7 +206,7 @@ fn dump_files(rt: &HostRuntime, options: &Options, writer: &mut Output<'_>) -> u
             Ok(bytes) => dump_module(rt, options, path, bytes.as_slice(), writer),
             Err(error) => {
                 let _ = writer.flush();
-                Printed::new(rt, shown_path(path)).unread(rt.alloc(), error)
+                complain_input(rt, PROGRAM, shown_path(path), error)
             }
         };
         worst = worst.max(status);
@@ -249,71 +218,35 @@ fn dump_files(rt: &HostRuntime, options: &Options, writer: &mut Output<'_>) -> u
     worst
 }
 
-/// Prints why standard output failed, unless it is a closed pipe. Returns the exit status.
-fn complain_output(rt: &HostRuntime, error: io::Error) -> u8 {
-    if error.kind() == io::ErrorKind::BrokenPipe {
-        return CLOSED_PIPE;
-    }
-    let _ = match error.to_string(rt.alloc()) {
-        Ok(text) => {
-            let reason = without_number(text.as_str());
-            eprintln!(rt; "wasm_objdump: cannot write output: {reason}")
-        }
-        Err(_) => eprintln!(rt; "wasm_objdump: cannot write output: {error}"),
-    };
-    OUTSIDE
-}
-
 /// Writes what is requested, and returns the exit status.
 fn dump(rt: &HostRuntime, options: &Options) -> u8 {
     let Ok(buffered) = BufWriter::with_capacity(rt.alloc(), WRITTEN, io::writer(rt)) else {
-        return complain_words(rt, &Mistake::Memory);
+        return complain_mistake(rt, PROGRAM, &Mistake::Memory);
     };
     let mut writer = Watched::new(buffered);
     let status = dump_files(rt, options, &mut writer);
     match writer.failure() {
-        Some(error) => complain_output(rt, error),
+        Some(error) => complain_output(rt, PROGRAM, error),
         None => status,
     }
 }
 
-/// Prints a text on standard output, and returns the exit status.
-fn print_text(rt: &HostRuntime, text: &str) -> u8 {
-    match print!(rt; "{text}") {
-        Ok(()) => 0,
-        Err(error) => complain_output(rt, error),
-    }
-}
-
-/// Prints why the arguments are wrong, and returns the exit status.
-fn complain_words(rt: &HostRuntime, mistake: &Mistake) -> u8 {
-    match mistake {
-        Mistake::Memory => {
-            let _ = eprintln!(rt; "wasm_objdump: out of memory");
-            OUTSIDE
+/// Reads the arguments. Without a file, standard input may not be a terminal.
+fn request_of(rt: &HostRuntime) -> Result<Request, Mistake> {
+    let words = words_of(rt)?;
+    match read_request(rt.alloc(), words)? {
+        Request::Options(options) if options.is_without_file && rt.stdin().is_terminal() => {
+            Err(Mistake::NoFile)
         }
-        _ => {
-            let _ = eprintln!(rt; "wasm_objdump: {mistake}");
-            USAGE
-        }
+        request => Ok(request),
     }
 }
 
 fn main(rt: HostRuntime) -> ExitCode {
-    let words = match words_of(&rt) {
-        Ok(words) => read_words(rt.alloc(), words),
-        Err(mistake) => Words::Mistake(mistake),
-    };
-    ExitCode::from(match &words {
-        Words::Help => print_text(&rt, HELP),
-        Words::Version => print_text(&rt, VERSION),
-        Words::Options(options) => {
-            if options.is_without_file && rt.stdin().is_terminal() {
-                complain_words(&rt, &Mistake::NoFile)
-            } else {
-                dump(&rt, options)
-            }
-        }
-        Words::Mistake(mistake) => complain_words(&rt, mistake),
+    ExitCode::from(match &request_of(&rt) {
+        Ok(Request::Help) => print_text(&rt, PROGRAM, HELP),
+        Ok(Request::Version) => print_text(&rt, PROGRAM, VERSION),
+        Ok(Request::Options(options)) => dump(&rt, options),
+        Err(mistake) => complain_mistake(&rt, PROGRAM, mistake),
     })
 }

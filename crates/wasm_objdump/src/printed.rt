@@ -1,13 +1,12 @@
 //! Messages on standard error, each with the names of the program and the file.
 ghost use Rattle.std.specs.Prelude.{⊤};
 
-use std::alloc::Global;
 use std::io;
 use wasm_disassembly::{Complaints, Fault};
 use wasm_operators::Error;
 
-/// The exit status if input, output or allocation fails.
-pub const OUTSIDE: u8 = 3;
+/// The name of the program, in messages.
+pub const PROGRAM: &str = "wasm_objdump";
 
 /// Prints on standard error.
 #[derive(Drop)]
@@ -37,7 +36,7 @@ impl<'a> Printed<'a> {
         };
         self.last = Some(fault);
         if !is_printed && fault != Fault::Writing {
-            let _ = eprintln!(self.rt; "wasm_objdump: {file}: {fault}");
+            let _ = eprintln!(self.rt; "{PROGRAM}: {file}: {fault}");
         }
         fault.status()
     }
@@ -45,29 +44,8 @@ impl<'a> Printed<'a> {
     /// Prints that no function has the requested name, and returns the exit status.
     pub fn no_name(&self, name: &str) -> u8 {
         let file = self.file;
-        let _ = eprintln!(self.rt; "wasm_objdump: {file}: no function is named {name}");
+        let _ = eprintln!(self.rt; "{PROGRAM}: {file}: no function is named {name}");
         1
-    }
-
-    /// Prints why the file can't be read, and returns the exit status.
-    pub fn unread(&self, alloc: Global, error: io::Error) -> u8 {
-        let file = self.file;
-        let _ = match error.to_string(alloc) {
-            Ok(text) => {
-                let reason = without_number(text.as_str());
-                eprintln!(self.rt; "wasm_objdump: {file}: {reason}")
-            }
-            Err(_) => eprintln!(self.rt; "wasm_objdump: {file}: {error}"),
-        };
-        OUTSIDE
-    }
-}
-
-/// Returns an error's text without its number.
-pub fn without_number(text: &str) -> &str {
-    match text.split_once(" (os error ") {
-        Some((reason, _)) => reason,
-        None => text,
     }
 }
 
@@ -80,7 +58,7 @@ impl<'a> Complaints for Printed<'a> {
         let offset = error.offset();
         let message = error.message();
         eprintln!(self.rt;
-            "wasm_objdump: {file}: error in function {index} at {offset:06x}: {message}"
+            "{PROGRAM}: {file}: error in function {index} at {offset:06x}: {message}"
         )
     }
 }
