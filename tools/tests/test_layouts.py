@@ -24,6 +24,13 @@ def in_rust(text):
     return f"*{'const' if is_const else 'mut'} {kind}" if star else kind
 
 
+def in_rattle(name):
+    """Returns the name of a struct in the crate that defines it, from which wasm_c may re-export it by another."""
+    exported = "".join(part.capitalize() for part in name.split("_"))
+    found = re.search(rf"\b(\w+) as {exported}\b", RATTLE)
+    return found[1] if found else exported
+
+
 def fields_of_c(name):
     body = HEADER.split(f"typedef struct {name} {{")[1].split("}")[0]
     found = re.findall(r"(\w+) (\w+)(?:\[(\d+)\])?;", body)
@@ -53,8 +60,7 @@ class Layouts(unittest.TestCase):
         for name, rust in STRUCTS.items():
             fields = fields_of_c(name)
             self.assertEqual(fields, fields_of_rust(NATIVE, rust), name)
-            rattle = "".join(part.capitalize() for part in name.split("_"))
-            self.assertEqual(fields, fields_of_rust(RATTLE, rattle), name)
+            self.assertEqual(fields, fields_of_rust(RATTLE, in_rattle(name)), name)
 
     def test_no_padding(self):
         for name in STRUCTS:
