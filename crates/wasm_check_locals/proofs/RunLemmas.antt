@@ -1,5 +1,5 @@
 -- Locals in runs, and the search among them.
-use Rattle.std.proofs.Common.{◌≡◌, ℕ, zero, suc, ◌+◌, ◌-◌, ◌<◌, ◌≤◌, List, [], ◌∷◌, ◌++◌, length, map, replicate, get_or, Some, None, refl, sym, ap, subst, ◌∙◌, append_assoc, append-nil, length-append, arith}
+use Rattle.std.proofs.Common.{◌≡◌, ℕ, zero, suc, ◌+◌, ◌-◌, ◌<◌, ◌≤◌, List, [], ◌∷◌, ◌++◌, length, replicate, get_or, Some, None, refl, sym, ap, subst, ◌∙◌, append_assoc, append-nil, length-append, arith}
 use Rattle.std.specs.Option.{option_map}
 use Rattle.std.proofs.lemmas.List.{length-replicate}
 use Rattle.wasm_below.specs.declared.types.ValType.{ValType}
@@ -17,22 +17,6 @@ at_after : {A : Type 0} (n k : ℕ) (a : A) (others : List A) → n ≤ k → at
 at_after zero k a others p = ap (at others) (let e : k ≡ k - 0 = omega arith in e)
 at_after (suc n) zero a others p = absurd (omega (arith, p))
 at_after (suc n) (suc k) a others p = at_after n k a others (omega (arith, p)) ∙ ap (at others) (let e : k - n ≡ suc k - suc n = omega arith in e)
-
-pub at_first : {A B : Type 0} (f : A → B) (xs : List A) (ys : List B) (k : ℕ) (d : A) → k < length xs → Some (f (get_or xs k d)) ≡ at (map f xs ++ ys) k
-at_first f [] ys k d p = absurd (omega (arith, p))
-at_first f (x ∷ xs) ys zero d p = refl
-at_first f (x ∷ xs) ys (suc k) d p = at_first f xs ys k d (omega (arith, p))
-
-at_map : {A B : Type 0} (f : A → B) (xs : List A) (k : ℕ) → option_map f (at xs k) ≡ at (map f xs) k
-at_map f [] k = refl
-at_map f (x ∷ xs) zero = refl
-at_map f (x ∷ xs) (suc k) = at_map f xs k
-
-pub at_second : {A B C : Type 0} (f : A → C) (g : B → C) (xs : List A) (ys : List B) (k : ℕ) → length xs ≤ k → option_map g (at ys (k - length xs)) ≡ at (map f xs ++ map g ys) k
-at_second f g [] ys k p = ap (λ n. option_map g (at ys n)) (let e : k - 0 ≡ k = omega arith in e) ∙ at_map g ys k
-at_second f g (x ∷ xs) ys zero p = absurd (omega (arith, p))
-at_second f g (x ∷ xs) ys (suc k) p =
-    ap (λ n. option_map g (at ys n)) (let e : suc k - suc (length xs) ≡ k - length xs = omega arith in e) ∙ at_second f g xs ys k (omega (arith, p))
 
 pub at_of : {A : Type 0} (xs : List A) (k : ℕ) (d : A) → k < length xs → at xs k ≡ Some (get_or xs k d)
 at_of [] k d p = absurd (omega (arith, p))
