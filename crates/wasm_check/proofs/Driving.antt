@@ -1,28 +1,27 @@
 -- The loop of the checker.
-use Rattle.std.proofs.Common.{◌≡◌, ◌↔◌, ◌<◌, Bool, true, false, List, [], ◌∷◌, length, Some, inl, inr, Ok, Err, refl, sym, ap, subst, ◌∙◌, length-append, arith}
+use Rattle.std.proofs.Common.{◌≡◌, ◌↔◌, Bool, true, false, List, [], ◌∷◌, Some, inl, inr, Ok, Err, refl, sym, ap, subst, ◌∙◌}
 use Rattle.std.specs.Prelude.{Result, IfOk, OnOk, IfErr, IsTrue}
 use Rattle.std.specs.Result.{is_err}
 use Rattle.wasm_below.specs.declared.error.Error.{Error}
 use Rattle.wasm_below.specs.declared.message.Message.TheVariants as message
-use Rattle.wasm_below.specs.Source.{Source, Reader, rest, source_of}
+use Rattle.wasm_below.specs.Source.{Reader, rest, source_of}
 use Rattle.wasm_instr.specs.declared.operator.Operator.{Operator}
 use Rattle.wasm_instr.specs.declared.operator.Operator.TheVariants as operator
 use Rattle.wasm_instr.specs.Roles.{role_of, roles_of}
-use Rattle.wasm_operators.specs.opcodes.Allowed.{EncodesAllowed}
 use Rattle.wasm_operators.specs.Expression.{Placed, operators}
-use Rattle.wasm_operators.specs.Laws.{LaysOutBoth, TakesBytes}
+use Rattle.wasm_operators.specs.Laws.{LaysOutBoth}
 use Rattle.wasm_operators.specs.Next.{collecting}
 use Rattle.wasm_operators.specs.MainTheorem.{ReadsBeginning}
-use Rattle.wasm_operators.specs.Reading.{State, TakesOperator, IsUnchanged, FramesLeft, StopsRead, StopsRun}
+use Rattle.wasm_operators.specs.Reading.{State, IsUnchanged, FramesLeft, StopsRead, StopsRun}
 use Rattle.wasm_typing.specs.Types.{Stack}
 use Rattle.wasm_typing.specs.Rules.{Rules}
 use Rattle.wasm_typing.specs.Steps.{Frame, step, steps, started}
 use Rattle.wasm_check_control.specs.State.{Answers, outermost}
 use Rattle.wasm_check.specs.declared.error.CheckError.{CheckError}
 use Rattle.wasm_check.specs.declared.error.CheckError.TheVariants as check
-use Rattle.wasm_check.specs.Constants.{MayOccur, IsTypedOf, ExplainsOf}
-use Rattle.wasm_check.specs.Typed.{IsTypedExpression, Explains, IsSaidOf, IsUndecoded, StepsOne}
-use Rattle.wasm_check.proofs.Along.{AcceptsTyped, GoesOn, can_be_typed, offset_along}
+use Rattle.wasm_check.specs.Constants.{MayOccur, ExplainsOf}
+use Rattle.wasm_check.specs.Typed.{Explains, IsSaidOf, IsUndecoded, StepsOne}
+use Rattle.wasm_check.proofs.Along.{AcceptsTyped, GoesOn, can_be_typed}
 
 pub ok_of : {X E : Type 0} (r : Result X E) (P : Type 0) → OnOk r P → is_err r ≡ false → P
 ok_of (Ok x) P h e = h
@@ -32,15 +31,6 @@ pub visited : {E : Type 0} (R : Rules Operator) (old new : List Frame) (op : Ope
     StepsOne R old op outcome new → outcome ≡ Ok b → b ≡ truth → Answers truth (step (outermost R) old (role_of op)) new
 visited R old new op outcome b truth h is test =
     subst (λ y. Answers y (step (outermost R) old (role_of op)) new) test (subst (λ o. IfOk o (λ y. Answers y (step (outermost R) old (role_of op)) new)) is h)
-
--- A read takes bytes.
-pub shorter : (op : Operator) (old new : State) → TakesBytes → TakesOperator EncodesAllowed op old new → length (rest new.reader) < length (rest old.reader)
-shorter op old new progress takes =
-    let some = progress op old new takes in
-    let place = offset_along old.reader new.reader takes.text takes.takes in
-    let sum = length-append takes.text (rest new.reader) in
-    let parts = ap length takes.takes.parts in
-    omega (arith, some, place, sum, parts)
 
 -- The error of the reader, as an error of the checker.
 pub memory_said : (e : Error) (said : CheckError) → IsSaidOf e said → e.message ≡ message.OutOfMemory → said ≡ check.Memory
@@ -73,11 +63,6 @@ explained_all may R results r (Err (check.TooManyLocals offset)) all h = h
 explained_all may R results r (Err (check.NotConstant offset)) all h = absurd (cc (sym (all h.op) ∙ h.none))
 explained_all may R results r (Err (check.Decode d)) all h = h
 explained_all may R results r (Err check.Memory) all h = h
-
-pub typed_all : (may : Operator → Bool) (R : Rules Operator) (results : Stack) (s : Source) (result : Result (Unit {0}) CheckError) →
-    OnOk result (IsTypedOf may R results s) → OnOk result (IsTypedExpression R results s)
-typed_all may R results s (Ok x) h = h.expression
-typed_all may R results s (Err e) h = h
 
 -- The reader fails after what was checked.
 pub undecoded : (R : Rules Operator) (results : Stack) (r : Reader) (fresh new : State) (placed : Placed) (control : List Frame) (e : Error) → fresh.reader ≡ r →

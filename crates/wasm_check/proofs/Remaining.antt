@@ -1,6 +1,6 @@
 -- The declarations that were read, and those that the bytes of a body encode.
-use Rattle.std.proofs.Common.{◌≡◌, ℕ, ◌+◌, ◌-◌, ◌<◌, ◌≤◌, true, false, List, [], ◌∷◌, ◌++◌, length, replicate, Some, inr, Ok, Err, refl, sym, ap, subst, ◌∙◌, append_assoc, append-nil, length-append, arith}
-use Rattle.std.specs.Prelude.{Result, OnOk, IfErr}
+use Rattle.std.proofs.Common.{◌≡◌, ℕ, ◌+◌, ◌-◌, ◌<◌, ◌≤◌, true, false, List, [], ◌∷◌, ◌++◌, length, replicate, Some, Ok, Err, refl, sym, ap, subst, ◌∙◌, append_assoc, append-nil, length-append, arith}
+use Rattle.std.specs.Prelude.{Result, OnOk}
 use Rattle.std.proofs.lemmas.List.{length-replicate}
 use Rattle.wasm_below.specs.declared.error.Error.{Error}
 use Rattle.wasm_below.specs.declared.message.Message.{Message}
@@ -26,9 +26,9 @@ use Rattle.wasm_check_operators.specs.Language.{rules_of}
 use Rattle.wasm_check_locals.specs.Locals.{locals_of, in_function}
 use Rattle.wasm_check.specs.declared.error.CheckError.{CheckError}
 use Rattle.wasm_check.specs.declared.error.CheckError.TheVariants as check
-use Rattle.wasm_check.specs.Bodies.{max_function_locals, HaveValidTypes, MayDeclare, StopsLocals, ExplainsLocals, HasDeclared, EncodesTypedBody, IsTypedBody, ExplainsBody}
+use Rattle.wasm_check.specs.Bodies.{max_function_locals, HaveValidTypes, MayDeclare, StopsLocals, ExplainsLocals, HasDeclared, EncodesTypedBody, IsTypedBody}
 use Rattle.wasm_check.specs.Constants.{may_occur, IsTypedOf}
-use Rattle.wasm_check.specs.Typed.{AreTyped, EncodesTyped, Explains, IsSaidOf}
+use Rattle.wasm_check.specs.Typed.{AreTyped, EncodesTyped, IsSaidOf}
 
 -- After the declarations `before` of `all`, these are left.
 pub record Remains (all before : List Declaration) (items : LocalsLeft) : Type 0 where
@@ -215,8 +215,3 @@ module _ (E : Environment) (params results locals : List ValType) (body r : Read
         there.1,
         subst (λ ls. AreTyped (rules_of (in_function E params results ls)) (stack_of results) (operators placed)) (ap locals_of there.0 ∙ sym declared.are) typed,
       )
-
-  pub explained_body : (result : Result (Unit {0}) CheckError) → IfErr result (λ e. Explains (rules_of (in_function E params results locals)) (stack_of results) r e) →
-      IfErr result (λ e. ExplainsBody E params results body e)
-  explained_body (Ok x) h = h
-  explained_body (Err e) h = inr (locals, r, declared, h)
