@@ -1,0 +1,4 @@
+pub mod References
+pub mod Items
+pub mod Parts
+pub mod Payloads

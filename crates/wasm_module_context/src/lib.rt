@@ -1,0 +1,17 @@
+//! The context of a module, from its payloads.
+//!
+//! Any call that allocates may fail with `OutOfMemory`.
+#![tactic(auto)]
+
+mod elements;
+mod error;
+mod function_index;
+mod items;
+mod parts;
+mod payloads;
+mod references;
+
+pub use error::PayloadError;
+pub use function_index::FunctionIndex;
+pub use items::{AddToContext, add_items};
+pub use payloads::add_payload;

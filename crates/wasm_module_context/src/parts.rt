@@ -1,0 +1,168 @@
+//! The items of the sections.
+ghost use Rattle.wasm_context.specs.Faults.{function_fault, memory_fault, tag_fault, external_fault, import_fault};
+ghost use Rattle.wasm_module_context.specs.Parts.{FailsAt, AddsGroup, FailsGroup, AddsImport, AddsFunction, AddsMemory, AddsTag, AddsExport, AddsTable, FailsTable, AddsGlobal, FailsGlobal};
+
+use crate::error::PayloadError;
+use crate::items::AddToContext;
+use std::alloc::Global as Allocator;
+use wasm_constants::{Global, Table};
+use wasm_context::Context;
+use wasm_externals::{Export, Import, MemoryType, TagType};
+use wasm_types::RecGroup;
+
+impl<'a> AddToContext<'a> for RecGroup {
+    ghost adds = { AddsGroup };
+
+    ghost refuses = { FailsGroup };
+
+    fn add_to(
+        self,
+        alloc: Allocator,
+        context: Context,
+        offset: u64,
+    ) -> Result<Context, PayloadError> {
+        match context.add_group(alloc, self) {
+            Ok(context) => Ok(context),
+            Err(e) => Err(PayloadError::Context(e, offset)),
+        }
+    }
+}
+
+impl<'a> AddToContext<'a> for Import<'a> {
+    ghost adds = { AddsImport };
+
+    ghost refuses = { λ i c at e. FailsAt (import_fault c i.ty) at e };
+
+    fn add_to(
+        self,
+        _alloc: Allocator,
+        context: Context,
+        offset: u64,
+    ) -> Result<Context, PayloadError> {
+        let mut context = context;
+        match context.add_import(self.ty) {
+            Ok(()) => Ok(context),
+            Err(e) => Err(PayloadError::Context(e, offset)),
+        }
+    }
+}
+
+impl<'a> AddToContext<'a> for u32 {
+    ghost adds = { AddsFunction };
+
+    ghost refuses = { λ x c at e. FailsAt (function_fault c x) at e };
+
+    /// Adds a function, of which this is the index of the type.
+    fn add_to(
+        self,
+        _alloc: Allocator,
+        context: Context,
+        offset: u64,
+    ) -> Result<Context, PayloadError> {
+        let mut context = context;
+        match context.add_function(self) {
+            Ok(()) => Ok(context),
+            Err(e) => Err(PayloadError::Context(e, offset)),
+        }
+    }
+}
+
+impl<'a> AddToContext<'a> for MemoryType {
+    ghost adds = { AddsMemory };
+
+    ghost refuses = { λ t c at e. FailsAt (memory_fault c) at e };
+
+    fn add_to(
+        self,
+        _alloc: Allocator,
+        context: Context,
+        offset: u64,
+    ) -> Result<Context, PayloadError> {
+        let mut context = context;
+        match context.add_memory(self) {
+            Ok(()) => Ok(context),
+            Err(e) => Err(PayloadError::Context(e, offset)),
+        }
+    }
+}
+
+impl<'a> AddToContext<'a> for TagType {
+    ghost adds = { AddsTag };
+
+    ghost refuses = { λ t c at e. FailsAt (tag_fault c t) at e };
+
+    fn add_to(
+        self,
+        _alloc: Allocator,
+        context: Context,
+        offset: u64,
+    ) -> Result<Context, PayloadError> {
+        let mut context = context;
+        match context.add_tag(self) {
+            Ok(()) => Ok(context),
+            Err(e) => Err(PayloadError::Context(e, offset)),
+        }
+    }
+}
+
+impl<'a> AddToContext<'a> for Export<'a> {
+    ghost adds = { AddsExport };
+
+    ghost refuses = { λ x c at e. FailsAt (external_fault c x.kind x.index) at e };
+
+    fn add_to(
+        self,
+        _alloc: Allocator,
+        context: Context,
+        offset: u64,
+    ) -> Result<Context, PayloadError> {
+        let mut context = context;
+        match context.add_export(self.kind, self.index) {
+            Ok(()) => Ok(context),
+            Err(e) => Err(PayloadError::Context(e, offset)),
+        }
+    }
+}
+
+impl<'a> AddToContext<'a> for Table<'a> {
+    ghost adds = { AddsTable };
+
+    ghost refuses = { FailsTable };
+
+    fn add_to(
+        self,
+        alloc: Allocator,
+        context: Context,
+        offset: u64,
+    ) -> Result<Context, PayloadError> {
+        let wasm_segments::Table { ty, init } = self;
+        let mut context = context;
+        if let Err(e) = context.add_table(ty) {
+            return Err(PayloadError::Context(e, offset));
+        }
+        match init {
+            wasm_segments::TableInit::RefNull => Ok(context),
+            wasm_segments::TableInit::Expr(value) => value.add_to(alloc, context, offset),
+        }
+    }
+}
+
+impl<'a> AddToContext<'a> for Global<'a> {
+    ghost adds = { AddsGlobal };
+
+    ghost refuses = { FailsGlobal };
+
+    fn add_to(
+        self,
+        alloc: Allocator,
+        context: Context,
+        offset: u64,
+    ) -> Result<Context, PayloadError> {
+        let wasm_segments::Global { ty, init_expr } = self;
+        let mut context = context;
+        if let Err(e) = context.add_global(ty) {
+            return Err(PayloadError::Context(e, offset));
+        }
+        init_expr.add_to(alloc, context, offset)
+    }
+}
