@@ -17,7 +17,7 @@ abbrev pub WritesType : WasmType → Option Written → Type 0
 WritesType v (Some out) = Appends EncodesType v [] out.items × (length out.items ≤ 12)
 WritesType v None = HasNone EncodesType v
 
--- The bytes are the shortest encoding of a value type with the C struct, or there is none.
+-- The bytes are the shortest encoding of a value type with the C struct, or no bytes encode one.
 abbrev pub ReadsType : WasmType → Bool → List ℕ → Type 0
 ReadsType v true bytes = Appends EncodesType v [] bytes
 ReadsType v false bytes = HasNone EncodesType v
