@@ -37,6 +37,26 @@ impl Teller {
         self.written(&op, Call::Own)
     }
 
+    pub fn own_numeric(&mut self, op: NumericOperator) -> std::result::Result<Call, AllocError> {
+        self.own(Operator::Numeric(op))
+    }
+
+    pub fn own_gc(&mut self, op: GcOperator) -> std::result::Result<Call, AllocError> {
+        self.own(Operator::Gc(op))
+    }
+
+    pub fn own_misc(&mut self, op: MiscOperator) -> std::result::Result<Call, AllocError> {
+        self.own(Operator::Misc(op))
+    }
+
+    pub fn own_simd(&mut self, op: SimdOperator) -> std::result::Result<Call, AllocError> {
+        self.own(Operator::Simd(op))
+    }
+
+    pub fn own_atomic(&mut self, op: AtomicOperator) -> std::result::Result<Call, AllocError> {
+        self.own(Operator::Atomic(op))
+    }
+
     fn written(&mut self, op: &Operator<'_>, call: Call) -> std::result::Result<Call, AllocError> {
         write_operator(&mut self.text, op)?;
         Ok(call)

@@ -1,291 +1,290 @@
 //! Overridden visits of the operators with prefix 0xfe. Written by tools/lists.py from tools/operators.tsv.
 use crate::teller::Teller;
 use wasm_imm::{MemArg, Ordering};
-use wasm_instr::Operator;
 use wasm_instr_ops::AtomicOperator;
 use wasm_visit_groups::{VisitAtomic, Visitor};
 
 impl VisitAtomic for Teller {
     fn visit_memory_atomic_notify(&mut self, memarg: MemArg) -> Self::Output {
-        self.own(Operator::Atomic(AtomicOperator::MemoryAtomicNotify { memarg }))
+        self.own_atomic(AtomicOperator::MemoryAtomicNotify { memarg })
     }
 
     fn visit_memory_atomic_wait32(&mut self, memarg: MemArg) -> Self::Output {
-        self.own(Operator::Atomic(AtomicOperator::MemoryAtomicWait32 { memarg }))
+        self.own_atomic(AtomicOperator::MemoryAtomicWait32 { memarg })
     }
 
     fn visit_memory_atomic_wait64(&mut self, memarg: MemArg) -> Self::Output {
-        self.own(Operator::Atomic(AtomicOperator::MemoryAtomicWait64 { memarg }))
+        self.own_atomic(AtomicOperator::MemoryAtomicWait64 { memarg })
     }
 
     fn visit_atomic_fence(&mut self, ordering: Ordering) -> Self::Output {
-        self.own(Operator::Atomic(AtomicOperator::AtomicFence { ordering }))
+        self.own_atomic(AtomicOperator::AtomicFence { ordering })
     }
 
     fn visit_i32_atomic_load(&mut self, memarg: MemArg) -> Self::Output {
-        self.own(Operator::Atomic(AtomicOperator::I32AtomicLoad { memarg }))
+        self.own_atomic(AtomicOperator::I32AtomicLoad { memarg })
     }
 
     fn visit_i64_atomic_load(&mut self, memarg: MemArg) -> Self::Output {
-        self.own(Operator::Atomic(AtomicOperator::I64AtomicLoad { memarg }))
+        self.own_atomic(AtomicOperator::I64AtomicLoad { memarg })
     }
 
     fn visit_i32_atomic_load8_u(&mut self, memarg: MemArg) -> Self::Output {
-        self.own(Operator::Atomic(AtomicOperator::I32AtomicLoad8U { memarg }))
+        self.own_atomic(AtomicOperator::I32AtomicLoad8U { memarg })
     }
 
     fn visit_i32_atomic_load16_u(&mut self, memarg: MemArg) -> Self::Output {
-        self.own(Operator::Atomic(AtomicOperator::I32AtomicLoad16U { memarg }))
+        self.own_atomic(AtomicOperator::I32AtomicLoad16U { memarg })
     }
 
     fn visit_i64_atomic_load8_u(&mut self, memarg: MemArg) -> Self::Output {
-        self.own(Operator::Atomic(AtomicOperator::I64AtomicLoad8U { memarg }))
+        self.own_atomic(AtomicOperator::I64AtomicLoad8U { memarg })
     }
 
     fn visit_i64_atomic_load16_u(&mut self, memarg: MemArg) -> Self::Output {
-        self.own(Operator::Atomic(AtomicOperator::I64AtomicLoad16U { memarg }))
+        self.own_atomic(AtomicOperator::I64AtomicLoad16U { memarg })
     }
 
     fn visit_i64_atomic_load32_u(&mut self, memarg: MemArg) -> Self::Output {
-        self.own(Operator::Atomic(AtomicOperator::I64AtomicLoad32U { memarg }))
+        self.own_atomic(AtomicOperator::I64AtomicLoad32U { memarg })
     }
 
     fn visit_i32_atomic_store(&mut self, memarg: MemArg) -> Self::Output {
-        self.own(Operator::Atomic(AtomicOperator::I32AtomicStore { memarg }))
+        self.own_atomic(AtomicOperator::I32AtomicStore { memarg })
     }
 
     fn visit_i64_atomic_store(&mut self, memarg: MemArg) -> Self::Output {
-        self.own(Operator::Atomic(AtomicOperator::I64AtomicStore { memarg }))
+        self.own_atomic(AtomicOperator::I64AtomicStore { memarg })
     }
 
     fn visit_i32_atomic_store8(&mut self, memarg: MemArg) -> Self::Output {
-        self.own(Operator::Atomic(AtomicOperator::I32AtomicStore8 { memarg }))
+        self.own_atomic(AtomicOperator::I32AtomicStore8 { memarg })
     }
 
     fn visit_i32_atomic_store16(&mut self, memarg: MemArg) -> Self::Output {
-        self.own(Operator::Atomic(AtomicOperator::I32AtomicStore16 { memarg }))
+        self.own_atomic(AtomicOperator::I32AtomicStore16 { memarg })
     }
 
     fn visit_i64_atomic_store8(&mut self, memarg: MemArg) -> Self::Output {
-        self.own(Operator::Atomic(AtomicOperator::I64AtomicStore8 { memarg }))
+        self.own_atomic(AtomicOperator::I64AtomicStore8 { memarg })
     }
 
     fn visit_i64_atomic_store16(&mut self, memarg: MemArg) -> Self::Output {
-        self.own(Operator::Atomic(AtomicOperator::I64AtomicStore16 { memarg }))
+        self.own_atomic(AtomicOperator::I64AtomicStore16 { memarg })
     }
 
     fn visit_i64_atomic_store32(&mut self, memarg: MemArg) -> Self::Output {
-        self.own(Operator::Atomic(AtomicOperator::I64AtomicStore32 { memarg }))
+        self.own_atomic(AtomicOperator::I64AtomicStore32 { memarg })
     }
 
     fn visit_i32_atomic_rmw_add(&mut self, memarg: MemArg) -> Self::Output {
-        self.own(Operator::Atomic(AtomicOperator::I32AtomicRmwAdd { memarg }))
+        self.own_atomic(AtomicOperator::I32AtomicRmwAdd { memarg })
     }
 
     fn visit_i64_atomic_rmw_add(&mut self, memarg: MemArg) -> Self::Output {
-        self.own(Operator::Atomic(AtomicOperator::I64AtomicRmwAdd { memarg }))
+        self.own_atomic(AtomicOperator::I64AtomicRmwAdd { memarg })
     }
 
     fn visit_i32_atomic_rmw8_add_u(&mut self, memarg: MemArg) -> Self::Output {
-        self.own(Operator::Atomic(AtomicOperator::I32AtomicRmw8AddU { memarg }))
+        self.own_atomic(AtomicOperator::I32AtomicRmw8AddU { memarg })
     }
 
     fn visit_i32_atomic_rmw16_add_u(&mut self, memarg: MemArg) -> Self::Output {
-        self.own(Operator::Atomic(AtomicOperator::I32AtomicRmw16AddU { memarg }))
+        self.own_atomic(AtomicOperator::I32AtomicRmw16AddU { memarg })
     }
 
     fn visit_i64_atomic_rmw8_add_u(&mut self, memarg: MemArg) -> Self::Output {
-        self.own(Operator::Atomic(AtomicOperator::I64AtomicRmw8AddU { memarg }))
+        self.own_atomic(AtomicOperator::I64AtomicRmw8AddU { memarg })
     }
 
     fn visit_i64_atomic_rmw16_add_u(&mut self, memarg: MemArg) -> Self::Output {
-        self.own(Operator::Atomic(AtomicOperator::I64AtomicRmw16AddU { memarg }))
+        self.own_atomic(AtomicOperator::I64AtomicRmw16AddU { memarg })
     }
 
     fn visit_i64_atomic_rmw32_add_u(&mut self, memarg: MemArg) -> Self::Output {
-        self.own(Operator::Atomic(AtomicOperator::I64AtomicRmw32AddU { memarg }))
+        self.own_atomic(AtomicOperator::I64AtomicRmw32AddU { memarg })
     }
 
     fn visit_i32_atomic_rmw_sub(&mut self, memarg: MemArg) -> Self::Output {
-        self.own(Operator::Atomic(AtomicOperator::I32AtomicRmwSub { memarg }))
+        self.own_atomic(AtomicOperator::I32AtomicRmwSub { memarg })
     }
 
     fn visit_i64_atomic_rmw_sub(&mut self, memarg: MemArg) -> Self::Output {
-        self.own(Operator::Atomic(AtomicOperator::I64AtomicRmwSub { memarg }))
+        self.own_atomic(AtomicOperator::I64AtomicRmwSub { memarg })
     }
 
     fn visit_i32_atomic_rmw8_sub_u(&mut self, memarg: MemArg) -> Self::Output {
-        self.own(Operator::Atomic(AtomicOperator::I32AtomicRmw8SubU { memarg }))
+        self.own_atomic(AtomicOperator::I32AtomicRmw8SubU { memarg })
     }
 
     fn visit_i32_atomic_rmw16_sub_u(&mut self, memarg: MemArg) -> Self::Output {
-        self.own(Operator::Atomic(AtomicOperator::I32AtomicRmw16SubU { memarg }))
+        self.own_atomic(AtomicOperator::I32AtomicRmw16SubU { memarg })
     }
 
     fn visit_i64_atomic_rmw8_sub_u(&mut self, memarg: MemArg) -> Self::Output {
-        self.own(Operator::Atomic(AtomicOperator::I64AtomicRmw8SubU { memarg }))
+        self.own_atomic(AtomicOperator::I64AtomicRmw8SubU { memarg })
     }
 
     fn visit_i64_atomic_rmw16_sub_u(&mut self, memarg: MemArg) -> Self::Output {
-        self.own(Operator::Atomic(AtomicOperator::I64AtomicRmw16SubU { memarg }))
+        self.own_atomic(AtomicOperator::I64AtomicRmw16SubU { memarg })
     }
 
     fn visit_i64_atomic_rmw32_sub_u(&mut self, memarg: MemArg) -> Self::Output {
-        self.own(Operator::Atomic(AtomicOperator::I64AtomicRmw32SubU { memarg }))
+        self.own_atomic(AtomicOperator::I64AtomicRmw32SubU { memarg })
     }
 
     fn visit_i32_atomic_rmw_and(&mut self, memarg: MemArg) -> Self::Output {
-        self.own(Operator::Atomic(AtomicOperator::I32AtomicRmwAnd { memarg }))
+        self.own_atomic(AtomicOperator::I32AtomicRmwAnd { memarg })
     }
 
     fn visit_i64_atomic_rmw_and(&mut self, memarg: MemArg) -> Self::Output {
-        self.own(Operator::Atomic(AtomicOperator::I64AtomicRmwAnd { memarg }))
+        self.own_atomic(AtomicOperator::I64AtomicRmwAnd { memarg })
     }
 
     fn visit_i32_atomic_rmw8_and_u(&mut self, memarg: MemArg) -> Self::Output {
-        self.own(Operator::Atomic(AtomicOperator::I32AtomicRmw8AndU { memarg }))
+        self.own_atomic(AtomicOperator::I32AtomicRmw8AndU { memarg })
     }
 
     fn visit_i32_atomic_rmw16_and_u(&mut self, memarg: MemArg) -> Self::Output {
-        self.own(Operator::Atomic(AtomicOperator::I32AtomicRmw16AndU { memarg }))
+        self.own_atomic(AtomicOperator::I32AtomicRmw16AndU { memarg })
     }
 
     fn visit_i64_atomic_rmw8_and_u(&mut self, memarg: MemArg) -> Self::Output {
-        self.own(Operator::Atomic(AtomicOperator::I64AtomicRmw8AndU { memarg }))
+        self.own_atomic(AtomicOperator::I64AtomicRmw8AndU { memarg })
     }
 
     fn visit_i64_atomic_rmw16_and_u(&mut self, memarg: MemArg) -> Self::Output {
-        self.own(Operator::Atomic(AtomicOperator::I64AtomicRmw16AndU { memarg }))
+        self.own_atomic(AtomicOperator::I64AtomicRmw16AndU { memarg })
     }
 
     fn visit_i64_atomic_rmw32_and_u(&mut self, memarg: MemArg) -> Self::Output {
-        self.own(Operator::Atomic(AtomicOperator::I64AtomicRmw32AndU { memarg }))
+        self.own_atomic(AtomicOperator::I64AtomicRmw32AndU { memarg })
     }
 
     fn visit_i32_atomic_rmw_or(&mut self, memarg: MemArg) -> Self::Output {
-        self.own(Operator::Atomic(AtomicOperator::I32AtomicRmwOr { memarg }))
+        self.own_atomic(AtomicOperator::I32AtomicRmwOr { memarg })
     }
 
     fn visit_i64_atomic_rmw_or(&mut self, memarg: MemArg) -> Self::Output {
-        self.own(Operator::Atomic(AtomicOperator::I64AtomicRmwOr { memarg }))
+        self.own_atomic(AtomicOperator::I64AtomicRmwOr { memarg })
     }
 
     fn visit_i32_atomic_rmw8_or_u(&mut self, memarg: MemArg) -> Self::Output {
-        self.own(Operator::Atomic(AtomicOperator::I32AtomicRmw8OrU { memarg }))
+        self.own_atomic(AtomicOperator::I32AtomicRmw8OrU { memarg })
     }
 
     fn visit_i32_atomic_rmw16_or_u(&mut self, memarg: MemArg) -> Self::Output {
-        self.own(Operator::Atomic(AtomicOperator::I32AtomicRmw16OrU { memarg }))
+        self.own_atomic(AtomicOperator::I32AtomicRmw16OrU { memarg })
     }
 
     fn visit_i64_atomic_rmw8_or_u(&mut self, memarg: MemArg) -> Self::Output {
-        self.own(Operator::Atomic(AtomicOperator::I64AtomicRmw8OrU { memarg }))
+        self.own_atomic(AtomicOperator::I64AtomicRmw8OrU { memarg })
     }
 
     fn visit_i64_atomic_rmw16_or_u(&mut self, memarg: MemArg) -> Self::Output {
-        self.own(Operator::Atomic(AtomicOperator::I64AtomicRmw16OrU { memarg }))
+        self.own_atomic(AtomicOperator::I64AtomicRmw16OrU { memarg })
     }
 
     fn visit_i64_atomic_rmw32_or_u(&mut self, memarg: MemArg) -> Self::Output {
-        self.own(Operator::Atomic(AtomicOperator::I64AtomicRmw32OrU { memarg }))
+        self.own_atomic(AtomicOperator::I64AtomicRmw32OrU { memarg })
     }
 
     fn visit_i32_atomic_rmw_xor(&mut self, memarg: MemArg) -> Self::Output {
-        self.own(Operator::Atomic(AtomicOperator::I32AtomicRmwXor { memarg }))
+        self.own_atomic(AtomicOperator::I32AtomicRmwXor { memarg })
     }
 
     fn visit_i64_atomic_rmw_xor(&mut self, memarg: MemArg) -> Self::Output {
-        self.own(Operator::Atomic(AtomicOperator::I64AtomicRmwXor { memarg }))
+        self.own_atomic(AtomicOperator::I64AtomicRmwXor { memarg })
     }
 
     fn visit_i32_atomic_rmw8_xor_u(&mut self, memarg: MemArg) -> Self::Output {
-        self.own(Operator::Atomic(AtomicOperator::I32AtomicRmw8XorU { memarg }))
+        self.own_atomic(AtomicOperator::I32AtomicRmw8XorU { memarg })
     }
 
     fn visit_i32_atomic_rmw16_xor_u(&mut self, memarg: MemArg) -> Self::Output {
-        self.own(Operator::Atomic(AtomicOperator::I32AtomicRmw16XorU { memarg }))
+        self.own_atomic(AtomicOperator::I32AtomicRmw16XorU { memarg })
     }
 
     fn visit_i64_atomic_rmw8_xor_u(&mut self, memarg: MemArg) -> Self::Output {
-        self.own(Operator::Atomic(AtomicOperator::I64AtomicRmw8XorU { memarg }))
+        self.own_atomic(AtomicOperator::I64AtomicRmw8XorU { memarg })
     }
 
     fn visit_i64_atomic_rmw16_xor_u(&mut self, memarg: MemArg) -> Self::Output {
-        self.own(Operator::Atomic(AtomicOperator::I64AtomicRmw16XorU { memarg }))
+        self.own_atomic(AtomicOperator::I64AtomicRmw16XorU { memarg })
     }
 
     fn visit_i64_atomic_rmw32_xor_u(&mut self, memarg: MemArg) -> Self::Output {
-        self.own(Operator::Atomic(AtomicOperator::I64AtomicRmw32XorU { memarg }))
+        self.own_atomic(AtomicOperator::I64AtomicRmw32XorU { memarg })
     }
 
     fn visit_i32_atomic_rmw_xchg(&mut self, memarg: MemArg) -> Self::Output {
-        self.own(Operator::Atomic(AtomicOperator::I32AtomicRmwXchg { memarg }))
+        self.own_atomic(AtomicOperator::I32AtomicRmwXchg { memarg })
     }
 
     fn visit_i64_atomic_rmw_xchg(&mut self, memarg: MemArg) -> Self::Output {
-        self.own(Operator::Atomic(AtomicOperator::I64AtomicRmwXchg { memarg }))
+        self.own_atomic(AtomicOperator::I64AtomicRmwXchg { memarg })
     }
 
     fn visit_i32_atomic_rmw8_xchg_u(&mut self, memarg: MemArg) -> Self::Output {
-        self.own(Operator::Atomic(AtomicOperator::I32AtomicRmw8XchgU { memarg }))
+        self.own_atomic(AtomicOperator::I32AtomicRmw8XchgU { memarg })
     }
 
     fn visit_i32_atomic_rmw16_xchg_u(&mut self, memarg: MemArg) -> Self::Output {
-        self.own(Operator::Atomic(AtomicOperator::I32AtomicRmw16XchgU { memarg }))
+        self.own_atomic(AtomicOperator::I32AtomicRmw16XchgU { memarg })
     }
 
     fn visit_i64_atomic_rmw8_xchg_u(&mut self, memarg: MemArg) -> Self::Output {
-        self.own(Operator::Atomic(AtomicOperator::I64AtomicRmw8XchgU { memarg }))
+        self.own_atomic(AtomicOperator::I64AtomicRmw8XchgU { memarg })
     }
 
     fn visit_i64_atomic_rmw16_xchg_u(&mut self, memarg: MemArg) -> Self::Output {
-        self.own(Operator::Atomic(AtomicOperator::I64AtomicRmw16XchgU { memarg }))
+        self.own_atomic(AtomicOperator::I64AtomicRmw16XchgU { memarg })
     }
 
     fn visit_i64_atomic_rmw32_xchg_u(&mut self, memarg: MemArg) -> Self::Output {
-        self.own(Operator::Atomic(AtomicOperator::I64AtomicRmw32XchgU { memarg }))
+        self.own_atomic(AtomicOperator::I64AtomicRmw32XchgU { memarg })
     }
 
     fn visit_i32_atomic_rmw_cmpxchg(&mut self, memarg: MemArg) -> Self::Output {
-        self.own(Operator::Atomic(AtomicOperator::I32AtomicRmwCmpxchg { memarg }))
+        self.own_atomic(AtomicOperator::I32AtomicRmwCmpxchg { memarg })
     }
 
     fn visit_i64_atomic_rmw_cmpxchg(&mut self, memarg: MemArg) -> Self::Output {
-        self.own(Operator::Atomic(AtomicOperator::I64AtomicRmwCmpxchg { memarg }))
+        self.own_atomic(AtomicOperator::I64AtomicRmwCmpxchg { memarg })
     }
 
     fn visit_i32_atomic_rmw8_cmpxchg_u(&mut self, memarg: MemArg) -> Self::Output {
-        self.own(Operator::Atomic(AtomicOperator::I32AtomicRmw8CmpxchgU { memarg }))
+        self.own_atomic(AtomicOperator::I32AtomicRmw8CmpxchgU { memarg })
     }
 
     fn visit_i32_atomic_rmw16_cmpxchg_u(&mut self, memarg: MemArg) -> Self::Output {
-        self.own(Operator::Atomic(AtomicOperator::I32AtomicRmw16CmpxchgU { memarg }))
+        self.own_atomic(AtomicOperator::I32AtomicRmw16CmpxchgU { memarg })
     }
 
     fn visit_i64_atomic_rmw8_cmpxchg_u(&mut self, memarg: MemArg) -> Self::Output {
-        self.own(Operator::Atomic(AtomicOperator::I64AtomicRmw8CmpxchgU { memarg }))
+        self.own_atomic(AtomicOperator::I64AtomicRmw8CmpxchgU { memarg })
     }
 
     fn visit_i64_atomic_rmw16_cmpxchg_u(&mut self, memarg: MemArg) -> Self::Output {
-        self.own(Operator::Atomic(AtomicOperator::I64AtomicRmw16CmpxchgU { memarg }))
+        self.own_atomic(AtomicOperator::I64AtomicRmw16CmpxchgU { memarg })
     }
 
     fn visit_i64_atomic_rmw32_cmpxchg_u(&mut self, memarg: MemArg) -> Self::Output {
-        self.own(Operator::Atomic(AtomicOperator::I64AtomicRmw32CmpxchgU { memarg }))
+        self.own_atomic(AtomicOperator::I64AtomicRmw32CmpxchgU { memarg })
     }
 
     fn visit_global_atomic_get(&mut self, ordering: Ordering, global_index: u32) -> Self::Output {
-        self.own(Operator::Atomic(AtomicOperator::GlobalAtomicGet {
+        self.own_atomic(AtomicOperator::GlobalAtomicGet {
             ordering,
             global_index,
-        }))
+        })
     }
 
     fn visit_global_atomic_set(&mut self, ordering: Ordering, global_index: u32) -> Self::Output {
-        self.own(Operator::Atomic(AtomicOperator::GlobalAtomicSet {
+        self.own_atomic(AtomicOperator::GlobalAtomicSet {
             ordering,
             global_index,
-        }))
+        })
     }
 
     fn visit_global_atomic_rmw_add(
@@ -293,10 +292,10 @@ impl VisitAtomic for Teller {
         ordering: Ordering,
         global_index: u32,
     ) -> Self::Output {
-        self.own(Operator::Atomic(AtomicOperator::GlobalAtomicRmwAdd {
+        self.own_atomic(AtomicOperator::GlobalAtomicRmwAdd {
             ordering,
             global_index,
-        }))
+        })
     }
 
     fn visit_global_atomic_rmw_sub(
@@ -304,10 +303,10 @@ impl VisitAtomic for Teller {
         ordering: Ordering,
         global_index: u32,
     ) -> Self::Output {
-        self.own(Operator::Atomic(AtomicOperator::GlobalAtomicRmwSub {
+        self.own_atomic(AtomicOperator::GlobalAtomicRmwSub {
             ordering,
             global_index,
-        }))
+        })
     }
 
     fn visit_global_atomic_rmw_and(
@@ -315,10 +314,10 @@ impl VisitAtomic for Teller {
         ordering: Ordering,
         global_index: u32,
     ) -> Self::Output {
-        self.own(Operator::Atomic(AtomicOperator::GlobalAtomicRmwAnd {
+        self.own_atomic(AtomicOperator::GlobalAtomicRmwAnd {
             ordering,
             global_index,
-        }))
+        })
     }
 
     fn visit_global_atomic_rmw_or(
@@ -326,10 +325,10 @@ impl VisitAtomic for Teller {
         ordering: Ordering,
         global_index: u32,
     ) -> Self::Output {
-        self.own(Operator::Atomic(AtomicOperator::GlobalAtomicRmwOr {
+        self.own_atomic(AtomicOperator::GlobalAtomicRmwOr {
             ordering,
             global_index,
-        }))
+        })
     }
 
     fn visit_global_atomic_rmw_xor(
@@ -337,10 +336,10 @@ impl VisitAtomic for Teller {
         ordering: Ordering,
         global_index: u32,
     ) -> Self::Output {
-        self.own(Operator::Atomic(AtomicOperator::GlobalAtomicRmwXor {
+        self.own_atomic(AtomicOperator::GlobalAtomicRmwXor {
             ordering,
             global_index,
-        }))
+        })
     }
 
     fn visit_global_atomic_rmw_xchg(
@@ -348,10 +347,10 @@ impl VisitAtomic for Teller {
         ordering: Ordering,
         global_index: u32,
     ) -> Self::Output {
-        self.own(Operator::Atomic(AtomicOperator::GlobalAtomicRmwXchg {
+        self.own_atomic(AtomicOperator::GlobalAtomicRmwXchg {
             ordering,
             global_index,
-        }))
+        })
     }
 
     fn visit_global_atomic_rmw_cmpxchg(
@@ -359,24 +358,24 @@ impl VisitAtomic for Teller {
         ordering: Ordering,
         global_index: u32,
     ) -> Self::Output {
-        self.own(Operator::Atomic(AtomicOperator::GlobalAtomicRmwCmpxchg {
+        self.own_atomic(AtomicOperator::GlobalAtomicRmwCmpxchg {
             ordering,
             global_index,
-        }))
+        })
     }
 
     fn visit_table_atomic_get(&mut self, ordering: Ordering, table_index: u32) -> Self::Output {
-        self.own(Operator::Atomic(AtomicOperator::TableAtomicGet {
+        self.own_atomic(AtomicOperator::TableAtomicGet {
             ordering,
             table_index,
-        }))
+        })
     }
 
     fn visit_table_atomic_set(&mut self, ordering: Ordering, table_index: u32) -> Self::Output {
-        self.own(Operator::Atomic(AtomicOperator::TableAtomicSet {
+        self.own_atomic(AtomicOperator::TableAtomicSet {
             ordering,
             table_index,
-        }))
+        })
     }
 
     fn visit_table_atomic_rmw_xchg(
@@ -384,10 +383,10 @@ impl VisitAtomic for Teller {
         ordering: Ordering,
         table_index: u32,
     ) -> Self::Output {
-        self.own(Operator::Atomic(AtomicOperator::TableAtomicRmwXchg {
+        self.own_atomic(AtomicOperator::TableAtomicRmwXchg {
             ordering,
             table_index,
-        }))
+        })
     }
 
     fn visit_table_atomic_rmw_cmpxchg(
@@ -395,10 +394,10 @@ impl VisitAtomic for Teller {
         ordering: Ordering,
         table_index: u32,
     ) -> Self::Output {
-        self.own(Operator::Atomic(AtomicOperator::TableAtomicRmwCmpxchg {
+        self.own_atomic(AtomicOperator::TableAtomicRmwCmpxchg {
             ordering,
             table_index,
-        }))
+        })
     }
 
     fn visit_struct_atomic_get(
@@ -407,11 +406,11 @@ impl VisitAtomic for Teller {
         struct_type_index: u32,
         field_index: u32,
     ) -> Self::Output {
-        self.own(Operator::Atomic(AtomicOperator::StructAtomicGet {
+        self.own_atomic(AtomicOperator::StructAtomicGet {
             ordering,
             struct_type_index,
             field_index,
-        }))
+        })
     }
 
     fn visit_struct_atomic_get_s(
@@ -420,11 +419,11 @@ impl VisitAtomic for Teller {
         struct_type_index: u32,
         field_index: u32,
     ) -> Self::Output {
-        self.own(Operator::Atomic(AtomicOperator::StructAtomicGetS {
+        self.own_atomic(AtomicOperator::StructAtomicGetS {
             ordering,
             struct_type_index,
             field_index,
-        }))
+        })
     }
 
     fn visit_struct_atomic_get_u(
@@ -433,11 +432,11 @@ impl VisitAtomic for Teller {
         struct_type_index: u32,
         field_index: u32,
     ) -> Self::Output {
-        self.own(Operator::Atomic(AtomicOperator::StructAtomicGetU {
+        self.own_atomic(AtomicOperator::StructAtomicGetU {
             ordering,
             struct_type_index,
             field_index,
-        }))
+        })
     }
 
     fn visit_struct_atomic_set(
@@ -446,11 +445,11 @@ impl VisitAtomic for Teller {
         struct_type_index: u32,
         field_index: u32,
     ) -> Self::Output {
-        self.own(Operator::Atomic(AtomicOperator::StructAtomicSet {
+        self.own_atomic(AtomicOperator::StructAtomicSet {
             ordering,
             struct_type_index,
             field_index,
-        }))
+        })
     }
 
     fn visit_struct_atomic_rmw_add(
@@ -459,11 +458,11 @@ impl VisitAtomic for Teller {
         struct_type_index: u32,
         field_index: u32,
     ) -> Self::Output {
-        self.own(Operator::Atomic(AtomicOperator::StructAtomicRmwAdd {
+        self.own_atomic(AtomicOperator::StructAtomicRmwAdd {
             ordering,
             struct_type_index,
             field_index,
-        }))
+        })
     }
 
     fn visit_struct_atomic_rmw_sub(
@@ -472,11 +471,11 @@ impl VisitAtomic for Teller {
         struct_type_index: u32,
         field_index: u32,
     ) -> Self::Output {
-        self.own(Operator::Atomic(AtomicOperator::StructAtomicRmwSub {
+        self.own_atomic(AtomicOperator::StructAtomicRmwSub {
             ordering,
             struct_type_index,
             field_index,
-        }))
+        })
     }
 
     fn visit_struct_atomic_rmw_and(
@@ -485,11 +484,11 @@ impl VisitAtomic for Teller {
         struct_type_index: u32,
         field_index: u32,
     ) -> Self::Output {
-        self.own(Operator::Atomic(AtomicOperator::StructAtomicRmwAnd {
+        self.own_atomic(AtomicOperator::StructAtomicRmwAnd {
             ordering,
             struct_type_index,
             field_index,
-        }))
+        })
     }
 
     fn visit_struct_atomic_rmw_or(
@@ -498,11 +497,11 @@ impl VisitAtomic for Teller {
         struct_type_index: u32,
         field_index: u32,
     ) -> Self::Output {
-        self.own(Operator::Atomic(AtomicOperator::StructAtomicRmwOr {
+        self.own_atomic(AtomicOperator::StructAtomicRmwOr {
             ordering,
             struct_type_index,
             field_index,
-        }))
+        })
     }
 
     fn visit_struct_atomic_rmw_xor(
@@ -511,11 +510,11 @@ impl VisitAtomic for Teller {
         struct_type_index: u32,
         field_index: u32,
     ) -> Self::Output {
-        self.own(Operator::Atomic(AtomicOperator::StructAtomicRmwXor {
+        self.own_atomic(AtomicOperator::StructAtomicRmwXor {
             ordering,
             struct_type_index,
             field_index,
-        }))
+        })
     }
 
     fn visit_struct_atomic_rmw_xchg(
@@ -524,11 +523,11 @@ impl VisitAtomic for Teller {
         struct_type_index: u32,
         field_index: u32,
     ) -> Self::Output {
-        self.own(Operator::Atomic(AtomicOperator::StructAtomicRmwXchg {
+        self.own_atomic(AtomicOperator::StructAtomicRmwXchg {
             ordering,
             struct_type_index,
             field_index,
-        }))
+        })
     }
 
     fn visit_struct_atomic_rmw_cmpxchg(
@@ -537,11 +536,11 @@ impl VisitAtomic for Teller {
         struct_type_index: u32,
         field_index: u32,
     ) -> Self::Output {
-        self.own(Operator::Atomic(AtomicOperator::StructAtomicRmwCmpxchg {
+        self.own_atomic(AtomicOperator::StructAtomicRmwCmpxchg {
             ordering,
             struct_type_index,
             field_index,
-        }))
+        })
     }
 
     fn visit_array_atomic_get(
@@ -549,10 +548,10 @@ impl VisitAtomic for Teller {
         ordering: Ordering,
         array_type_index: u32,
     ) -> Self::Output {
-        self.own(Operator::Atomic(AtomicOperator::ArrayAtomicGet {
+        self.own_atomic(AtomicOperator::ArrayAtomicGet {
             ordering,
             array_type_index,
-        }))
+        })
     }
 
     fn visit_array_atomic_get_s(
@@ -560,10 +559,10 @@ impl VisitAtomic for Teller {
         ordering: Ordering,
         array_type_index: u32,
     ) -> Self::Output {
-        self.own(Operator::Atomic(AtomicOperator::ArrayAtomicGetS {
+        self.own_atomic(AtomicOperator::ArrayAtomicGetS {
             ordering,
             array_type_index,
-        }))
+        })
     }
 
     fn visit_array_atomic_get_u(
@@ -571,10 +570,10 @@ impl VisitAtomic for Teller {
         ordering: Ordering,
         array_type_index: u32,
     ) -> Self::Output {
-        self.own(Operator::Atomic(AtomicOperator::ArrayAtomicGetU {
+        self.own_atomic(AtomicOperator::ArrayAtomicGetU {
             ordering,
             array_type_index,
-        }))
+        })
     }
 
     fn visit_array_atomic_set(
@@ -582,10 +581,10 @@ impl VisitAtomic for Teller {
         ordering: Ordering,
         array_type_index: u32,
     ) -> Self::Output {
-        self.own(Operator::Atomic(AtomicOperator::ArrayAtomicSet {
+        self.own_atomic(AtomicOperator::ArrayAtomicSet {
             ordering,
             array_type_index,
-        }))
+        })
     }
 
     fn visit_array_atomic_rmw_add(
@@ -593,10 +592,10 @@ impl VisitAtomic for Teller {
         ordering: Ordering,
         array_type_index: u32,
     ) -> Self::Output {
-        self.own(Operator::Atomic(AtomicOperator::ArrayAtomicRmwAdd {
+        self.own_atomic(AtomicOperator::ArrayAtomicRmwAdd {
             ordering,
             array_type_index,
-        }))
+        })
     }
 
     fn visit_array_atomic_rmw_sub(
@@ -604,10 +603,10 @@ impl VisitAtomic for Teller {
         ordering: Ordering,
         array_type_index: u32,
     ) -> Self::Output {
-        self.own(Operator::Atomic(AtomicOperator::ArrayAtomicRmwSub {
+        self.own_atomic(AtomicOperator::ArrayAtomicRmwSub {
             ordering,
             array_type_index,
-        }))
+        })
     }
 
     fn visit_array_atomic_rmw_and(
@@ -615,10 +614,10 @@ impl VisitAtomic for Teller {
         ordering: Ordering,
         array_type_index: u32,
     ) -> Self::Output {
-        self.own(Operator::Atomic(AtomicOperator::ArrayAtomicRmwAnd {
+        self.own_atomic(AtomicOperator::ArrayAtomicRmwAnd {
             ordering,
             array_type_index,
-        }))
+        })
     }
 
     fn visit_array_atomic_rmw_or(
@@ -626,10 +625,10 @@ impl VisitAtomic for Teller {
         ordering: Ordering,
         array_type_index: u32,
     ) -> Self::Output {
-        self.own(Operator::Atomic(AtomicOperator::ArrayAtomicRmwOr {
+        self.own_atomic(AtomicOperator::ArrayAtomicRmwOr {
             ordering,
             array_type_index,
-        }))
+        })
     }
 
     fn visit_array_atomic_rmw_xor(
@@ -637,10 +636,10 @@ impl VisitAtomic for Teller {
         ordering: Ordering,
         array_type_index: u32,
     ) -> Self::Output {
-        self.own(Operator::Atomic(AtomicOperator::ArrayAtomicRmwXor {
+        self.own_atomic(AtomicOperator::ArrayAtomicRmwXor {
             ordering,
             array_type_index,
-        }))
+        })
     }
 
     fn visit_array_atomic_rmw_xchg(
@@ -648,10 +647,10 @@ impl VisitAtomic for Teller {
         ordering: Ordering,
         array_type_index: u32,
     ) -> Self::Output {
-        self.own(Operator::Atomic(AtomicOperator::ArrayAtomicRmwXchg {
+        self.own_atomic(AtomicOperator::ArrayAtomicRmwXchg {
             ordering,
             array_type_index,
-        }))
+        })
     }
 
     fn visit_array_atomic_rmw_cmpxchg(
@@ -659,17 +658,17 @@ impl VisitAtomic for Teller {
         ordering: Ordering,
         array_type_index: u32,
     ) -> Self::Output {
-        self.own(Operator::Atomic(AtomicOperator::ArrayAtomicRmwCmpxchg {
+        self.own_atomic(AtomicOperator::ArrayAtomicRmwCmpxchg {
             ordering,
             array_type_index,
-        }))
+        })
     }
 
     fn visit_ref_i31_shared(&mut self) -> Self::Output {
-        self.own(Operator::Atomic(AtomicOperator::RefI31Shared))
+        self.own_atomic(AtomicOperator::RefI31Shared)
     }
 
     fn visit_pause(&mut self) -> Self::Output {
-        self.own(Operator::Atomic(AtomicOperator::Pause))
+        self.own_atomic(AtomicOperator::Pause)
     }
 }
