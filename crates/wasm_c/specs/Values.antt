@@ -1,5 +1,5 @@
 -- Specification: Binary Format, Values; Types; Instructions, Control Instructions and Expressions; Modules, Code Section.
-use Rattle.std.specs.Prelude.{◌≡◌, ℕ, ◌+◌, ◌≤◌, ◌<◌, ◌⊎◌, List, [], ◌∷◌, length, ℤ, true, Some, Result, Ok, Err, slice_get}
+use Rattle.std.specs.Prelude.{◌≡◌, ℕ, ◌+◌, ◌≤◌, ◌<◌, ◌⊎◌, List, [], ◌∷◌, length, ℤ, Some, Result, Ok, Err, slice_get}
 use Rattle.std.specs.Int.{w32, w64, cast_unsigned}
 use Rattle.wasm_operators.specs.below.declared.error.Error.{Error}
 use Rattle.wasm_operators.specs.below.declared.message.Message.{Message}
@@ -8,7 +8,6 @@ use Rattle.wasm_operators.specs.below.declared.message.SizeName.TheVariants as s
 use Rattle.wasm_operators.specs.below.declared.types.HeapType.{HeapType}
 use Rattle.wasm_operators.specs.below.declared.types.ValType.{ValType}
 use Rattle.wasm_operators.specs.below.declared.types.ValType.TheVariants as value
-use Rattle.wasm_operators.specs.below.Fault.{HasFault}
 use Rattle.wasm_operators.specs.below.FromReader.{ReadsValue, EncodesReader, ReaderFault}
 use Rattle.wasm_operators.specs.below.Number.{EncodesUnsigned, EncodesSigned, EncodesFixed, EncodesSize}
 use Rattle.wasm_operators.specs.below.Reference.{Reference}
