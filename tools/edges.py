@@ -36,7 +36,7 @@ CITED = [
     (*BENCH, "wasm_imm.proofs", "BranchTables", "table_prefix_code", CODES),
     (*BENCH, "wasm_imm.proofs", "FlagsNumber", "memarg_prefix_code", CODES),
     (*BENCH, "wasm_imm.proofs", "ListLemmas", "each_more", "a longer list of texts"),
-    ("wasm_tests_segments", "wasm_grammars.proofs", "Steps", "begins ends_as fails_at placed stays then", STEPS),
+    ("wasm_tests_sections", "wasm_grammars.proofs", "Steps", "begins ends_as fails_at placed stays then", STEPS),
 ]
 
 

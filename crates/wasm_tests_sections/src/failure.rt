@@ -1,9 +1,14 @@
 use std::alloc::{AllocError, AllocFailed};
 use std::num::ParseIntError;
+use wasm_below::{Error, ErrorKind, Message};
 
 #[derive(Clone, Copy, Debug)]
 pub enum Failure {
     Malformed,
+    NotRead(Error),
+    NotWritten(Message),
+    /// What was written does not read to the same values.
+    Different,
     OutOfMemory,
 }
 
@@ -24,5 +29,23 @@ impl<T: Drop> From<AllocFailed<T>> for Failure {
 impl From<ParseIntError> for Failure {
     fn from(_: ParseIntError) -> Failure {
         Failure::Malformed
+    }
+}
+
+impl From<Error> for Failure {
+    fn from(error: Error) -> Failure {
+        if error.kind() == ErrorKind::OutOfMemory {
+            return Failure::OutOfMemory;
+        }
+        Failure::NotRead(error)
+    }
+}
+
+impl From<Message> for Failure {
+    fn from(message: Message) -> Failure {
+        match message {
+            Message::OutOfMemory => Failure::OutOfMemory,
+            _ => Failure::NotWritten(message),
+        }
     }
 }

@@ -5,13 +5,18 @@ use crate::rows::print_rows;
 use std::io;
 use std::process::ExitCode;
 
+mod constant;
+mod externals;
 mod failure;
 mod modules;
 mod names;
 mod row;
 mod rows;
+mod segments;
 mod subtypes;
+mod tables;
 mod types;
+mod written;
 
 fn main(rt: HostRuntime) -> io::Result<ExitCode> {
     let table = match io::read_to_string(rt.alloc(), rt.reader()) {

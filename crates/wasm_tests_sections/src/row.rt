@@ -1,10 +1,10 @@
 use crate::failure::Failure;
 use std::alloc::Global;
-use wasm_below::BinaryReader;
+use wasm_below::{BinaryReader, WasmFeatures};
 
 #[derive(Clone, Copy)]
 pub struct Row<'r> {
-    /// The type that is read.
+    /// What is read.
     pub call: &'r str,
     pub input: &'r str,
     pub expected: &'r str,
@@ -26,18 +26,22 @@ impl<'r> Row<'r> {
 pub struct Input {
     bytes: Vec<u8>,
     offset: u64,
+    features: WasmFeatures,
 }
 
 impl Input {
-    /// Parses an input: bytes in hexadecimal and `offset=N`, each optional.
+    /// Parses an input: bytes in hexadecimal and `offset=N` and `features=none`, each
+    /// optional.
     pub fn parse(alloc: Global, cell: &str) -> Result<Input, Failure> {
         let mut input = Input {
             bytes: Vec::new(alloc),
             offset: 0,
+            features: WasmFeatures::all(),
         };
         for word in cell.split(' ') {
             match word.split_once('=') {
                 Some(("offset", number)) => input.offset = number.parse::<u64>()?,
+                Some(("features", "none")) => input.features = WasmFeatures::empty(),
                 Some(_) => return Err(Failure::Malformed),
                 None => input.bytes = bytes_of(alloc, word)?,
             }
@@ -49,12 +53,13 @@ impl Input {
         if self.bytes.len() > BinaryReader::max_data_len(self.offset) {
             return Err(Failure::Malformed);
         }
-        Ok(BinaryReader::new(self.bytes.as_slice(), self.offset))
+        Ok(BinaryReader::new_features(self.bytes.as_slice(), self.offset, self.features))
     }
 }
 
 fn bytes_of(alloc: Global, word: &str) -> Result<Vec<u8>, Failure> {
     let mut bytes = Vec::new(alloc);
+    bytes.reserve_exact(word.len() / 2)?;
     let mut high = None;
     for letter in word.as_bytes() {
         let digit = digit_of(*letter)?;

@@ -1,9 +1,13 @@
+use crate::externals::write_external;
 use crate::failure::{Failure, Written};
 use crate::modules::write_sections;
 use crate::names::write_names;
 use crate::row::{Input, Row};
+use crate::segments::{write_data, write_element};
 use crate::subtypes::write_matching;
+use crate::tables::{write_global, write_table};
 use crate::types::write_rec_group;
+use crate::written::write_rewritten;
 use std::alloc::Global;
 use std::io::{self, Print};
 
@@ -20,9 +24,11 @@ pub fn print_rows<R: Print>(rt: &R, alloc: Global, table: &str) -> io::Result<()
         differ: 0,
         out_of_memory: 0,
     };
+    let mut text = String::new(alloc);
     for line in table.lines() {
         if !line.is_empty() && !line.starts_with('#') {
-            counts.compare(rt, alloc, line)?;
+            text.clear();
+            counts.compare(rt, alloc, &mut text, line)?;
         }
     }
     print!(rt; "{} rows, {} differ", counts.rows, counts.differ)?;
@@ -33,12 +39,18 @@ pub fn print_rows<R: Print>(rt: &R, alloc: Global, table: &str) -> io::Result<()
 }
 
 impl Rows {
-    fn compare<R: Print>(&mut self, rt: &R, alloc: Global, line: &str) -> io::Result<()> {
+    /// Evaluates a row, with `text` for its text, and prints it if it differs.
+    fn compare<R: Print>(
+        &mut self,
+        rt: &R,
+        alloc: Global,
+        text: &mut String,
+        line: &str,
+    ) -> io::Result<()> {
         self.rows = self.rows.saturating_add(1);
-        let mut text = String::new(alloc);
         let ended = match Row::of(line) {
             None => Err(Failure::Malformed),
-            Some(row) => match evaluate(alloc, &row, &mut text) {
+            Some(row) => match evaluate(alloc, &row, text) {
                 Ok(()) if text.as_str() == row.expected => return Ok(()),
                 Err(Failure::OutOfMemory) => {
                     self.out_of_memory = self.out_of_memory.saturating_add(1);
@@ -62,10 +74,15 @@ fn evaluate(alloc: Global, row: &Row<'_>, text: &mut String) -> Written {
         "rec_group" => write_rec_group(alloc, text, &mut reader),
         "names" => write_names(alloc, text, reader),
         "sections" => write_sections(alloc, text, &reader),
+        "written" => write_rewritten(alloc, text, &reader),
+        "data" => write_data(alloc, text, &mut reader),
+        "element" => write_element(alloc, text, &mut reader),
+        "global" => write_global(alloc, text, &mut reader),
+        "table" => write_table(alloc, text, &mut reader),
         "types" => write_matching(alloc, text, &mut reader, ""),
         call => match call.split_once(' ') {
             Some(("types", indices)) => write_matching(alloc, text, &mut reader, indices),
-            _ => Err(Failure::Malformed),
+            _ => write_external(alloc, text, call, &mut reader),
         },
     }
 }

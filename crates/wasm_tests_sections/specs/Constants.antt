@@ -1,7 +1,7 @@
 use Rattle.std.specs.Prelude.{ℕ}
 use Rattle.wasm_grammars.specs.Grammar.{Grammar, done, here}
 use Rattle.wasm_grammars.specs.Parts.{◌>>=◌, byte, u32}
-use Rattle.wasm_tests_segments.specs.declared.constant.Constant.{Constant}
+use Rattle.wasm_tests_sections.specs.declared.constant.Constant.{Constant}
 
 abbrev pub constant : Grammar Constant
 constant = do

@@ -1,4 +1,5 @@
-use crate::failure::Failure;
+//! Modules that are read as values, and written again.
+use crate::failure::{Failure, Written};
 use std::alloc::Global;
 use wasm_below::{BinaryReader, WasmFeatures};
 use wasm_encode_modules::{SectionContents, write_module};
@@ -20,9 +21,17 @@ const EXPORTS: u8 = 7;
 
 const TAGS: u8 = 13;
 
+/// Writes the bytes of a module that is read as values and written again.
+pub fn write_rewritten(alloc: Global, text: &mut String, reader: &BinaryReader<'_>) -> Written {
+    let module = rewrite(alloc, reader.clone())?;
+    for byte in module.as_slice() {
+        write!(text, "{byte:02x}")?;
+    }
+    Ok(())
+}
+
 /// Reads the sections of a module, writes the items that are read as values, and writes the module.
-pub fn rewrite(alloc: Global, bytes: &[u8]) -> Result<Vec<u8>, Failure> {
-    let reader = BinaryReader::new(bytes, 0);
+fn rewrite(alloc: Global, reader: BinaryReader<'_>) -> Result<Vec<u8>, Failure> {
     let features = reader.features();
     let sections: Members<Section<'_>> = read_sections(alloc, reader)?;
     let mut contents = Vec::new(alloc);

@@ -1,7 +1,7 @@
 use Rattle.std.proofs.Common.{sym, ap}
 use Rattle.wasm_grammars.proofs.Steps.{begins, then, placed, fails_at, ends_as, stays}
-use Rattle.wasm_tests_segments.specs.Constants.{constant, at_offset}
-use Rattle.wasm_tests_segments.proofs.constant.ConstantRead.read_from.Goals as goal
+use Rattle.wasm_tests_sections.specs.Constants.{constant, at_offset}
+use Rattle.wasm_tests_sections.proofs.constant.ConstantRead.read_from.Goals as goal
 
 pub returns-in_err-opcode : goal.returns-in_err-opcode
 returns-in_err-opcode c = stays _ c.from_residual.ensures.1 (fails_at (placed (begins constant c.clone-ahead.ensures)) c.in_err-opcode.ensures)

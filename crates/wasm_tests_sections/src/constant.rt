@@ -1,4 +1,4 @@
-ghost use Rattle.wasm_tests_segments.specs.Constants.{constant};
+ghost use Rattle.wasm_tests_sections.specs.Constants.{constant};
 
 use std::alloc::Global;
 use wasm_below::{BinaryReader, Result};
