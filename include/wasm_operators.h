@@ -191,7 +191,7 @@ enum wasm_refused {
   WASM_REFUSED_COUNTS_DIFFER = 109, /* of bodies and functions */
   WASM_REFUSED_NO_FUNCTION = 110, /* the module defines none with the index */
   WASM_REFUSED_NO_BODY = 111, /* all bodies were read */
-  WASM_REFUSED_NOT_WRITABLE = 112 /* no bytes encode an operator with these fields */
+  WASM_REFUSED_NOT_WRITABLE = 112 /* no bytes encode a value with these fields */
 };
 
 /* The opcode, or the subopcode plus 65536 times the prefix byte. TypedSelect has the shape SELECT_MANY if it has no
@@ -897,6 +897,12 @@ typedef struct wasm_type {
   uint32_t index; /* the type index of a reference type, else 0 */
 } wasm_type;
 
+/* A declaration of locals: 12 bytes without padding. */
+typedef struct wasm_locals {
+  uint32_t count; /* how many locals */
+  wasm_type ty; /* their type */
+} wasm_locals;
+
 /* A catch of a try_table, or a clause of a resume: 12 bytes without padding. */
 typedef struct wasm_handler {
   uint32_t kind; /* enum wasm_catch or enum wasm_clause */
@@ -1047,6 +1053,26 @@ uint32_t wasm_operator_text_name(const uint8_t *bytes, size_t bytes_length, uint
 uint32_t wasm_encode_operator(const wasm_operator *op, const uint8_t *bytes, size_t bytes_length, uint64_t offset,
                               uint32_t features, uint8_t *out, size_t out_length, size_t *length,
                               wasm_refusal *refusal);
+
+/* Writes declarations of locals in their shortest encoding: how many declarations there are, and each of them. So begins
+ * a function body. `*length` is the length of the encoding in bytes. If it is greater than `out_length`, the call fails
+ * with WASM_REFUSED_NO_ROOM, and only `*length` and `*refusal` change. Fails with WASM_REFUSED_NOT_WRITABLE if no value
+ * type has the fields of a `ty`, or there are 2^32 declarations or more. Does not check how many locals there are in
+ * all. Does not allocate. */
+uint32_t wasm_encode_locals(const wasm_locals *locals, size_t locals_length, uint8_t *out, size_t out_length,
+                            size_t *length, wasm_refusal *refusal);
+
+/* Writes an entry of a code section in its shortest encoding: the size of a body, and the body, which is declarations of
+ * locals and the bytes of its operators. `operators` are copied and not checked; wasm_encode_operator writes them. Fails
+ * like wasm_encode_locals, and with WASM_REFUSED_NOT_WRITABLE for a size of 2^32 or more. Does not allocate. */
+uint32_t wasm_encode_body(const wasm_locals *locals, size_t locals_length, const uint8_t *operators,
+                          size_t operators_length, uint8_t *out, size_t out_length, size_t *length,
+                          wasm_refusal *refusal);
+
+/* Writes a section in its shortest encoding: its number (10 of a code section), its size, the number of its entries, and
+ * `entries`, which are copied and not checked. Fails like wasm_encode_body. Does not allocate. */
+uint32_t wasm_encode_section(uint8_t id, uint32_t count, const uint8_t *entries, size_t entries_length, uint8_t *out,
+                             size_t out_length, size_t *length, wasm_refusal *refusal);
 
 /* Opens the bodies of the module `bytes`: `*bodies` is the place before the first. Fails with
  * WASM_REFUSED_NOT_A_MODULE, WASM_REFUSED_IMPORT_KIND, WASM_REFUSED_TYPE_KIND, WASM_REFUSED_COUNTS_DIFFER, or the
@@ -1798,7 +1824,7 @@ static inline const char *wasm_c_error_text(uint32_t number) {
     case WASM_REFUSED_NO_BODY:
       return "all bodies were read";
     case WASM_REFUSED_NOT_WRITABLE:
-      return "no bytes encode an operator with these fields";
+      return "no bytes encode a value with these fields";
     default:
       return NULL;
   }

@@ -17,16 +17,19 @@ The lines of the input have cells with tabs between them:
     module  HEX  FUNCTIONS            a module and its functions: the index, the offset and the name of each
     function  HEX  FUNCTIONS          the same with the length and the type index of each
     encode  HEX  AT  SHORTEST         a body with an operator, its offset, and its shortest encoding
+    code    LOCALS  HEX  SECTION      declarations of locals, the bytes of operators, and the code section with this body
 
 The README of the program says which bodies it takes. The texts are from crates/wasm_tests_bodies/stdin and
 crates/wasm_objdump/data, the encodings from crates/wasm_tests_encode/stdin. values.tsv of the
-program and FUNCTIONS are made by hand.
+program, FUNCTIONS and CODE are made by hand, code sections by the rules of the standard (Binary Format,
+Modules, Code Section).
 """
 
 import re
 
 from shared.arguments import read
 from shared.crates import TOP
+from shared.leb128 import unsigned
 from shared.tables import rows_of
 from shared.written import write_or_check
 
@@ -75,6 +78,16 @@ SHARED, NULLABLE, REFERENCE = 256, 512, 1024
 VALUES = CRATE / "values.tsv"
 # What the text of the first module in crates/wasm_tests_bodies/stdin says of its functions.
 FUNCTIONS = "1 102 6 1 main;2 109 4 2 other;"
+# For each declaration how many locals, and the kind and the index of their type; then the bytes of the declarations, and
+# of the operators.
+CODE = (
+    ("", "00", "0b"),
+    ("3 126 0;", "01037e", "20000b"),
+    ("0 127 0;127 125 0;128 123 0;4294967295 124 0;", "04007f7f7d80017bffffffff0f7c", "0b"),
+    ("1 1648 0;1 1136 0;1 1904 0;1 1392 0;", "0401700164700165700164" + "6570", "0b"),
+    ("1 1025 5;1 1537 200;1 1026 5;1 1538 1048575;", "0401640501" + "63c8010164620501" + "6362ffff3f", "0b"),
+    ("", "00", "01" * 200 + "0b"),
+)
 
 
 def rows(text):
@@ -171,12 +184,22 @@ def encode_lines(text):
     return lines
 
 
+def code_lines():
+    lines = []
+    for locals_, declared, operators in CODE:
+        body = bytes.fromhex(declared + operators)
+        entries = unsigned(1) + unsigned(len(body)) + body
+        lines.append(f"code\t{locals_}\t{operators}\t{(bytes([10]) + unsigned(len(entries)) + entries).hex()}")
+    return lines
+
+
 def small_lines(text):
     return {
         "wasm_open_bodies, wasm_next_body, wasm_function_name": [*function_lines(text), *module_lines()],
         "wasm_operator_text, wasm_operator_text_name": text_lines(text),
         "wasm_read_value": value_lines(),
         "wasm_encode_operator": encode_lines(ENCODINGS.read_text(encoding="utf-8")),
+        "wasm_encode_locals, wasm_encode_body, wasm_encode_section": code_lines(),
     }
 
 

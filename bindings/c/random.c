@@ -174,6 +174,38 @@ static void try_encoding(const uint8_t *bytes, size_t length) {
   require(refused == WASM_REFUSED_WRONG_FRAME || (refused == 0 && reader.position == written && is_same(again, op)), "wasm_encode_operator");
 }
 
+/* Writes a body with random locals, and reads the locals again. */
+static void try_locals(const uint8_t *bytes, size_t length) {
+  wasm_locals locals[4];
+  size_t count = below(5), written = 0;
+  for (size_t i = 0; i < count; i++) {
+    locals[i].count = (uint32_t)rare(32);
+    locals[i].ty.kind = (uint32_t)(below(4) == 0 ? 1024 * below(2) + 512 * below(2) + 256 * below(2) + 0x60 + below(32) : 0x7b + below(5));
+    locals[i].ty.index = (uint32_t)(below(4) == 0 ? rare(32) : 0);
+  }
+  uint8_t out[TEXT], kept[TEXT];
+  fill(out, sizeof out);
+  memcpy(kept, out, sizeof out);
+  wasm_refusal refusal;
+  size_t capacity = below(sizeof out), operators = length < 16 ? length : 16;
+  uint32_t refused = wasm_encode_body(locals, count, bytes, operators, out, capacity, &written, &refusal);
+  require(refused == refusal.number && refusal.offset == 0, "wasm_encode_body");
+  if (refused != 0) {
+    require(memcmp(out, kept, sizeof out) == 0 && (refused == WASM_REFUSED_NOT_WRITABLE || written > capacity), "wasm_encode_body");
+    return;
+  }
+  require(written <= capacity && memcmp(out + written, kept + written, sizeof out - written) == 0, "wasm_encode_body");
+  wasm_reader reader = {0, 0, 0, WASM_FEATURES_ALL, 0};
+  wasm_value value;
+  require(wasm_read_value(out, written, &reader, WASM_VALUE_VAR_U32, 0, &value, &refusal) == 0 && value.number == written - reader.position, "wasm_encode_body");
+  require(wasm_read_value(out, written, &reader, WASM_VALUE_VAR_U32, 0, &value, &refusal) == 0 && value.number == count, "wasm_encode_body");
+  for (size_t i = 0; i < count; i++) {
+    require(wasm_read_value(out, written, &reader, WASM_VALUE_LOCAL, 0, &value, &refusal) == 0 && value.number == locals[i].count, "wasm_encode_body");
+    require(value.kind == locals[i].ty.kind && value.index == locals[i].ty.index, "wasm_encode_body");
+  }
+  require(memcmp(out + reader.position, bytes, operators) == 0 && reader.position + operators == written, "wasm_encode_body");
+}
+
 int main(int argc, char **argv) {
   if (argc < 3) {
     fprintf(stderr, "usage: random CALLS MODULE..\n");
@@ -192,6 +224,7 @@ int main(int argc, char **argv) {
     try_texts(bytes, length);
     try_reader(bytes, length);
     try_encoding(bytes, length);
+    try_locals(bytes, length);
   }
   printf("%lu times each call on random bytes\n", calls);
   return 0;

@@ -1,7 +1,7 @@
 /* rows ROWS: calls the library on the rows of crates/wasm_tests_c/stdin, and compares the results.
  *
  * tools/c_answers.py describes the rows. Bodies are read by wasm_next_plain, as constant expressions and as locals; lists
- * are left to replay.c. The last line counts rows and differences; with differences the status is 1. */
+ * are left to replay.c. The code sections of modules are written again. The last line counts rows and differences; with differences the status is 1. */
 #include "wasm_operators.h"
 
 #include <inttypes.h>
@@ -10,7 +10,7 @@
 #include <stdlib.h>
 #include <string.h>
 
-enum { CELLS = 9, LONGEST_TEXT = 4096 };
+enum { CELLS = 9, LONGEST_TEXT = 4096, DECLARATIONS = 16 };
 
 static size_t rows, differ;
 
@@ -219,6 +219,89 @@ static void look_at_encoding(const char *hex, uint64_t at, const char *shortest)
   free(bytes);
 }
 
+/* Writes a body again as an entry of a code section. Returns the length of the entry, or 0 if a call fails or writes other
+ * locals. */
+static size_t write_entry(const uint8_t *body, size_t length, uint8_t *out, size_t capacity) {
+  wasm_locals locals[DECLARATIONS];
+  uint8_t declared[14 * DECLARATIONS];
+  wasm_reader reader = reader_of(WASM_FEATURES_ALL);
+  wasm_value count, local;
+  wasm_refusal refusal;
+  size_t written = 0;
+  if (wasm_read_value(body, length, &reader, WASM_VALUE_VAR_U32, 0, &count, &refusal) != 0) return 0;
+  if (count.number > DECLARATIONS) exit(2);
+  for (size_t i = 0; i < count.number; i++) {
+    if (wasm_read_value(body, length, &reader, WASM_VALUE_LOCAL, 0, &local, &refusal) != 0) return 0;
+    locals[i].count = (uint32_t)local.number;
+    locals[i].ty.kind = local.kind;
+    locals[i].ty.index = local.index;
+  }
+  size_t end = (size_t)reader.position, number = (size_t)count.number;
+  if (wasm_encode_locals(locals, number, declared, sizeof declared, &written, &refusal) != 0) return 0;
+  if (written != end || memcmp(declared, body, end) != 0) return 0;
+  if (wasm_encode_body(locals, number, body + end, length - end, out, capacity, &written, &refusal) != 0) return 0;
+  return written;
+}
+
+/* Compares the code section of a module by wabt with the section that the calls write; also with an array that is one
+ * byte too short. */
+static void look_at_code(const char *hex) {
+  size_t length, entries_length = 0, written = 0, again = 0, end = 0;
+  uint8_t *bytes = bytes_of(hex, &length), *entries = malloc(length + 1), *out = malloc(length + 1), *kept = calloc(length + 1, 1);
+  if (entries == NULL || out == NULL || kept == NULL) exit(2);
+  wasm_bodies bodies;
+  wasm_body body;
+  wasm_refusal refusal;
+  uint32_t count = 0;
+  text found = {"", 0};
+  if (wasm_open_bodies(bytes, length, &bodies, &refusal) != 0) exit(2);
+  while (wasm_next_body(bytes, length, &bodies, &body, &refusal) == 0) {
+    entries_length += write_entry(bytes + body.offset, (size_t)body.length, entries + entries_length, length - entries_length);
+    end = (size_t)(body.offset + body.length);
+    count++;
+  }
+  uint32_t refused = wasm_encode_section(10, count, entries, entries_length, out, length, &written, &refusal);
+  add(&found, "%" PRIu32 " %d", refused, written <= end && memcmp(out, bytes + end - written, written) == 0);
+  refused = wasm_encode_section(10, count, entries, entries_length, kept, written - 1, &again, &refusal);
+  add(&found, " %" PRIu32 " %d %d", refused, again == written, memchr(kept, 10, length) == NULL);
+  compare("wasm_encode_section", &found, "0 1 102 1 1");
+  free(kept);
+  free(out);
+  free(entries);
+  free(bytes);
+}
+
+/* Writes a code section with one body. LOCALS has for each declaration how many locals, and the kind and the index of
+ * their type. Also with arrays that are one byte too short, and for a type that is no value type. */
+static void look_at_section(const char *declarations, const char *hex, const char *expected) {
+  wasm_locals locals[DECLARATIONS];
+  static const wasm_locals none = {1, {WASM_KIND_EMPTY, 0}};
+  static const uint8_t zeros[256] = {0};
+  uint8_t body[256], section[256], kept[256] = {0};
+  size_t count = 0, length, body_length = 0, written = 0, again = 0;
+  uint8_t *operators = bytes_of(hex, &length);
+  wasm_refusal refusal;
+  text found = {"", 0}, wanted = {"", 0};
+  for (const char *at = declarations; *at != '\0'; at = strchr(at, ';') + 1) {
+    wasm_locals *it = &locals[count++];
+    if (count > DECLARATIONS || sscanf(at, "%" SCNu32 " %" SCNu32 " %" SCNu32, &it->count, &it->ty.kind, &it->ty.index) != 3) exit(2);
+  }
+  wasm_encode_body(locals, count, operators, length, body, sizeof body, &body_length, &refusal);
+  wasm_encode_section(10, 1, body, body_length, section, sizeof section, &written, &refusal);
+  for (size_t k = 0; k < written; k++) add(&found, "%02x", section[k]);
+  uint32_t refused = wasm_encode_section(10, 1, body, body_length, kept, written - 1, &again, &refusal);
+  add(&found, " %" PRIu32 " %d", refused, again == written);
+  refused = wasm_encode_body(locals, count, operators, length, kept, body_length - 1, &again, &refusal);
+  add(&found, " %" PRIu32 " %d", refused, again == body_length);
+  refused = wasm_encode_locals(&none, 1, kept, sizeof kept, &again, &refusal);
+  add(&found, " %" PRIu32, refused);
+  refused = wasm_encode_body(&none, 1, operators, length, kept, sizeof kept, &again, &refusal);
+  add(&found, " %" PRIu32 " %d %d", refused, again == body_length, memcmp(kept, zeros, sizeof kept) == 0);
+  add(&wanted, "%s 102 1 102 1 112 112 1 1", expected);
+  compare("wasm_encode_section", &found, wanted.bytes);
+  free(operators);
+}
+
 static void look_at(char *line) {
   char *cells[CELLS] = {NULL};
   size_t count = 0;
@@ -235,10 +318,13 @@ static void look_at(char *line) {
     look_at_value(cells[3], (uint32_t)strtoul(cells[1], NULL, 10), strtoull(cells[2], NULL, 10), cells[4]);
   } else if (strcmp(cells[0], "module") == 0 && count == 3) {
     look_at_module(cells[1], 0, cells[2]);
+    look_at_code(cells[1]);
   } else if (strcmp(cells[0], "function") == 0 && count == 3) {
     look_at_module(cells[1], 1, cells[2]);
   } else if (strcmp(cells[0], "encode") == 0 && count == 4) {
     look_at_encoding(cells[1], strtoull(cells[2], NULL, 10), cells[3]);
+  } else if (strcmp(cells[0], "code") == 0 && count == 4) {
+    look_at_section(cells[1], cells[2], cells[3]);
   } else if (strcmp(cells[0], "list") != 0) {
     printf("a row of an unknown sort: %s\n", cells[0]);
     differ++;

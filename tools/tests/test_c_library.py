@@ -8,7 +8,8 @@ from paths import TOP
 
 
 def words(text):
-    return re.findall(r"\w+|[^\w\s]", text.replace(",\n", "\n"))
+    # (a list on several lines ends with a comma)
+    return re.findall(r"\w+|[^\w\s]", re.sub(r",(\s*[)\]}])", r"\1", text))
 
 
 class Exports(unittest.TestCase):

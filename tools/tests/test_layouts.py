@@ -7,13 +7,14 @@ from shared.crates import TOP
 
 HEADER = re.sub(r"/\*.*?\*/", "", (TOP / "include/wasm_operators.h").read_text(encoding="utf-8"), flags=re.S)
 NATIVE = re.sub(r"//.*", "", (TOP / "bindings/rust/src/native.rs").read_text(encoding="utf-8"))
-FILES = [path for name in ("wasm_view", "wasm_c", "wasm_module") for path in TOP.glob(f"crates/{name}/src/**/*.rt")]
+FILES = [path for name in ("wasm_view", "wasm_encode_view", "wasm_c", "wasm_module") for path in TOP.glob(f"crates/{name}/src/**/*.rt")]
 RATTLE = "\n".join(path.read_text(encoding="utf-8") for path in FILES)
 INTEGERS = {f"uint{width}_t": f"u{width}" for width in (8, 16, 32, 64)} | {"size_t": "usize"}
 # The structs of the header, with their names in Rust.
 STRUCTS = {
     "wasm_operator": "PlainOperator", "wasm_refusal": "Refusal", "wasm_reader": "PlainReader", "wasm_type": "PlainType",
     "wasm_handler": "PlainHandler", "wasm_value": "PlainValue", "wasm_bodies": "PlainBodies", "wasm_body": "PlainBody",
+    "wasm_locals": "PlainLocals",
 }
 
 
@@ -31,15 +32,29 @@ def in_rattle(name):
     return found[1] if found else exported
 
 
+def within(field, fields):
+    """Returns the fields of a struct that is a field itself."""
+    return [(f"{field}.{name}", kind) for name, kind in fields]
+
+
 def fields_of_c(name):
     body = HEADER.split(f"typedef struct {name} {{")[1].split("}")[0]
     found = re.findall(r"(\w+) (\w+)(?:\[(\d+)\])?;", body)
-    return [(field, f"[{INTEGERS[kind]}; {count}]" if count else INTEGERS[kind]) for kind, field, count in found]
+    out = []
+    for kind, field, count in found:
+        if kind in STRUCTS:
+            out += within(field, fields_of_c(kind))
+        else:
+            out.append((field, f"[{INTEGERS[kind]}; {count}]" if count else INTEGERS[kind]))
+    return out
 
 
 def fields_of_rust(text, name):
     body = text.split(f"pub struct {name} {{")[1].split("\n}")[0]
-    return re.findall(r"pub (\w+): ([^,]+),", re.sub(r"//.*", "", body))
+    out = []
+    for field, kind in re.findall(r"pub (\w+): ([^,]+),", re.sub(r"//.*", "", body)):
+        out += within(field, fields_of_rust(text, kind)) if kind[0].isupper() else [(field, kind)]
+    return out
 
 
 def calls_of_c():

@@ -1,7 +1,8 @@
 //! Operators, function bodies and code sections as bytes, in the style of `wasm-encoder`.
 
-use crate::native;
+use crate::native::{self, PlainLocals, PlainType};
 use crate::plain::plain_of;
+use crate::shapes::value_numbers;
 use crate::{BlockType, Catch, Error, Handle, Operator, Result, ValType, WasmFeatures};
 
 /// More bytes than an operator without a list has.
@@ -59,18 +60,19 @@ impl Encode for Operator<'_> {
             }
             Err(refusal) => {
                 sink.truncate(start);
-                Err(error_of(refusal))
+                Err(error_of(refusal, "no bytes encode the operator"))
             }
         }
     }
 }
 
-/// The library's number of an operator that no bytes encode.
+/// The library's number of a value that no bytes encode.
 const NOT_WRITABLE: u32 = 112;
 
-fn error_of(refusal: native::Refusal) -> Error {
+/// Returns the error with this text if no bytes encode the value, else the library's.
+fn error_of(refusal: native::Refusal, not_writable: &'static str) -> Error {
     if refusal.number == NOT_WRITABLE {
-        return Error::new("no bytes encode the operator", 0);
+        return Error::new(not_writable, 0);
     }
     Error::from(refusal)
 }
@@ -133,9 +135,12 @@ fn write_handle(handle: &Handle, sink: &mut Vec<u8>) {
     }
 }
 
+fn count_of(length: usize) -> Result<u32> {
+    u32::try_from(length).map_err(|_| Error::new("a list is too long", 0))
+}
+
 fn write_count(length: usize, sink: &mut Vec<u8>) -> Result<()> {
-    let count = u32::try_from(length).map_err(|_| Error::new("a list is too long", 0))?;
-    count.encode(sink)
+    count_of(length)?.encode(sink)
 }
 
 /// Appends an operator that owns a list, from which the library reads the list. Appends nothing for other operators.
@@ -202,26 +207,49 @@ fn write_listed(op: &Operator<'_>, opcode: u32, sink: &mut Vec<u8>) -> Result<()
 /// assert_eq!(bytes, [8, 1, 6, 1, 1, 0x7e, 0x20, 0, 0x0b]);
 /// # Ok::<(), wasm_operators::Error>(())
 /// ```
-#[derive(Clone, Debug, Default)]
+#[derive(Clone, Debug)]
 pub struct FunctionBuilder {
+    locals: Vec<PlainLocals>,
+    /// The declarations of locals, and from `start` on the operators.
     bytes: Vec<u8>,
+    start: usize,
+}
+
+/// A body without locals and operators.
+impl Default for FunctionBuilder {
+    fn default() -> FunctionBuilder {
+        FunctionBuilder {
+            locals: Vec::new(),
+            bytes: vec![0],
+            start: 1,
+        }
+    }
 }
 
 impl FunctionBuilder {
-    /// Creates a body with these locals: how many, and their type.
+    /// Creates a body with these locals: how many, and their type. The library writes them.
     pub fn new<L>(locals: L) -> Result<FunctionBuilder>
     where
         L: IntoIterator<Item = (u32, ValType)>,
         L::IntoIter: ExactSizeIterator,
     {
-        let locals = locals.into_iter();
+        let locals = locals
+            .into_iter()
+            .map(|(count, ty)| {
+                let (kind, index) = value_numbers(ty)?;
+                let ty = PlainType { kind, index };
+                Ok(PlainLocals { count, ty })
+            })
+            .collect::<Result<Vec<_>>>()?;
         let mut bytes = Vec::new();
-        write_count(locals.len(), &mut bytes)?;
-        for (count, ty) in locals {
-            count.encode(&mut bytes)?;
-            ty.encode(&mut bytes)?;
-        }
-        Ok(FunctionBuilder { bytes })
+        native::encode_locals(&locals, &mut bytes)
+            .map_err(|refusal| error_of(refusal, "no bytes encode the locals"))?;
+        let start = bytes.len();
+        Ok(FunctionBuilder {
+            locals,
+            bytes,
+            start,
+        })
     }
 
     /// Appends an operator. The last one has to be an `end`.
@@ -242,12 +270,11 @@ impl FunctionBuilder {
     }
 }
 
-/// Writes the size and the body.
+/// Writes the size and the body, by the library.
 impl Encode for FunctionBuilder {
     fn encode(&self, sink: &mut Vec<u8>) -> Result<()> {
-        write_count(self.bytes.len(), sink)?;
-        sink.extend_from_slice(&self.bytes);
-        Ok(())
+        native::encode_body(&self.locals, &self.bytes[self.start..], sink)
+            .map_err(|refusal| error_of(refusal, "a function body is too long"))
     }
 }
 
@@ -282,14 +309,17 @@ impl CodeSection {
     }
 }
 
-/// Writes the size, the number of bodies, and the bodies. The section's number, 10, precedes them.
+/// The number of a code section.
+const CODE: u8 = 10;
+
+/// Writes the size, the number of bodies, and the bodies, by the library. The section's number, 10, precedes them.
 impl Encode for CodeSection {
     fn encode(&self, sink: &mut Vec<u8>) -> Result<()> {
-        let mut count = Vec::new();
-        write_count(self.count, &mut count)?;
-        write_count(count.len() + self.bytes.len(), sink)?;
-        sink.extend_from_slice(&count);
-        sink.extend_from_slice(&self.bytes);
+        let count = count_of(self.count)?;
+        let start = sink.len();
+        native::encode_section(CODE, count, &self.bytes, sink)
+            .map_err(|refusal| error_of(refusal, "a code section is too long"))?;
+        sink.remove(start);
         Ok(())
     }
 }

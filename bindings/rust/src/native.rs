@@ -107,6 +107,14 @@ pub struct PlainBodies {
     pub reserved: u32,
 }
 
+/// `wasm_locals` of the header.
+#[repr(C)]
+#[derive(Clone, Copy, Debug, PartialEq, Eq)]
+pub struct PlainLocals {
+    pub count: u32,
+    pub ty: PlainType,
+}
+
 /// `wasm_body` of the header.
 #[repr(C)]
 #[derive(Clone, Copy, Debug, Default, PartialEq, Eq)]
@@ -348,6 +356,34 @@ unsafe extern "C" {
         bytes_length: usize,
         offset: u64,
         features: u32,
+        out: *mut u8,
+        out_length: usize,
+        length: *mut usize,
+        refusal: *mut Refusal,
+    ) -> u32;
+    fn wasm_encode_locals(
+        locals: *const PlainLocals,
+        locals_length: usize,
+        out: *mut u8,
+        out_length: usize,
+        length: *mut usize,
+        refusal: *mut Refusal,
+    ) -> u32;
+    fn wasm_encode_body(
+        locals: *const PlainLocals,
+        locals_length: usize,
+        operators: *const u8,
+        operators_length: usize,
+        out: *mut u8,
+        out_length: usize,
+        length: *mut usize,
+        refusal: *mut Refusal,
+    ) -> u32;
+    fn wasm_encode_section(
+        id: u8,
+        count: u32,
+        entries: *const u8,
+        entries_length: usize,
         out: *mut u8,
         out_length: usize,
         length: *mut usize,
@@ -740,6 +776,91 @@ pub fn encode_operator(
     } else {
         Err(refusal)
     }
+}
+
+/// Appends the bytes of a call to `sink`. The call writes to the space that it gets, if the bytes fit. It sets the number
+/// of bytes, and returns 0 or the number of its error.
+fn append(
+    sink: &mut Vec<u8>,
+    call: impl Fn(&mut [u8], &mut usize, &mut Refusal) -> u32,
+) -> Result<(), Refusal> {
+    let start = sink.len();
+    let mut length = 0;
+    let mut refusal = Refusal::default();
+    if call(&mut [], &mut length, &mut refusal) == NO_ROOM {
+        sink.resize(start + length, 0);
+        call(&mut sink[start..], &mut length, &mut refusal);
+    }
+    if refusal.number == 0 {
+        Ok(())
+    } else {
+        sink.truncate(start);
+        Err(refusal)
+    }
+}
+
+/// Appends declarations of locals: how many, and each of them.
+pub fn encode_locals(locals: &[PlainLocals], sink: &mut Vec<u8>) -> Result<(), Refusal> {
+    append(sink, |out, length, refusal| {
+        // SAFETY: see the head.
+        unsafe {
+            wasm_encode_locals(
+                locals.as_ptr(),
+                locals.len(),
+                out.as_mut_ptr(),
+                out.len(),
+                length,
+                refusal,
+            )
+        }
+    })
+}
+
+/// Appends the size of a body, its declarations of locals and the bytes of its operators.
+pub fn encode_body(
+    locals: &[PlainLocals],
+    operators: &[u8],
+    sink: &mut Vec<u8>,
+) -> Result<(), Refusal> {
+    append(sink, |out, length, refusal| {
+        // SAFETY: see the head.
+        unsafe {
+            wasm_encode_body(
+                locals.as_ptr(),
+                locals.len(),
+                operators.as_ptr(),
+                operators.len(),
+                out.as_mut_ptr(),
+                out.len(),
+                length,
+                refusal,
+            )
+        }
+    })
+}
+
+/// Appends a section: its number, its size, the number of its entries, and the bytes of these.
+pub fn encode_section(
+    id: u8,
+    count: u32,
+    entries: &[u8],
+    sink: &mut Vec<u8>,
+) -> Result<(), Refusal> {
+    append(sink, |out, length, refusal| {
+        // SAFETY: see the head.
+        unsafe {
+            wasm_encode_section(
+                id,
+                count,
+                entries.as_ptr(),
+                entries.len(),
+                out.as_mut_ptr(),
+                out.len(),
+                length,
+                refusal,
+            )
+        }
+    })
 }
 
 pub fn open_bodies(bytes: &[u8]) -> Result<PlainBodies, Refusal> {

@@ -175,7 +175,7 @@ fn reference_numbers(ty: RefType) -> Result<(u32, u32)> {
     Ok((kind + if ty.is_nullable() { 512 } else { 0 }, index))
 }
 
-fn value_numbers(ty: ValType) -> Result<(u32, u32)> {
+pub(crate) fn value_numbers(ty: ValType) -> Result<(u32, u32)> {
     Ok(match ty {
         ValType::I32 => (0x7f, 0),
         ValType::I64 => (0x7e, 0),

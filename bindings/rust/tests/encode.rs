@@ -198,3 +198,13 @@ fn a_module_with_padded_numbers() -> Result<()> {
     assert_eq!(sections, 1);
     Ok(())
 }
+
+#[test]
+fn a_body_with_its_locals() -> Result<()> {
+    assert_eq!(encoded(&FunctionBuilder::default())?, [1, 0]);
+    let mut function = FunctionBuilder::new([(200, ValType::V128)])?;
+    function.instruction(&Operator::End)?;
+    assert_eq!(function.bytes(), [1, 0xc8, 1, 0x7b, 0x0b]);
+    assert_eq!(encoded(&function)?, [5, 1, 0xc8, 1, 0x7b, 0x0b]);
+    Ok(())
+}

@@ -19,6 +19,7 @@ ghost use Rattle.wasm_text.specs.Operands.{text_of};
 ghost use Rattle.wasm_view.specs.Lists.{targets_of, types_of, catches_of, handles_of};
 ghost use Rattle.wasm_view.specs.Names.{name_at};
 ghost use Rattle.wasm_view.specs.View.{view_of};
+ghost use Rattle.wasm_encode_view.specs.Sections.{EncodesDeclarations, EncodesEntry, EncodesSection, PlacesShortest};
 ghost use Rattle.wasm_c.specs.Encodings.{WritesView};
 ghost use Rattle.wasm_c.specs.Members.{ReturnsList};
 ghost use Rattle.wasm_c.specs.Modules.{ReturnsBodies, ReturnsBody, ReturnsName};
@@ -57,6 +58,8 @@ pub use crate::reader::WasmReader;
 pub use crate::refusal::WasmRefusal;
 pub use crate::value::WasmValue;
 use std::alloc::Global;
+pub use wasm_encode_view::WasmLocals;
+use wasm_encode_view::{encode_body, encode_locals, encode_section};
 pub use wasm_module::{Bodies as WasmBodies, Body as WasmBody};
 use wasm_view::laws::names;
 use wasm_view::{Catches, Handles, Targets, Types, name_at};
@@ -406,6 +409,55 @@ pub fn wasm_encode_operator(
     ensures writes { WritesView refusal.new operator.now bytes.now offset features length.old length.new out.old out.new }
 {
     *refusal = write_view_of(alloc, operator, bytes, offset, features, out, length);
+    refusal.number
+}
+
+/// Writes the number of declarations of locals, and each of them, in the shortest encoding. Sets
+/// `length` to its number of bytes, also if they do not fit.
+pub fn wasm_encode_locals(
+    locals: &[WasmLocals],
+    out: &mut [u8],
+    length: &mut usize,
+    refusal: &mut WasmRefusal,
+) -> u32
+    ensures outcome { refusal.new ≡ misuse result 0 }
+    ensures writes { PlacesShortest EncodesDeclarations locals.now result length.old length.new out.old out.new }
+{
+    *refusal = WasmRefusal::misuse(encode_locals(locals, out, length), 0);
+    refusal.number
+}
+
+/// Writes an entry of a code section in the shortest encoding: the size of the body, the
+/// declarations of locals, and the bytes of its operators. Sets `length` like
+/// [`wasm_encode_locals`].
+pub fn wasm_encode_body(
+    locals: &[WasmLocals],
+    operators: &[u8],
+    out: &mut [u8],
+    length: &mut usize,
+    refusal: &mut WasmRefusal,
+) -> u32
+    ensures outcome { refusal.new ≡ misuse result 0 }
+    ensures writes { PlacesShortest (EncodesEntry locals.now) operators.now result length.old length.new out.old out.new }
+{
+    *refusal = WasmRefusal::misuse(encode_body(locals, operators, out, length), 0);
+    refusal.number
+}
+
+/// Writes a section in the shortest encoding: its number, its size, the number of its entries, and
+/// their bytes. Sets `length` like [`wasm_encode_locals`].
+pub fn wasm_encode_section(
+    id: u8,
+    count: u32,
+    entries: &[u8],
+    out: &mut [u8],
+    length: &mut usize,
+    refusal: &mut WasmRefusal,
+) -> u32
+    ensures outcome { refusal.new ≡ misuse result 0 }
+    ensures writes { PlacesShortest (EncodesSection id count) entries.now result length.old length.new out.old out.new }
+{
+    *refusal = WasmRefusal::misuse(encode_section(id, count, entries, out, length), 0);
     refusal.number
 }
 

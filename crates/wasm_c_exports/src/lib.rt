@@ -18,6 +18,7 @@ ghost use Rattle.wasm_text.specs.Operands.{text_of};
 ghost use Rattle.wasm_view.specs.Lists.{targets_of, types_of, catches_of, handles_of};
 ghost use Rattle.wasm_view.specs.Names.{name_at};
 ghost use Rattle.wasm_view.specs.View.{view_of};
+ghost use Rattle.wasm_encode_view.specs.Sections.{EncodesDeclarations, EncodesEntry, EncodesSection, PlacesShortest};
 ghost use Rattle.wasm_c.specs.Encodings.{WritesView};
 ghost use Rattle.wasm_c.specs.Members.{ReturnsList};
 ghost use Rattle.wasm_c.specs.Modules.{ReturnsBodies, ReturnsBody, ReturnsName};
@@ -31,7 +32,8 @@ ghost use Rattle.wasm_c.specs.Values.{ReturnsValue};
 
 use std::alloc::Global;
 use wasm_c::{
-    WasmBodies, WasmBody, WasmHandler, WasmOperator, WasmReader, WasmRefusal, WasmType, WasmValue,
+    WasmBodies, WasmBody, WasmHandler, WasmLocals, WasmOperator, WasmReader, WasmRefusal, WasmType,
+    WasmValue,
 };
 
 /// `wasm_c::wasm_operators_version` for C.
@@ -345,6 +347,52 @@ pub extern "C" fn wasm_encode_operator(
     wasm_c::wasm_encode_operator(
         alloc, operator, bytes, offset, features, out, length, refusal,
     )
+}
+
+/// `wasm_c::wasm_encode_locals` for C.
+#[unsafe(no_mangle)]
+pub extern "C" fn wasm_encode_locals(
+    locals: &[WasmLocals],
+    out: &mut [u8],
+    length: &mut usize,
+    refusal: &mut WasmRefusal,
+) -> u32
+    ensures outcome { refusal.new ≡ misuse result 0 }
+    ensures writes { PlacesShortest EncodesDeclarations locals.now result length.old length.new out.old out.new }
+{
+    wasm_c::wasm_encode_locals(locals, out, length, refusal)
+}
+
+/// `wasm_c::wasm_encode_body` for C.
+#[unsafe(no_mangle)]
+pub extern "C" fn wasm_encode_body(
+    locals: &[WasmLocals],
+    operators: &[u8],
+    out: &mut [u8],
+    length: &mut usize,
+    refusal: &mut WasmRefusal,
+) -> u32
+    ensures outcome { refusal.new ≡ misuse result 0 }
+    ensures writes { PlacesShortest (EncodesEntry locals.now)
+        operators.now result length.old length.new out.old out.new }
+{
+    wasm_c::wasm_encode_body(locals, operators, out, length, refusal)
+}
+
+/// `wasm_c::wasm_encode_section` for C.
+#[unsafe(no_mangle)]
+pub extern "C" fn wasm_encode_section(
+    id: u8,
+    count: u32,
+    entries: &[u8],
+    out: &mut [u8],
+    length: &mut usize,
+    refusal: &mut WasmRefusal,
+) -> u32
+    ensures outcome { refusal.new ≡ misuse result 0 }
+    ensures writes { PlacesShortest (EncodesSection id count) entries.now result length.old length.new out.old out.new }
+{
+    wasm_c::wasm_encode_section(id, count, entries, out, length, refusal)
 }
 
 /// `wasm_c::wasm_open_bodies` for C.

@@ -9,6 +9,7 @@ mod outcomes;
 mod reading;
 mod replay;
 mod row;
+mod sections;
 mod tally;
 mod values;
 

@@ -4,9 +4,10 @@ use crate::modules::{self, write_functions};
 use crate::outcomes::{write_end, write_lines, write_outcome, write_text};
 use crate::reading::{Found, Source, by_batches, step_by_step, whole};
 use crate::row::{
-    Body, Encoding, List, Module, Text, Value, body_of, encoding_of, list_of, module_of, text_of,
-    value_of,
+    Body, Code, Encoding, List, Module, Text, Value, body_of, code_of, encoding_of, list_of,
+    module_of, text_of, value_of,
 };
+use crate::sections::write_section;
 use crate::tally::Tally;
 use crate::values::{write_constant, write_locals, write_value};
 use std::alloc::Global;
@@ -34,6 +35,7 @@ pub struct Replay {
     value: Tally,
     module: Tally,
     encoding: Tally,
+    code: Tally,
     unread: Tally,
 }
 
@@ -58,6 +60,7 @@ impl Replay {
             value: Tally::new("wasm_read_value"),
             module: Tally::new("wasm_open_bodies, wasm_next_body, wasm_function_name"),
             encoding: Tally::new("wasm_encode_operator"),
+            code: Tally::new("wasm_encode_locals, wasm_encode_body, wasm_encode_section"),
             unread: Tally::new("lines of another sort"),
         }
     }
@@ -75,6 +78,8 @@ impl Replay {
             self.module(rt, &module)
         } else if let Some(encoding) = encoding_of(line) {
             self.encoding(rt, &encoding)
+        } else if let Some(code) = code_of(line) {
+            self.code(rt, &code)
         } else {
             self.unread.compare(rt, line, "a line of a known sort")
         }
@@ -129,6 +134,17 @@ impl Replay {
         write_encoding(alloc, &mut found, bytes.as_slice(), encoding.at)?;
         let expected = format!(in alloc; "{} 102 true 112", encoding.shortest)?;
         self.encoding.compare(rt, found.as_str(), expected.as_str())
+    }
+
+    /// Compares a code section, and the errors for too little space and for no value type.
+    fn code<R: Print>(&mut self, rt: &R, code: &Code<'_>) -> io::Result<()> {
+        let alloc = self.alloc;
+        let mut operators = Vec::new(alloc);
+        read_hex(&mut operators, code.operators)?;
+        let mut found = String::new(alloc);
+        write_section(alloc, &mut found, code.locals, operators.as_slice())?;
+        let expected = format!(in alloc; "{} 102 true 102 true 112 112", code.section)?;
+        self.code.compare(rt, found.as_str(), expected.as_str())
     }
 
     /// Compares the calls that read a body. Without locals, the bytes after the first are an
@@ -247,6 +263,7 @@ impl Replay {
         self.operator_text.print(rt)?;
         self.value.print(rt)?;
         self.encoding.print(rt)?;
+        self.code.print(rt)?;
         self.unread.print(rt)
     }
 }

@@ -76,6 +76,27 @@ pub fn encoding_of<'r>(line: &'r str) -> Option<Encoding<'r>> {
     })
 }
 
+/// A code section with one body.
+#[derive(Clone, Copy)]
+pub struct Code<'r> {
+    /// The numbers of each declaration of locals, which a semicolon follows.
+    pub locals: &'r str,
+    pub operators: &'r str,
+    pub section: &'r str,
+}
+
+pub fn code_of<'r>(line: &'r str) -> Option<Code<'r>> {
+    let mut cells = line.split('\t');
+    let "code" = cells.next()? else {
+        return None;
+    };
+    Some(Code {
+        locals: cells.next()?,
+        operators: cells.next()?,
+        section: cells.next()?,
+    })
+}
+
 #[derive(Clone, Copy)]
 pub struct Text<'r> {
     pub bytes: &'r str,
