@@ -2,3 +2,4 @@ pub mod References
 pub mod Items
 pub mod Parts
 pub mod Payloads
+pub mod Modules

@@ -7,23 +7,21 @@ use std::io::{self, Print};
 use std::process::ExitCode;
 use wasm_below::{BinaryReader, Error};
 use wasm_context::{Context, ContextError};
-use wasm_module_context::{PayloadError, add_payload};
+use wasm_module_context::{PayloadError, add_payloads};
 use wasm_payloads::parse_all;
 use wasm_subtypes::Types;
 
 mod hex;
 mod print;
 
-/// Reads the payloads of a module, and adds each to a context.
+/// Returns the context of a module.
 fn context_of(alloc: Global, bytes: &[u8]) -> Result<Context, PayloadError> {
-    let mut context = Context::new(alloc, Types::new(alloc));
-    for payload in parse_all(alloc, BinaryReader::new(bytes, 0)) {
-        match payload {
-            Ok(payload) => context = add_payload(alloc, context, payload)?,
-            Err(e) => return Err(PayloadError::Decode(e)),
-        }
-    }
-    Ok(context)
+    let context = Context::new(alloc, Types::new(alloc));
+    add_payloads(
+        alloc,
+        context,
+        parse_all(alloc, BinaryReader::new(bytes, 0)),
+    )
 }
 
 fn print_error<R: Print>(rt: &R, error: PayloadError) -> io::Result<()> {
