@@ -1,14 +1,18 @@
 #!/usr/bin/env python3
 """Compares a checker of function bodies with the standard and wasmparser on small modules.
 
-    tools/typing_cases.py PROGRAM             compares the verdicts of PROGRAM
-    tools/typing_cases.py --offsets PROGRAM   compares offsets and messages, too
+    tools/typing_cases.py                     compares the two programs wasm_validate that `rt ci` built
+    tools/typing_cases.py --program PROGRAM   compares PROGRAM
+    tools/typing_cases.py --messages ..       compares messages, too
     tools/typing_cases.py --modules           prints the modules in hexadecimal, a line each
     tools/typing_cases.py --verdicts          prints the verdicts, a line each: `ok` or `error`
-    tools/typing_cases.py --write FOLDER PEER writes tools/original/typing_cases.tsv, which has the modules
+    tools/typing_cases.py --write FOLDER --peer PEER
+                                              writes tools/original/typing_cases.tsv, which has the modules
 
 PROGRAM is called with many files. It writes a line `FILE: error at 0xOFFSET (..): MESSAGE` for each file that it rejects,
 and nothing for the others.
+
+Verdicts are compared, and the offsets of errors. Cases whose faults are outside of function bodies are left out.
 
 A module is valid or not by the standard, or unsupported: it uses a proposal without typing rules in this repository.
 Offset and message are those of wasmparser 0.239 with all its features; for unsupported modules, with its default ones.
@@ -26,11 +30,15 @@ from pathlib import Path
 
 from shared.arguments import read
 from shared.crates import TOP
+from testing.built import built, missing
 
+NAME = "wasm_validate"
 TABLE = TOP / "tools" / "original" / "typing_cases.tsv"
 COLUMNS = ["name", "label", "verdict", "offset", "message", "module"]
 # The files of a folder, and whether their modules are unsupported.
 FILES = {"fixed": False, "rule": False, "types": False, "unsup": True}
+# The cases whose faults are outside of function bodies.
+OUTSIDE = {"const", "memory limits", "table limits"}
 # In a cell: the same as in the row before.
 SAME = '"'
 BATCH = 200
@@ -136,7 +144,11 @@ def written(folder, peer):
     return out
 
 
-def compared(program, cases, offsets):
+def is_compared(case):
+    return case.is_valid or case.name not in OUTSIDE
+
+
+def compared(program, cases, messages):
     """Returns the cases of which a program says something else, a line each."""
     with tempfile.TemporaryDirectory() as folder:
         lines = in_batches(folder, [it.module for it in cases], [program])
@@ -144,28 +156,31 @@ def compared(program, cases, offsets):
     out = []
     for number, it in enumerate(cases):
         match = found.get(file_of(number))
-        said = "ok" if match is None else f"0x{match['offset']} {match['message']}"
-        wanted = f"{it.offset} {it.message}".strip() or "ok"
-        if (match is None) != it.is_valid or (offsets and said != wanted):
-            out.append(f"{it.name}, {it.label}: {it.verdict} ({wanted}), and {said} by the program: {it.module.hex()}")
+        said = ("", "") if match is None else (f"0x{match['offset']}", match["message"])
+        parts = 2 if messages else 0 if it.verdict == "unsupported" else 1
+        if (match is None) != it.is_valid or said[:parts] != (it.offset, it.message)[:parts]:
+            text = " ".join(said).strip() or "ok"
+            out.append(f"{it.name}, {it.label}: {it.verdict} ({it.offset} {it.message}), and {text} by the program: {it.module.hex()}")
     return out
 
 
 def main():
-    given = read(__doc__, "--modules", "--verdicts", "--offsets", "--write FOLDER", "[PROGRAM]")
+    given = read(__doc__, "--modules", "--verdicts", "--messages", "--write FOLDER", "--peer PROGRAM", "--program PROGRAM", "[NAME]")
     if given.modules:
         print("\n".join(it.module.hex() for it in cases_of()))
     elif given.verdicts:
         print("\n".join("ok" if it.is_valid else "error" for it in cases_of()))
     elif given.write:
-        TABLE.write_text(text_of(written(given.write, given.program)), encoding="utf-8")
-    elif given.program:
-        cases = cases_of()
-        differ = compared(given.program, cases, given.offsets)
-        print("\n".join([*differ, f"{len(differ)} of {len(cases)} differ"]))
-        sys.exit(differ != [])
+        TABLE.write_text(text_of(written(given.write, given.peer)), encoding="utf-8")
     else:
-        sys.exit(__doc__)
+        programs, cases, differ = built(NAME, given.program), list(filter(is_compared, cases_of())), 0
+        for program in programs:
+            lines = compared(program, cases, given.messages)
+            differ += len(lines)
+            print("\n".join([*lines, f"{len(lines)} of {len(cases)} differ"]))
+        if not programs:
+            print(missing(NAME, given.program))
+        sys.exit(differ > 0 or not programs)
 
 
 if __name__ == "__main__":

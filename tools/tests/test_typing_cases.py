@@ -47,13 +47,17 @@ class Table(unittest.TestCase):
 
 class Compared(unittest.TestCase):
     def test_same_and_different(self):
-        says = {"00001.wasm": "0x9 (function 0): type mismatch: a", "00002.wasm": "0x8: type mismatch: b", "00003.wasm": "0x8: not enabled"}
+        says = {"00001.wasm": "0x9 (function 0): type mismatch: c", "00002.wasm": "0x8: type mismatch: b", "00003.wasm": "0x7: no"}
         with tempfile.TemporaryDirectory() as folder:
             text = f"says = {says}\nfor it in sys.argv[1:]:\n    if it in says: print(f'{{it}}: error at {{says[it]}}')\nsys.exit(1)\n"
             path = program(folder, text)
-            self.assertEqual(typing.compared(path, CASES, False), [])
-            (found,) = typing.compared(path, CASES, True)
+            (found,) = typing.compared(path, CASES, False)
             self.assertIn("Drop, more: invalid (0x9 type mismatch: b), and 0x8 type mismatch: b by the program", found)
+            self.assertEqual([it.split(":")[0] for it in typing.compared(path, CASES, True)], ["Nop, more", "Drop, more", "Try, ok"])
+
+    def test_faults_outside_of_bodies(self):
+        self.assertFalse(typing.is_compared(Case("const", "drop", "invalid", "0x8", "a", HEAD)))
+        self.assertTrue(typing.is_compared(Case("const", "ok", "valid", "", "", HEAD)))
 
     def test_a_wrong_verdict(self):
         with tempfile.TemporaryDirectory() as folder:

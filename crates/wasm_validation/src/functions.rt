@@ -1,0 +1,133 @@
+ghost use Rattle.std.specs.Prelude.{◌≡◌, OnOk, IfOk, IfErr};
+ghost use Rattle.wasm_module_context.specs.Payloads.{AddsPayload};
+ghost use Rattle.wasm_payloads.specs.declared.payload.Payload.TheVariants as payload;
+ghost use Rattle.wasm_validation.specs.Functions.{AreTyped, Checks, ChecksAll, FailsToAdd, Refuses, Stops, StopsLater};
+
+use crate::fault::{Fault, FaultyBody};
+use std::alloc::Global;
+use std::marker::Model;
+use wasm_below::BinaryReader;
+use wasm_check::{ModuleContext, check_body};
+use wasm_context::Context;
+use wasm_module_context::add_payload;
+use wasm_payloads::{Parser, Payload, parse_all};
+use wasm_subtypes::Types;
+
+/// The context that the payloads so far give, and the index of the function whose body is next.
+#[derive(Drop)]
+struct Stage {
+    context: Context,
+    next: u64,
+}
+
+impl Model for Stage {
+    ghost use Rattle.wasm_validation.specs.Functions as functions;
+
+    ghost Value = { functions.Stage };
+
+    ghost view = { λ s. record { context = s.context; next = s.next } };
+}
+
+fn check_entry<'a>(alloc: Global, stage: Stage, body: BinaryReader<'a>) -> Result<Stage, Fault<'a>>
+    ensures checked { IfOk result (λ new. Checks (payload.CodeSectionEntry body.entry) stage new) }
+    ensures refused { IfErr result (λ f. Refuses (payload.CodeSectionEntry body.entry) stage f) }
+{
+    let Stage { context, next } = stage;
+    let Ok(function) = u32::try_from(next) else {
+        return Err(Fault::NoFunction(body.original_position()));
+    };
+    let checked = match context.function_type(function) {
+        Some(ty) => check_body(alloc, &context, ty, body.clone()),
+        None => return Err(Fault::NoFunction(body.original_position())),
+    };
+    match checked {
+        Ok(()) => Ok(Stage {
+            context,
+            next: next + 1,
+        }),
+        Err(error) => Err(Fault::Body(FaultyBody {
+            context,
+            function,
+            body,
+            error,
+        })),
+    }
+}
+
+fn add<'a>(
+    alloc: Global,
+    context: Context,
+    next: u64,
+    payload: Payload<'a>,
+) -> Result<Stage, Fault<'a>>
+    ensures added { IfOk result (λ new. AddsPayload payload.entry context new.context) }
+    ensures next { IfOk result (λ new. new.next ≡ next) }
+    ensures refused { IfErr result (λ f. FailsToAdd payload.entry context f) }
+{
+    match add_payload(alloc, context, payload) {
+        Ok(context) => Ok(Stage { context, next }),
+        Err(e) => Err(Fault::Section(e)),
+    }
+}
+
+fn check_payload<'a>(alloc: Global, stage: Stage, payload: Payload<'a>) -> Result<Stage, Fault<'a>>
+    ensures checked { IfOk result (λ new. Checks payload.entry stage new) }
+    ensures refused { IfErr result (λ f. Refuses payload.entry stage f) }
+{
+    match payload {
+        Payload::CodeSectionEntry(body) => match check_entry(alloc, stage, body) {
+            Ok(next) => Ok(next),
+            Err(fault) => Err(fault),
+        },
+        Payload::FunctionSection(items) => {
+            let imported = stage.context.function_count() as u64;
+            match add(
+                alloc,
+                stage.context,
+                imported,
+                Payload::FunctionSection(items),
+            ) {
+                Ok(next) => Ok(next),
+                Err(fault) => Err(fault),
+            }
+        }
+        other => match add(alloc, stage.context, stage.next, other) {
+            Ok(next) => Ok(next),
+            Err(fault) => Err(fault),
+        },
+    }
+}
+
+/// Checks the payloads from a stage on.
+fn check_payloads<'a>(alloc: Global, parser: Parser<'a>, stage: Stage) -> Result<(), Fault<'a>>
+    ensures checked { OnOk result (ChecksAll parser.entry stage) }
+    ensures refused { IfErr result (λ f. StopsLater parser.entry stage f) }
+{
+    let mut payloads = parser;
+    let mut stage = stage;
+    'payloads: while let Some(item) = payloads.next() {
+        match item {
+            Ok(payload) => match check_payload(alloc, stage, payload) {
+                Ok(next) => stage = next,
+                Err(fault) => return Err(fault),
+            },
+            Err(e) => return Err(Fault::Parse(e)),
+        }
+    }
+    Ok(())
+}
+
+/// Checks each function body of the module that the reader's bytes are, in the context that the
+/// sections before the code give. Specification: Validation, Modules.
+pub fn check_functions<'a>(alloc: Global, reader: BinaryReader<'a>) -> Result<(), Fault<'a>>
+    // On `Ok`, each body is typed with the type of its function.
+    ensures typed { OnOk result (AreTyped reader.entry) }
+    // The error is that of the first payload that can't be read or checked.
+    ensures error { IfErr result (λ f. Stops reader.entry f) }
+{
+    let stage = Stage {
+        context: Context::new(alloc, Types::new(alloc)),
+        next: 0,
+    };
+    check_payloads(alloc, parse_all(alloc, reader), stage)
+}

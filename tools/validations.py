@@ -1,0 +1,132 @@
+#!/usr/bin/env python3
+"""Compares `wasm_validate` with wasmparser 0.239 on modules, and on copies of them with a changed byte.
+
+    tools/validations.py PROGRAM PEER MODULE..            compares these modules
+    tools/validations.py PROGRAM PEER --engines DIR --smith N MODULE..
+                                                          also N modules of `wasm-tools smith`, with all proposals
+    tools/validations.py .. --changes N                   also N copies of each module (10)
+
+PROGRAM is wasm_validate, here with the features that wasmparser has by default. `PEER --default verdict FILE..` prints
+wasmparser's verdicts, `FILE ok` or `FILE OFFSET MESSAGE`. DIR/root has the programs of wasm-tools. A copy differs from its
+module in one byte of the code section.
+
+Of each file, both must accept it, or both must reject it at the same offset. Files that differ are printed, with both
+messages, and counted by wasmparser's message.
+"""
+
+import random
+import re
+import subprocess
+import sys
+import tempfile
+from collections import Counter
+from pathlib import Path
+
+from shared import leb128
+from shared.arguments import read
+
+BATCH = 100
+SECONDS = 300
+CODE = 10
+CHANGES = 10
+SMITH = ["smith", "--max-memories=2", "--max-tables=3", "--gc-enabled=true", "--exceptions-enabled=true", "--simd-enabled=true"]
+SMITH += ["--relaxed-simd-enabled=true", "--tail-call-enabled=true", "--memory64-enabled=true", "--threads-enabled=true"]
+SMITH += ["--reference-types-enabled=true", "--bulk-memory-enabled=true", "--multi-value-enabled=true", "--extended-const-enabled=true"]
+FEATURES = ["--features", "MULTI_MEMORY|MEMORY64|CALL_INDIRECT_OVERLONG"]
+REJECTED = re.compile(r"(?P<file>\S+): error at 0x(?P<offset>[0-9a-f]+)(?: \(function \d+(?: <.*>)?\))?: (?P<message>.*)")
+
+
+def smith(root, count, folder):
+    """Writes modules of `wasm-tools smith` from fixed seeds into a folder."""
+    loader = [str(root / "usr/lib64/ld-linux-x86-64.so.2"), "--library-path", str(root / "usr/lib/x86_64-linux-gnu")]
+    made = []
+    for seed in range(count):
+        given = random.Random(seed).randbytes(200 + seed % 97 * 60)
+        ran = subprocess.run([*loader, str(root / "usr/bin/wasm-tools"), *SMITH], input=given, capture_output=True, timeout=SECONDS)
+        if ran.returncode == 0:
+            made.append(folder / f"smith{seed}.wasm")
+            made[-1].write_bytes(ran.stdout)
+    return made
+
+
+def code_of(module):
+    """Returns where the contents of the code section start and end; None without one."""
+    at = 8
+    while at < len(module):
+        size, start = leb128.read(module, at + 1)
+        if module[at] == CODE:
+            return start, start + size
+        at = start + size
+    return None
+
+
+def copies(module, count, seed):
+    """Returns copies of a module, each with another byte in its code section."""
+    place = code_of(module)
+    if place is None or place[0] == place[1]:
+        return
+    chosen = random.Random(seed)
+    for _ in range(count):
+        at = chosen.randrange(*place)
+        yield module[:at] + bytes([module[at] ^ chosen.randrange(1, 256)]) + module[at + 1 :]
+
+
+def verdicts_of_program(program, folder, names):
+    ran = subprocess.run([program, *FEATURES, *names], cwd=folder, capture_output=True, text=True, timeout=SECONDS)
+    if ran.returncode not in (0, 1):
+        sys.exit(f"{program} ended with status {ran.returncode}: {ran.stderr[-300:]}")
+    found = {match["file"]: match for match in map(REJECTED.fullmatch, ran.stderr.splitlines()) if match}
+    return [(int(found[name]["offset"], 16), found[name]["message"]) if name in found else None for name in names]
+
+
+def verdicts_of_peer(peer, folder, names):
+    ran = subprocess.run([peer, "--default", "verdict", *names], cwd=folder, capture_output=True, text=True, timeout=SECONDS)
+    found = {}
+    for line in ran.stdout.splitlines():
+        name, _, said = line.partition(" ")
+        if name in names and said != "ok":
+            offset, _, message = said.partition(" ")
+            found[name] = (int(offset, 16), message)
+    return [found.get(name) for name in names]
+
+
+def place(verdict):
+    return None if verdict is None else verdict[0]
+
+
+def text(verdict):
+    return "ok" if verdict is None else f"0x{verdict[0]:x} {verdict[1]}"
+
+
+def main():
+    wanted = read(__doc__, "--engines DIR", "--smith N", "--changes N", "PROGRAM", "PEER", "MODULE..")
+    changes = CHANGES if wanted.changes is None else wanted.changes
+    files, differ, reasons, accepted = 0, 0, Counter(), 0
+    with tempfile.TemporaryDirectory() as made:
+        paths = [Path(it).absolute() for it in wanted.modules]
+        if wanted.smith:
+            paths += smith(wanted.engines / "root", wanted.smith, Path(made))
+        for first in range(0, len(paths), BATCH):
+            with tempfile.TemporaryDirectory() as folder:
+                names = []
+                for number, path in enumerate(paths[first : first + BATCH], first):
+                    module = path.read_bytes()
+                    for copy, contents in enumerate([module, *copies(module, changes, number)]):
+                        names.append(f"{path.stem}-{copy}.wasm")
+                        (Path(folder) / names[-1]).write_bytes(contents)
+                ours = verdicts_of_program(wanted.program, folder, names)
+                theirs = verdicts_of_peer(wanted.peer, folder, names)
+            for name, our, their in zip(names, ours, theirs):
+                files, accepted = files + 1, accepted + (our is None)
+                if place(our) != place(their):
+                    differ += 1
+                    reasons[re.sub(r"\d+", "N", their[1] if their else "ok")] += 1
+                    print(f"{name}: {text(our)}; wasmparser: {text(their)}")
+    for reason, count in reasons.most_common():
+        print(f"{count:6} {reason}")
+    print(f"{files} files, {accepted} accepted, {differ} differ")
+    sys.exit(differ > 0)
+
+
+if __name__ == "__main__":
+    main()
