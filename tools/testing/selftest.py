@@ -5,7 +5,7 @@ import shutil
 import sys
 
 from testing import running
-from testing.items import BLOCKS, CHECKS, OVER_MODULES, REPLAY, Check, Library, Program, find_jobs, is_named
+from testing.items import BLOCKS, CHECKS, OVER_MODULES, OVER_TYPES, REPLAY, Check, Library, Program, find_jobs, is_named
 from testing.outcome import tail
 from testing.running import Clock
 
@@ -86,6 +86,9 @@ def breaks_of_program(folder, items):
         yield Break(f"{name}/modules", tool, replaced(r"^CODE = 10$", "CODE = 11"))
     elif f"{name}/modules" in items:
         yield Break(f"{name}/modules", first((folder / "data").glob("*.txt")), more("one line more\n"))
+    if f"{name}/types" in items:
+        tool = folder.parents[1] / "tools" / OVER_TYPES[name][0]
+        yield Break(f"{name}/types", tool, replaced(r'^OUTSIDE = {"const", ', "OUTSIDE = {"), ["unit-tests"])
 
 
 def breaks(crates):
