@@ -42,6 +42,10 @@ pub first_none : (a b : Option ContextError) → or_else a b ≡ None → b ≡ 
 first_none None b e = e
 first_none (Some x) b e = absurd (cc e)
 
+pub nothing_first : (a b : Option ContextError) → or_else a b ≡ None → a ≡ None
+nothing_first None b e = refl
+nothing_first (Some x) b e = absurd (cc e)
+
 in_range : (n x : ℕ) (b : Bool) → nat_lt x n ≡ b → (if b then None else Some (error.UnknownType x)) ≡ None → x < n
 in_range n x true p e = ltb-true x n p
 in_range n x false p e = absurd (cc e)

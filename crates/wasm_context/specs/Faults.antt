@@ -1,7 +1,7 @@
 -- What is wrong with a part of a module, if anything is.
 -- WebAssembly Core Specification 3.0: Validation, Types; Validation, Modules; Appendix, Implementation
 -- Limitations.
-use Rattle.std.specs.Prelude.{◌≡◌, ℕ, nat_lt, List, [], ◌∷◌, length, if◌then◌else◌, Option, Some, None, Result, Ok, Err, ◌⊎◌}
+use Rattle.std.specs.Prelude.{◌≡◌, ℕ, nat_lt, ◌==◌, Bool, true, false, List, [], ◌∷◌, length, if◌then◌else◌, Option, Some, None, Result, Ok, Err, ◌⊎◌}
 use Rattle.wasm_below.specs.Reference.{Reference}
 use Rattle.wasm_below.specs.declared.types.HeapType.{HeapType}
 use Rattle.wasm_below.specs.declared.types.HeapType.TheVariants as heap_type
@@ -12,6 +12,7 @@ use Rattle.wasm_externals.specs.declared.external.ExternalKind.TheVariants as ki
 use Rattle.wasm_externals.specs.declared.external.TypeRef.{TypeRef}
 use Rattle.wasm_externals.specs.declared.external.TypeRef.TheVariants as external
 use Rattle.wasm_externals.specs.declared.global_type.GlobalType.{GlobalType}
+use Rattle.wasm_externals.specs.declared.memory_type.MemoryType.{MemoryType}
 use Rattle.wasm_externals.specs.declared.table_type.TableType.{TableType}
 use Rattle.wasm_externals.specs.declared.tag_type.TagType.{TagType}
 use Rattle.wasm_types.specs.declared.composites.CompositeInnerType.{CompositeInnerType}
@@ -74,13 +75,62 @@ tag_use_fault x t = use_fault x t
 abbrev pub function_fault : Components → ℕ → Option ContextError
 function_fault c x = or_else (limit_fault (length c.functions) counted.Functions) (use_fault x (expanded c.types x))
 
+-- The minimum of limits is greater than the maximum.
+abbrev pub minimum_fault : ℕ → Option ℕ → Option ContextError
+minimum_fault n None = None
+minimum_fault n (Some m) = if nat_lt m n then Some error.MinimumAboveMaximum else None
+
+-- The greatest size within limits, or the least if there is no greatest.
+abbrev pub largest : ℕ → Option ℕ → ℕ
+largest n None = n
+largest n (Some m) = m
+
+-- A size is greater than permitted.
+abbrev pub size_fault : ℕ → ℕ → ContextError → Option ContextError
+size_fault most n e = if nat_lt most n then Some e else None
+
+-- A page has 65536 bytes. With the proposal custom page sizes, it may have one.
+abbrev pub page_size_fault : Option ℕ → Option ContextError
+page_size_fault None = None
+page_size_fault (Some log2) = if log2 == 0 then None else if log2 == 16 then None else Some error.PageSize
+
+abbrev pub page_bytes : Option ℕ → ℕ
+page_bytes None = 65536
+page_bytes (Some log2) = if log2 == 0 then 1 else 65536
+
+-- The greatest number of pages: 2^32 bytes, or 2^64. Of pages of one byte there is one less, so that the
+-- number has the type of an address.
+abbrev pub most_pages : Bool → Option ℕ → ℕ
+most_pages true log2 = if page_bytes log2 == 1 then 18446744073709551615 else 281474976710656
+most_pages false log2 = if page_bytes log2 == 1 then 4294967295 else 65536
+
+-- A shared memory has no maximum.
+abbrev pub shared_fault : Bool → Option ℕ → Option ContextError
+shared_fault true None = Some error.SharedWithoutMaximum
+shared_fault _ m = None
+
+-- A memory type is not valid. Validation, Types, Memory Types.
+abbrev pub memory_type_fault : MemoryType → Option ContextError
+memory_type_fault t = or_else (minimum_fault t.initial t.maximum) (or_else (page_size_fault t.page_size_log2) (or_else
+    (size_fault (most_pages t.memory64 t.page_size_log2) (largest t.initial t.maximum) (error.MemorySize (most_pages t.memory64 t.page_size_log2) (page_bytes t.page_size_log2)))
+    (shared_fault t.shared t.maximum)))
+
+-- The greatest number of elements of a table.
+abbrev pub most_elements : Bool → ℕ
+most_elements true = 18446744073709551615
+most_elements false = 4294967295
+
+-- The limits of a table type are not valid. Validation, Types, Table Types.
+abbrev pub table_limits_fault : TableType → Option ContextError
+table_limits_fault t = or_else (minimum_fault t.initial t.maximum) (size_fault (most_elements t.table64) (largest t.initial t.maximum) (error.TableSize (most_elements t.table64)))
+
 -- A table of this type cannot be added.
 abbrev pub table_fault : Components → TableType → Option ContextError
-table_fault c t = or_else (limit_fault (length c.tables) counted.Tables) (heap_fault (length c.types) t.element_type.heap_type)
+table_fault c t = or_else (limit_fault (length c.tables) counted.Tables) (or_else (heap_fault (length c.types) t.element_type.heap_type) (table_limits_fault t))
 
--- A memory cannot be added.
-abbrev pub memory_fault : Components → Option ContextError
-memory_fault c = limit_fault (length c.memories) counted.Memories
+-- A memory of this type cannot be added.
+abbrev pub memory_fault : Components → MemoryType → Option ContextError
+memory_fault c t = or_else (limit_fault (length c.memories) counted.Memories) (memory_type_fault t)
 
 -- A global of this type cannot be added.
 abbrev pub global_fault : Components → GlobalType → Option ContextError
@@ -114,7 +164,7 @@ external_fault c k x = if nat_lt x (count_of c k) then None else Some (error.Unk
 abbrev pub import_fault : Components → TypeRef → Option ContextError
 import_fault c (external.Func x) = function_fault c x
 import_fault c (external.Table t) = table_fault c t
-import_fault c (external.Memory t) = memory_fault c
+import_fault c (external.Memory t) = memory_fault c t
 import_fault c (external.Global t) = global_fault c t
 import_fault c (external.Tag t) = tag_fault c t
 

@@ -11,7 +11,10 @@ ghost use Rattle.wasm_context.specs.Faults.{Adds, Changes, BlamesTypes, function
 
 use crate::context::Context;
 use crate::error::{ContextError, Counted};
-use crate::faults::{heap_fault, limit_fault, or_else, tag_use_fault, use_fault, value_fault};
+use crate::faults::{
+    heap_fault, limit_fault, memory_type_fault, or_else, table_limits_fault, tag_use_fault,
+    use_fault, value_fault,
+};
 use crate::function::Function;
 use std::alloc::Global;
 use wasm_below::RefType;
@@ -88,13 +91,14 @@ impl Context {
 
     /// Adds a table. Specification: Validation, Modules, Tables.
     ///
-    /// Fails with `TooMany` if there are 100; with `UnknownType`.
+    /// Fails with `TooMany` if there are 100; with `UnknownType`; with `MinimumAboveMaximum`; with
+    /// `TableSize` if indices are of type i32 and a size is above 2^32 - 1.
     pub fn add_table(&mut self, ty: TableType) -> Result<(), ContextError>
         ensures { Adds (table_fault self.old ty) (with_table self.old ty) result self.old self.new }
     {
         let full = limit_fault(self.tables.len(), Counted::Tables);
-        let heap_type = ty.element_type.heap_type();
-        if let Some(e) = or_else(full, heap_fault(self.types.len(), heap_type)) {
+        let heap = heap_fault(self.types.len(), ty.element_type.heap_type());
+        if let Some(e) = or_else(full, or_else(heap, table_limits_fault(ty))) {
             return Err(e);
         }
         push(&mut self.tables, ty)
@@ -102,11 +106,14 @@ impl Context {
 
     /// Adds a memory. Specification: Validation, Modules, Memories.
     ///
-    /// Fails with `TooMany` if there are 100.
+    /// Fails with `TooMany` if there are 100; with `MinimumAboveMaximum`; with `PageSize`; with
+    /// `MemorySize` if the limits are above the address space, 65,536 pages if addresses are of type
+    /// i32; with `SharedWithoutMaximum`.
     pub fn add_memory(&mut self, ty: MemoryType) -> Result<(), ContextError>
-        ensures { Adds (memory_fault self.old) (with_memory self.old ty) result self.old self.new }
+        ensures { Adds (memory_fault self.old ty) (with_memory self.old ty) result self.old self.new }
     {
-        if let Some(e) = limit_fault(self.memories.len(), Counted::Memories) {
+        let full = limit_fault(self.memories.len(), Counted::Memories);
+        if let Some(e) = or_else(full, memory_type_fault(ty)) {
             return Err(e);
         }
         push(&mut self.memories, ty)

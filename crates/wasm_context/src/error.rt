@@ -27,6 +27,16 @@ pub enum ContextError {
     NotFunction(u32),
     /// The function type of a tag has results.
     TagResults,
+    /// The minimum of the limits of a memory or table is greater than the maximum.
+    MinimumAboveMaximum,
+    /// The page size is neither 1 nor 65536 bytes.
+    PageSize,
+    /// A memory may have this many pages, each of this many bytes.
+    MemorySize(u64, u64),
+    /// A shared memory has no maximum.
+    SharedWithoutMaximum,
+    /// A table may have this many elements.
+    TableSize(u64),
     /// There is nothing of this kind with this index.
     Unknown(ExternalKind, u32),
 }

@@ -71,7 +71,7 @@ abbrev pub AddsFunction : ℕ → Components → Components → Type 0
 AddsFunction x c d = Becomes (function_fault c x) (with_function c x) d
 
 abbrev pub AddsMemory : MemoryType → Components → Components → Type 0
-AddsMemory t c d = Becomes (memory_fault c) (with_memory c t) d
+AddsMemory t c d = Becomes (memory_fault c t) (with_memory c t) d
 
 abbrev pub AddsTag : TagType → Components → Components → Type 0
 AddsTag t c d = Becomes (tag_fault c t) (with_tag c t) d

@@ -70,7 +70,7 @@ impl<'a> AddToContext<'a> for u32 {
 impl<'a> AddToContext<'a> for MemoryType {
     ghost adds = { AddsMemory };
 
-    ghost refuses = { λ t c at e. FailsAt (memory_fault c) at e };
+    ghost refuses = { λ t c at e. FailsAt (memory_fault c t) at e };
 
     fn add_to(
         self,

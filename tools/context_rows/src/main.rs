@@ -187,6 +187,17 @@ fn error(e: &BinaryReaderError) -> String {
         let kinds = ["function", "table", "memory", "global", "tag"];
         let kind = kinds.iter().position(|k| m.contains(k)).unwrap();
         format!("Unknown({}, {number})", ["Func", "Table", "Memory", "Global", "Tag"][kind])
+    } else if m.starts_with("size minimum") {
+        "MinimumAboveMaximum".into()
+    } else if m.starts_with("shared memory must have maximum") {
+        "SharedWithoutMaximum".into()
+    } else if let Some(sizes) = m.strip_prefix("memory size must be at most ") {
+        let words: Vec<&str> = sizes.split(['x', ' ', '-']).collect();
+        let pages = u64::from_str_radix(words[1], 16).unwrap();
+        format!("MemorySize({pages}, {})", words[2])
+    } else if let Some(size) = m.strip_prefix("table size must be at most 0x") {
+        let size = size.split(' ').next().unwrap();
+        format!("TableSize({})", u64::from_str_radix(size, 16).unwrap())
     } else {
         m.into()
     };
