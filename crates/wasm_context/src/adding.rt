@@ -119,6 +119,14 @@ impl Context {
         push(&mut self.memories, ty)
     }
 
+    /// Returns what is wrong with a global of this type, if anything is: what `add_global` fails with.
+    pub fn global_fault(&self, ty: GlobalType) -> Option<ContextError>
+        ensures { result ≡ global_fault self.now ty }
+    {
+        let full = limit_fault(self.globals.len(), Counted::Globals);
+        or_else(full, value_fault(self.types.len(), ty.content_type))
+    }
+
     /// Adds a global. Specification: Validation, Modules, Globals.
     ///
     /// Fails with `TooMany` if there are 1,000,000; with `UnknownType`.

@@ -1,4 +1,5 @@
 pub mod References
+pub mod Constants
 pub mod Items
 pub mod Parts
 pub mod Payloads

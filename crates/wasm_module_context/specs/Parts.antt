@@ -1,8 +1,9 @@
 -- What the items of each section add to the context of a module.
 -- WebAssembly Core Specification 3.0: Validation, Modules.
-use Rattle.std.specs.Prelude.{◌≡◌, ℕ, ◌++◌, false, length, Option, Some, None, ◌⊎◌}
+use Rattle.std.specs.Prelude.{◌≡◌, ℕ, ◌++◌, true, false, length, Option, Some, None, ◌⊎◌}
 use Rattle.wasm_below.specs.declared.types.AbstractHeapType.TheVariants as abstract
 use Rattle.wasm_below.specs.declared.types.HeapType.TheVariants as heap
+use Rattle.wasm_below.specs.declared.types.ValType.TheVariants as value
 use Rattle.wasm_below.specs.Reference.{Reference}
 use Rattle.wasm_below.specs.Source.{Reader}
 use Rattle.wasm_externals.specs.declared.export.Export.{Export}
@@ -35,6 +36,7 @@ use Rattle.wasm_context.specs.Faults.{BlamesTypes, function_fault, table_fault, 
 use Rattle.wasm_module_context.specs.declared.error.PayloadError.{PayloadError}
 use Rattle.wasm_module_context.specs.declared.error.PayloadError.TheVariants as error
 use Rattle.wasm_module_context.specs.declared.function_index.FunctionIndex.{FunctionIndex}
+use Rattle.wasm_module_context.specs.Constants.{AddsConstant, FailsConstant}
 use Rattle.wasm_module_context.specs.Items.{AddsItems, FailsItems}
 use Rattle.wasm_module_context.specs.References.{DeclaresReferences, FailsReferences}
 
@@ -82,26 +84,29 @@ AddsExport e c d = Becomes (external_fault c e.kind e.index) (with_export c e.ki
 abbrev pub AddsFunctionIndex : FunctionIndex → Components → Components → Type 0
 AddsFunctionIndex x c d = Becomes (external_fault c kind.Func x.0) (with_declared c x.0) d
 
--- A table or a global, then the references of its constant expression.
-abbrev pub DeclaresInit : TableInit Reader → Components → Components → Type 0
-DeclaresInit init.RefNull c d = d ≡ c
-DeclaresInit (init.Expr r) c d = DeclaresReferences r c d
+-- The initial value of a table has its element type. Without one, elements are null.
+abbrev pub AddsInit : TableInit Reader → Reference → Components → Components → Type 0
+AddsInit init.RefNull t c d = (t.nullable ≡ true) × (d ≡ c)
+AddsInit (init.Expr r) t c d = AddsConstant (value.Ref t) r c d
 
-abbrev pub FailsInit : TableInit Reader → Components → PayloadError → Type 0
-FailsInit init.RefNull c e = ⊥
-FailsInit (init.Expr r) c e = FailsReferences r c e
+abbrev pub FailsInit : TableInit Reader → Reference → Components → ℕ → PayloadError → Type 0
+FailsInit init.RefNull t c at e = (t.nullable ≡ false) × (e ≡ error.NoInitialValue at)
+FailsInit (init.Expr r) t c at e = FailsConstant (value.Ref t) r c e
 
 abbrev pub AddsTable : Table Reader → Components → Components → Type 0
-AddsTable t c d = (table_fault c t.ty ≡ None) × DeclaresInit t.init (with_table c t.ty) d
+AddsTable t c d = (table_fault c t.ty ≡ None) × AddsInit t.init t.ty.element_type (with_table c t.ty) d
 
 abbrev pub FailsTable : Table Reader → Components → ℕ → PayloadError → Type 0
-FailsTable t c at e = FailsAt (table_fault c t.ty) at e ⊎ ((table_fault c t.ty ≡ None) × FailsInit t.init (with_table c t.ty) e)
+FailsTable t c at e = FailsAt (table_fault c t.ty) at e ⊎ ((table_fault c t.ty ≡ None) × FailsInit t.init t.ty.element_type (with_table c t.ty) at e)
 
+-- The initial value of a global has its type in the context of the globals before it.
 abbrev pub AddsGlobal : Global Reader → Components → Components → Type 0
-AddsGlobal g c d = (global_fault c g.ty ≡ None) × DeclaresReferences g.init_expr (with_global c g.ty) d
+AddsGlobal g c d = (global_fault c g.ty ≡ None) ×
+    ((m : Components) × AddsConstant g.ty.content_type g.init_expr c m × Becomes (global_fault m g.ty) (with_global m g.ty) d)
 
 abbrev pub FailsGlobal : Global Reader → Components → ℕ → PayloadError → Type 0
-FailsGlobal g c at e = FailsAt (global_fault c g.ty) at e ⊎ ((global_fault c g.ty ≡ None) × FailsReferences g.init_expr (with_global c g.ty) e)
+FailsGlobal g c at e = FailsAt (global_fault c g.ty) at e ⊎ ((global_fault c g.ty ≡ None) × (FailsConstant g.ty.content_type g.init_expr c e ⊎
+    ((m : Components) × AddsConstant g.ty.content_type g.init_expr c m × FailsAt (global_fault m g.ty) at e)))
 
 -- The type of the elements. Function indices are references that are not null.
 abbrev pub type_of_items : ElementItems Reader → Reference

@@ -3,6 +3,7 @@
 //! Any call that allocates may fail with `OutOfMemory`.
 #![tactic(auto)]
 
+mod constants;
 mod elements;
 mod error;
 mod function_index;

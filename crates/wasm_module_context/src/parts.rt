@@ -1,13 +1,16 @@
 //! The items of the sections.
+ghost use Rattle.std.specs.Prelude.{IfOk, IfErr};
 ghost use Rattle.wasm_context.specs.Faults.{function_fault, memory_fault, tag_fault, external_fault, import_fault};
 ghost use Rattle.wasm_module_context.specs.Parts.{FailsAt, AddsGroup, FailsGroup, AddsImport, AddsFunction, AddsMemory, AddsTag, AddsExport, AddsTable, FailsTable, AddsGlobal, FailsGlobal};
 
+use crate::constants::add_constant;
 use crate::error::PayloadError;
 use crate::items::AddToContext;
 use std::alloc::Global as Allocator;
-use wasm_constants::{Global, Table};
+use wasm_below::ValType;
+use wasm_constants::{Constant, Global, Table};
 use wasm_context::Context;
-use wasm_externals::{Export, Import, MemoryType, TagType};
+use wasm_externals::{Export, GlobalType, Import, MemoryType, TagType};
 use wasm_types::RecGroup;
 
 impl<'a> AddToContext<'a> for RecGroup {
@@ -141,8 +144,16 @@ impl<'a> AddToContext<'a> for Table<'a> {
             return Err(PayloadError::Context(e, offset));
         }
         match init {
-            wasm_segments::TableInit::RefNull => Ok(context),
-            wasm_segments::TableInit::Expr(value) => value.add_to(alloc, context, offset),
+            wasm_segments::TableInit::RefNull => {
+                if ty.element_type.is_nullable() {
+                    Ok(context)
+                } else {
+                    Err(PayloadError::NoInitialValue(offset))
+                }
+            }
+            wasm_segments::TableInit::Expr(value) => {
+                add_constant(alloc, context, ValType::Ref(ty.element_type), value)
+            }
         }
     }
 }
@@ -159,10 +170,35 @@ impl<'a> AddToContext<'a> for Global<'a> {
         offset: u64,
     ) -> Result<Context, PayloadError> {
         let wasm_segments::Global { ty, init_expr } = self;
-        let mut context = context;
-        if let Err(e) = context.add_global(ty) {
-            return Err(PayloadError::Context(e, offset));
-        }
-        init_expr.add_to(alloc, context, offset)
+        add_global(alloc, context, offset, ty, init_expr)
+    }
+}
+
+/// Adds a global of a type with an initial value. It is at `offset`.
+fn add_global<'a>(
+    alloc: Allocator,
+    context: Context,
+    offset: u64,
+    ty: GlobalType,
+    value: Constant<'a>,
+) -> Result<Context, PayloadError>
+    ensures added { IfOk result (λ new. AddsGlobal (record { ty = ty; init_expr = value.entry }) context new) }
+    ensures refused { IfErr result (λ e. FailsGlobal (record { ty = ty; init_expr = value.entry }) context offset e) }
+{
+    let same = GlobalType {
+        content_type: ty.content_type,
+        mutable: ty.mutable,
+        shared: ty.shared,
+    };
+    if let Some(e) = context.global_fault(same) {
+        return Err(PayloadError::Context(e, offset));
+    }
+    let mut context = match add_constant(alloc, context, ty.content_type, value) {
+        Ok(context) => context,
+        Err(e) => return Err(e),
+    };
+    match context.add_global(ty) {
+        Ok(()) => Ok(context),
+        Err(e) => Err(PayloadError::Context(e, offset)),
     }
 }

@@ -6,6 +6,7 @@ use std::alloc::Global;
 use std::io::{self, Print};
 use std::process::ExitCode;
 use wasm_below::{BinaryReader, Error};
+use wasm_check::CheckError;
 use wasm_context::{Context, ContextError};
 use wasm_module_context::{PayloadError, add_payloads};
 use wasm_payloads::parse_all;
@@ -30,6 +31,16 @@ fn print_error<R: Print>(rt: &R, error: PayloadError) -> io::Result<()> {
             println!(rt; "error at 0x{offset:x}: {message}")
         }
         PayloadError::Context(ContextError::TooMany(what), _) => println!(rt; "error: {what:?}"),
+        PayloadError::Constant(CheckError::Untyped { offset, .. }) => {
+            println!(rt; "error at 0x{offset:x}: Untyped")
+        }
+        PayloadError::Constant(CheckError::NotConstant { offset }) => {
+            println!(rt; "error at 0x{offset:x}: NotConstant")
+        }
+        PayloadError::Constant(error) => println!(rt; "error: {error:?}"),
+        PayloadError::NoInitialValue(offset) => {
+            println!(rt; "error at 0x{offset:x}: NoInitialValue")
+        }
         PayloadError::Context(error, offset) => println!(rt; "error at 0x{offset:x}: {error:?}"),
     }
 }

@@ -183,6 +183,12 @@ fn error(e: &BinaryReaderError) -> String {
         format!("NotFunction({number})")
     } else if m.contains("non-empty tag result type") {
         "TagResults".into()
+    } else if m.contains("non-defaultable element type") {
+        "NoInitialValue".into()
+    } else if m.starts_with("type mismatch") {
+        "Untyped".into()
+    } else if m.starts_with("constant expression required") {
+        "NotConstant".into()
     } else if m.starts_with("unknown") {
         let kinds = ["function", "table", "memory", "global", "tag"];
         let kind = kinds.iter().position(|k| m.contains(k)).unwrap();
@@ -210,7 +216,16 @@ fn print(bytes: &[u8]) -> Result<()> {
     let mut resources = None;
     for payload in Parser::new(0).parse_all(bytes) {
         let payload = payload?;
-        match validator.payload(&payload)? {
+        let constants = matches!(payload, Payload::GlobalSection(_));
+        let valid = match validator.payload(&payload) {
+            // An operator of a constant expression has no type.
+            Err(e) if constants && e.message().starts_with("unknown global") => {
+                println!("error at 0x{:x}: Untyped", e.offset());
+                return Ok(());
+            }
+            valid => valid?,
+        };
+        match valid {
             ValidPayload::Func(f, _) => resources = Some(f.resources),
             ValidPayload::End(types) => sections.print(types.as_ref(), resources.as_ref().unwrap()),
             _ => {}
