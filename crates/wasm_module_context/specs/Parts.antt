@@ -122,14 +122,14 @@ abbrev pub FailsOffset : ElementKind Reader → Components → PayloadError → 
 FailsOffset (element.Active table r) c e = FailsReferences r c e
 FailsOffset _ c e = ⊥
 
--- The references of the elements.
+-- The references of the elements. Expressions have the type of the segment.
 abbrev pub DeclaresElements : ElementItems Reader → Components → Components → Type 0
 DeclaresElements (items.Functions s) c d = AddsItems AddsFunctionIndex (λ features. function_index) s.count s.reader c d
-DeclaresElements (items.Expressions t s) c d = AddsItems DeclaresReferences const_expr s.count s.reader c d
+DeclaresElements (items.Expressions t s) c d = AddsItems (AddsConstant (value.Ref t)) const_expr s.count s.reader c d
 
 abbrev pub FailsElements : ElementItems Reader → Components → PayloadError → Type 0
 FailsElements (items.Functions s) c e = FailsItems AddsFunctionIndex (λ x c at e. FailsAt (external_fault c kind.Func x.0) at e) (λ features. function_index) s.count s.reader c e
-FailsElements (items.Expressions t s) c e = FailsItems DeclaresReferences (λ r c at e. FailsReferences r c e) const_expr s.count s.reader c e
+FailsElements (items.Expressions t s) c e = FailsItems (AddsConstant (value.Ref t)) (λ r c at e. FailsConstant (value.Ref t) r c e) const_expr s.count s.reader c e
 
 -- An element segment: its type, then the references of the offset and of the elements.
 abbrev pub AddsElement : Element Reader → Components → Components → Type 0

@@ -3,6 +3,7 @@ ghost use Rattle.std.specs.Prelude.{◌≡◌, IfOk, IfErr};
 ghost use Rattle.wasm_module_context.specs.Parts.{type_of_items, DeclaresOffset, FailsOffset, DeclaresElements, FailsElements, AddsElement, FailsElement};
 
 use crate::error::PayloadError;
+use crate::expressions::add_expressions;
 use crate::function_index::FunctionIndex;
 use crate::items::{AddToContext, add_items};
 use std::alloc::Global;
@@ -61,8 +62,8 @@ fn declare_elements<'a>(
             );
             add_items(alloc, context, section)
         }
-        wasm_segments::ElementItems::Expressions(_, items) => {
-            add_items(alloc, context, items.section_reader(alloc))
+        wasm_segments::ElementItems::Expressions(ty, items) => {
+            add_expressions(alloc, context, ty, items.section_reader(alloc))
         }
     }
 }

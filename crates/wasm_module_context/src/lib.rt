@@ -6,6 +6,7 @@
 mod constants;
 mod elements;
 mod error;
+mod expressions;
 mod function_index;
 mod items;
 mod modules;

@@ -185,6 +185,8 @@ fn error(e: &BinaryReaderError) -> String {
         "TagResults".into()
     } else if m.contains("non-defaultable element type") {
         "NoInitialValue".into()
+    } else if m.contains("invalid element type") {
+        "ElementType".into()
     } else if m.starts_with("type mismatch") {
         "Untyped".into()
     } else if m.starts_with("constant expression required") {
