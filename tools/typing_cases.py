@@ -12,7 +12,7 @@
 PROGRAM is called with many files. It writes a line `FILE: error at 0xOFFSET (..): MESSAGE` for each file that it rejects,
 and nothing for the others.
 
-Verdicts are compared, and the offsets of errors. Cases whose faults are outside of function bodies are left out.
+Verdicts are compared, and the offsets of errors.
 
 A module is valid or not by the standard, or unsupported: it uses a proposal without typing rules in this repository.
 Offset and message are those of wasmparser 0.239 with all its features; for unsupported modules, with its default ones.
@@ -37,8 +37,6 @@ TABLE = TOP / "tools" / "original" / "typing_cases.tsv"
 COLUMNS = ["name", "label", "verdict", "offset", "message", "module"]
 # The files of a folder, and whether their modules are unsupported.
 FILES = {"fixed": False, "rule": False, "types": False, "unsup": True}
-# The cases whose faults are outside of function bodies.
-OUTSIDE = {"const", "memory limits", "table limits"}
 # In a cell: the same as in the row before.
 SAME = '"'
 BATCH = 200
@@ -144,10 +142,6 @@ def written(folder, peer):
     return out
 
 
-def is_compared(case):
-    return case.is_valid or case.name not in OUTSIDE
-
-
 def compared(program, cases, messages):
     """Returns the cases of which a program says something else, a line each."""
     with tempfile.TemporaryDirectory() as folder:
@@ -173,7 +167,7 @@ def main():
     elif given.write:
         TABLE.write_text(text_of(written(given.write, given.peer)), encoding="utf-8")
     else:
-        programs, cases, differ = built(NAME, given.program), list(filter(is_compared, cases_of())), 0
+        programs, cases, differ = built(NAME, given.program), cases_of(), 0
         for program in programs:
             lines = compared(program, cases, given.messages)
             differ += len(lines)

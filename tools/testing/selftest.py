@@ -5,7 +5,7 @@ import shutil
 import sys
 
 from testing import running
-from testing.items import BLOCKS, CHECKS, OVER_MODULES, OVER_TYPES, REPLAY, Check, Library, Program, find_jobs, is_named
+from testing.items import BLOCKS, CHECKS, OVER_MODULES, REPLAY, Check, Library, Program, find_jobs, is_named
 from testing.outcome import tail
 from testing.running import Clock
 
@@ -87,8 +87,8 @@ def breaks_of_program(folder, items):
     elif f"{name}/modules" in items:
         yield Break(f"{name}/modules", first((folder / "data").glob("*.txt")), more("one line more\n"))
     if f"{name}/types" in items:
-        tool = folder.parents[1] / "tools" / OVER_TYPES[name][0]
-        yield Break(f"{name}/types", tool, replaced(r'^OUTSIDE = {"const", ', "OUTSIDE = {"), ["unit-tests"])
+        cases = folder.parents[1] / "tools" / "original" / "typing_cases.tsv"
+        yield Break(f"{name}/types", cases, replaced(r"\tvalid\t", "\tinvalid\t"), ["unit-tests"])
 
 
 def breaks(crates):

@@ -55,10 +55,6 @@ class Compared(unittest.TestCase):
             self.assertIn("Drop, more: invalid (0x9 type mismatch: b), and 0x8 type mismatch: b by the program", found)
             self.assertEqual([it.split(":")[0] for it in typing.compared(path, CASES, True)], ["Nop, more", "Drop, more", "Try, ok"])
 
-    def test_faults_outside_of_bodies(self):
-        self.assertFalse(typing.is_compared(Case("const", "drop", "invalid", "0x8", "a", HEAD)))
-        self.assertTrue(typing.is_compared(Case("const", "ok", "valid", "", "", HEAD)))
-
     def test_a_wrong_verdict(self):
         with tempfile.TemporaryDirectory() as folder:
             found = typing.compared(program(folder, ""), CASES, False)

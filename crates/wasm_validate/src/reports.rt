@@ -122,6 +122,21 @@ impl fmt::Display for Refusal {
             ContextError::TagResults => {
                 f.write_str("invalid exception type: non-empty tag result type")
             }
+            ContextError::MinimumAboveMaximum => {
+                f.write_str("size minimum must not be greater than maximum")
+            }
+            ContextError::PageSize => f.write_str("invalid custom page size"),
+            ContextError::MemorySize(pages, bytes) => write!(
+                f,
+                "memory size must be at most 0x{pages:x} {bytes}-byte pages"
+            ),
+            ContextError::SharedWithoutMaximum => {
+                f.write_str("shared memory must have maximum size")
+            }
+            ContextError::TableSize(most) => write!(
+                f,
+                "table size must be at most {most} elements"
+            ),
             ContextError::Unknown(kind, index) => {
                 let kind = kind_name(kind);
                 write!(f, "unknown {kind} {index}: {kind} index out of bounds")
@@ -220,30 +235,62 @@ fn report_body(rt: &HostRuntime, file: &str, bytes: &[u8], faulty: FaultyBody<'_
     }
 }
 
+/// Prints an error at an offset outside of function bodies, and returns the exit status.
+fn print_outside<D: fmt::Display + Drop>(rt: &HostRuntime, file: &str, offset: u64, why: D) -> u8 {
+    let place = Place {
+        offset,
+        function: None,
+    };
+    print_error(rt, file, place, why)
+}
+
+/// Prints why a constant expression is rejected, and returns the exit status.
+fn report_constant(rt: &HostRuntime, file: &str, error: CheckError) -> u8 {
+    match error {
+        CheckError::Memory => print_memory(rt, file),
+        CheckError::Decode(error) => print_unread(rt, file, error, None),
+        CheckError::NotConstant { offset } => print_outside(
+            rt,
+            file,
+            offset,
+            "constant expression required: non-constant operator",
+        ),
+        CheckError::Untyped { offset, mismatch } => match mismatch {
+            Some(mismatch) => print_outside(rt, file, offset, Reason::Operand(mismatch)),
+            None => print_outside(rt, file, offset, "type mismatch"),
+        },
+        CheckError::InvalidLocal { offset, .. } | CheckError::TooManyLocals { offset } => {
+            print_outside(rt, file, offset, "type mismatch")
+        }
+    }
+}
+
+/// Prints why a section is rejected, and returns the exit status.
+fn report_section(rt: &HostRuntime, file: &str, error: PayloadError) -> u8 {
+    match error {
+        PayloadError::Decode(error) => print_unread(rt, file, error, None),
+        PayloadError::Constant(error) => report_constant(rt, file, error),
+        PayloadError::NoInitialValue(offset) => print_outside(
+            rt,
+            file,
+            offset,
+            "type mismatch: non-defaultable element type must have initialization expression",
+        ),
+        PayloadError::Context(error, offset) => match error {
+            ContextError::OutOfMemory | ContextError::Type(TypeError::OutOfMemory) => {
+                print_memory(rt, file)
+            }
+            _ => print_outside(rt, file, offset, Refusal(error)),
+        },
+    }
+}
+
 /// Prints why a module is rejected, and returns the exit status.
 pub fn report(rt: &HostRuntime, file: &str, bytes: &[u8], fault: Fault<'_>) -> u8 {
     match fault {
         Fault::Parse(error) => print_unread(rt, file, error, None),
-        Fault::Section(PayloadError::Decode(error)) => print_unread(rt, file, error, None),
-        Fault::Section(PayloadError::Context(error, offset)) => {
-            let place = Place {
-                offset,
-                function: None,
-            };
-            match error {
-                ContextError::OutOfMemory | ContextError::Type(TypeError::OutOfMemory) => {
-                    print_memory(rt, file)
-                }
-                _ => print_error(rt, file, place, Refusal(error)),
-            }
-        }
-        Fault::NoFunction(offset) => {
-            let place = Place {
-                offset,
-                function: None,
-            };
-            print_error(rt, file, place, "the body is of no function")
-        }
+        Fault::Section(error) => report_section(rt, file, error),
+        Fault::NoFunction(offset) => print_outside(rt, file, offset, "the body is of no function"),
         Fault::Body(faulty) => report_body(rt, file, bytes, faulty),
     }
 }
