@@ -22,7 +22,7 @@ def counted_visits(ops):
 
 
 def told_visit(op):
-    """Returns a visit that passes its operator on. That of an inner enum is passed as such, since its proof is half as long."""
+    """Returns a visit that passes its operator on. An operator of an inner enum is passed as such: the proof is half as long."""
     value, is_inner = made(op), op.group != "Own"
     inner_value = value.removeprefix(f"Operator::{op.group}(").removesuffix(")") if is_inner else value
     return own_visit(op, inner_value, " -> Self::Output", f"own_{op.group.lower()}" if is_inner else "own")

@@ -227,8 +227,8 @@ fn read_word(
     }
 }
 
-/// Reads the arguments after the program's name. A value is the argument after its option, or stands
-/// after `=` in the same argument. After `--`, all arguments are files.
+/// Reads the arguments after the program's name. A value is the argument after its option, or
+/// the text after `=` in the same argument. After `--`, all arguments are files.
 pub fn read_arguments(
     alloc: Global,
     choices: &[Choice],

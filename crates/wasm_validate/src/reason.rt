@@ -24,7 +24,7 @@ pub enum Reason {
     Text(&'static str),
 }
 
-/// Returns the name of an abstract heap type, and that of references to it that may be null.
+/// Returns the name of an abstract heap type, and the name of nullable references to it.
 fn names(ty: AbstractHeapType) -> (&'static str, &'static str) {
     match ty {
         AbstractHeapType::Func => ("func", "funcref"),

@@ -22,7 +22,7 @@ pub enum Fault<'a> {
     Parse(Error),
     /// A section gives no part of a context.
     Section(PayloadError),
-    /// The body at this offset is that of no function.
+    /// The body at this offset belongs to no function.
     NoFunction(u64),
     Body(FaultyBody<'a>),
 }

@@ -122,7 +122,7 @@ fn check_payloads<'a>(alloc: Global, parser: Parser<'a>, stage: Stage) -> Result
 pub fn check_functions<'a>(alloc: Global, reader: BinaryReader<'a>) -> Result<(), Fault<'a>>
     // On `Ok`, each body is typed with the type of its function.
     ensures typed { OnOk result (AreTyped reader.entry) }
-    // The error is that of the first payload that can't be read or checked.
+    // The error is what the first payload that can't be read or checked gives.
     ensures error { IfErr result (λ f. Stops reader.entry f) }
 {
     let stage = Stage {
