@@ -80,7 +80,7 @@ pub record ExceedsLimitAt (params : ℕ) (body : Reader) (offset : ℕ) : Type 0
   pub within : params + length (locals_of before) ≤ max_function_locals
   pub beyond : max_function_locals < params + length (locals_of before) + declaration.0
 
--- The same. Or the parameters alone exceed the limit: then the offset is that of the body.
+-- The same. Or the parameters alone exceed the limit: then the body starts at this offset.
 abbrev pub HasTooManyAt : ℕ → Reader → ℕ → Type 0
 HasTooManyAt params body offset = ((max_function_locals < params) × (offset ≡ offset_of body)) ⊎ ExceedsLimitAt params body offset
 

@@ -69,7 +69,7 @@ is_constant E _ = false
 abbrev pub constant_in : Environment → ValType → Environment
 constant_in E ty = in_function E [] (ty ∷ []) []
 
--- Which operators may occur: all of them, or those of constant expressions.
+-- Whether an operator may occur in an expression, which has to be constant if the first argument is true.
 abbrev pub may_occur : Bool → Environment → Operator → Bool
 may_occur true E op = is_constant E op
 may_occur false E op = true

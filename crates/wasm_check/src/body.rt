@@ -73,8 +73,9 @@ fn read_locals<'a, M: ModuleContext>(
 }
 
 /// Checks that `body` has the bytes of a function's body and no more, and that its expression is
-/// typed: in the context of the module with the parameters followed by the declared locals, it leaves
-/// the results. Specification: Validation, Functions; Binary Format, Code Section.
+/// typed. The context is the module, with the parameters of `ty` followed by the declared locals. The
+/// expression leaves the results of `ty`. Specification: Validation, Functions; Binary Format, Code
+/// Section.
 pub fn check_body<M: ModuleContext>(
     alloc: Global,
     module: &M,

@@ -7,9 +7,10 @@ mod row;
 mod types;
 
 use crate::context::RowContext;
-use crate::row::row_of;
+use crate::row::{Row, row_of};
+use std::alloc::Global;
 use std::io::{self, Print};
-use wasm_check::{CheckError, FuncType, ModuleContext, check_body, check_constant};
+use wasm_check::{CheckError, ModuleContext, check_body, check_constant};
 use wasm_operators::{BinaryReader, WasmFeatures};
 use wasm_tests_texts::read_input;
 
@@ -24,29 +25,12 @@ fn main(rt: HostRuntime) -> io::Result<()> {
     for line in text.lines() {
         let row = row_of(alloc, line)?;
         rows = rows.saturating_add(1);
-        let context = RowContext { row: &row };
-        let ty = context.type_at(row.ty).unwrap_or(FuncType {
-            params: &[],
-            results: &[],
-        });
-        let code = BinaryReader::new_features(row.code.as_slice(), 0, WasmFeatures::all());
-        let checked = match row.constant {
-            Some(ty) => check_constant(alloc, &context, ty, code),
-            None => check_body(alloc, &context, ty, code),
-        };
-        let found = match checked {
-            Ok(()) => Verdict::Typed,
-            Err(
-                CheckError::Untyped { .. }
-                | CheckError::InvalidLocal { .. }
-                | CheckError::TooManyLocals { .. }
-                | CheckError::NotConstant { .. },
-            ) => Verdict::Untyped,
-            Err(CheckError::Decode(_)) => Verdict::Undecoded,
-            Err(CheckError::Memory) => Verdict::NoMemory,
-        };
+        let found = check_row(alloc, &row);
         if matches!(found, Verdict::Typed) != row.valid
-            || matches!(found, Verdict::Undecoded | Verdict::NoMemory)
+            || matches!(
+                found,
+                Verdict::NoType | Verdict::Undecoded | Verdict::NoMemory,
+            )
         {
             differ = differ.saturating_add(1);
             println!(rt; "{line}")?;
@@ -59,6 +43,33 @@ fn main(rt: HostRuntime) -> io::Result<()> {
 enum Verdict {
     Typed,
     Untyped,
+    NoType,
     Undecoded,
     NoMemory,
+}
+
+fn check_row(alloc: Global, row: &Row) -> Verdict {
+    let context = RowContext { row };
+    let code = BinaryReader::new_features(row.code.as_slice(), 0, WasmFeatures::all());
+    if let Some(ty) = row.constant {
+        return verdict_of(check_constant(alloc, &context, ty, code));
+    }
+    match context.type_at(row.ty) {
+        Some(ty) => verdict_of(check_body(alloc, &context, ty, code)),
+        None => Verdict::NoType,
+    }
+}
+
+fn verdict_of(checked: Result<(), CheckError>) -> Verdict {
+    match checked {
+        Ok(()) => Verdict::Typed,
+        Err(
+            CheckError::Untyped { .. }
+            | CheckError::InvalidLocal { .. }
+            | CheckError::TooManyLocals { .. }
+            | CheckError::NotConstant { .. },
+        ) => Verdict::Untyped,
+        Err(CheckError::Decode(_)) => Verdict::Undecoded,
+        Err(CheckError::Memory) => Verdict::NoMemory,
+    }
 }
