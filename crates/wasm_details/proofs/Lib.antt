@@ -1,3 +1,4 @@
+pub mod Appended
 pub mod Listed
 pub mod Spaced
 pub mod Shown

@@ -5,13 +5,12 @@ use Rattle.wasm_below.specs.Source.{Reader, rest}
 use Rattle.wasm_names.specs.declared.name.Name.{Name}
 use Rattle.wasm_names.specs.Subsections.{NamesLeft, HasEnded, ReadsSubsection}
 use Rattle.wasm_details.specs.declared.fault.Fault.{Fault}
-use Rattle.wasm_details.specs.declared.fault.Fault.TheVariants as fault
 use Rattle.wasm_details.specs.declared.place.Place.{Place}
 use Rattle.std.specs.Io.KnownBytes.{Appends}
 use Rattle.wasm_externals.specs.Texts.{text}
 use Rattle.wasm_grammars.specs.Grammar.{HasReadBy}
-use Rattle.wasm_details.specs.Contents.{is_name, ListsData, ListsCustom}
-use Rattle.wasm_details.specs.Names.{ListsName, AreNamed, ListsNames}
+use Rattle.wasm_details.specs.Contents.{is_name, ListsCustomData, ListsCustom}
+use Rattle.wasm_details.specs.Names.{ListsName, AreNamed}
 use Rattle.wasm_details.specs.Namings.{custom_text}
 
 pub named_more : (place : Place) (r mid new : Reader) (ns : List Name) (n : Name) (p : Place) (old between after : Option (List ℕ)) → AreNamed place r ns mid old between →
@@ -26,18 +25,9 @@ pub names_end : (s : NamesLeft) → s.refused ≡ false → HasEnded s → rest 
 names_end s going (inl refused) = absurd (false≢true (sym going ∙ refused))
 names_end s going (inr none) = none
 
--- A name in a subsection is in error.
-pub names_stop : (place : Place) (first end later : Reader) (ns : List Name) (n : Name) (f : Fault) (old mid new : Option (List ℕ)) → AreNamed place first ns end old mid →
-    ReadsSubsection (Ok n) end later → ListsName n place (Err f) mid new → ListsNames place first (Err f) old new
-names_stop place first end later ns n (fault.Section e) old mid new named reads lists = (ns, end, mid, named, inr (n, later, reads, lists))
-names_stop place first end later ns n fault.Writing old mid new named reads lists = tt
-names_stop place first end later ns n fault.Memory old mid new named reads lists = tt
-
 -- The data after the title of a custom section.
 pub custom_listed : (contents after : Reader) (name : List ℕ) (place : Place) (r : Result Place Fault) (old titled new : Option (List ℕ)) →
-    HasReadBy text name contents after → Appends old titled (custom_text name) → ListsData (is_name name) after place r titled new →
+    HasReadBy text name contents after → Appends old titled (custom_text name) → ListsCustomData (is_name name) after place r titled new →
     ListsCustom contents place r old new
-custom_listed contents after name place (Ok next) old titled new read wrote lists = (name, after, read, titled, wrote, lists)
-custom_listed contents after name place (Err (fault.Section e)) old titled new read wrote lists = inr (name, after, read, titled, wrote, lists)
-custom_listed contents after name place (Err fault.Writing) old titled new read wrote lists = tt
-custom_listed contents after name place (Err fault.Memory) old titled new read wrote lists = tt
+custom_listed contents after name place (Ok next) old titled new read wrote lists = (name, after, read, (titled, wrote, lists))
+custom_listed contents after name place (Err f) old titled new read wrote lists = inr (name, after, read, inr (titled, wrote, lists))

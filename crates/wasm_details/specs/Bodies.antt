@@ -1,15 +1,13 @@
 -- Function bodies, the start function and the data count, in the form of wabt's `wasm-objdump -x`.
 -- Specification: Binary Format, Code Section, Start Section, Data Count Section.
-use Rattle.std.specs.Prelude.{ℕ, List, ◌++◌, length, codes, decimal}
-use Rattle.wasm_below.specs.Source.{Reader, rest}
+use Rattle.std.specs.Prelude.{ℕ, List, ◌++◌, codes, decimal}
 use Rattle.wasm_text.specs.Lines.{shown_name}
-use Rattle.wasm_details.specs.declared.place.Place.{Place}
 use Rattle.wasm_details.specs.Places.{ModuleNames, name_at}
 
 -- A body: the index of its function, its size in bytes and the function's name.
-abbrev pub body_line : ModuleNames → Place → Reader → List ℕ
-body_line names place body =
-    codes " - func[" ++ (decimal place.next ++ (codes "] size=" ++ (decimal (length (rest body)) ++ (shown_name (name_at names.functions place.next) ++ codes "\n"))))
+abbrev pub body_line : ModuleNames → ℕ → ℕ → List ℕ
+body_line names index size =
+    codes " - func[" ++ (decimal index ++ (codes "] size=" ++ (decimal size ++ (shown_name (name_at names.functions index) ++ codes "\n"))))
 
 -- A name in angle brackets, nothing if it is empty, and the end of the line.
 abbrev pub last_name : List ℕ → List ℕ

@@ -24,8 +24,8 @@ abbrev pub function_text : ModuleNames → ℕ → ℕ → List ℕ
 function_text names index ty = codes " - func[" ++ (decimal index ++ (codes "] sig=" ++ (decimal ty ++ shown_name (name_at names.functions index))))
 
 -- The line of a function.
-abbrev pub function_line : ModuleNames → Place → ℕ → List ℕ
-function_line names place ty = function_text names place.next ty ++ codes "\n"
+abbrev pub function_line : ModuleNames → ℕ → ℕ → List ℕ
+function_line names index ty = function_text names index ty ++ codes "\n"
 
 -- The greatest size, if there is one.
 abbrev pub maximum_text : Option ℕ → List ℕ
@@ -68,8 +68,8 @@ abbrev pub memory_text : ℕ → MemoryType → List ℕ
 memory_text index m = codes " - memory[" ++ (decimal index ++ pages_text m)
 
 -- The line of a memory.
-abbrev pub memory_line : Place → MemoryType → List ℕ
-memory_line place m = memory_text place.next m ++ codes "\n"
+abbrev pub memory_line : ℕ → MemoryType → List ℕ
+memory_line index m = memory_text index m ++ codes "\n"
 
 -- A table: its index, the type of its elements and its sizes.
 abbrev pub table_text : ℕ → TableType → List ℕ
@@ -92,8 +92,8 @@ abbrev pub tag_text : ℕ → TagType → List ℕ
 tag_text index t = codes " - tag[" ++ (decimal index ++ (codes "] sig=" ++ decimal t.func_type_idx))
 
 -- The line of a tag.
-abbrev pub tag_line : Place → TagType → List ℕ
-tag_line place t = tag_text place.next t ++ codes "\n"
+abbrev pub tag_line : ℕ → TagType → List ℕ
+tag_line index t = tag_text index t ++ codes "\n"
 
 -- The thing that is imported. Its index follows the imports of its kind before it.
 abbrev pub imported_text : ModuleNames → Imported → TypeRef → List ℕ
@@ -104,9 +104,9 @@ imported_text names i (ty.Global t) = global_text i.globals t
 imported_text names i (ty.Tag t) = tag_text i.tags t ++ shown_name (name_at names.tags i.tags)
 
 -- The thing, and the names of the import.
-abbrev pub import_line : ModuleNames → Place → Import → List ℕ
-import_line names place i =
-    imported_text names place.imported i.ty ++ (codes " <- " ++ (escaped i.«module» ++ (codes "." ++ (escaped i.name ++ codes "\n"))))
+abbrev pub import_line : ModuleNames → Imported → Import → List ℕ
+import_line names imported i =
+    imported_text names imported i.ty ++ (codes " <- " ++ (escaped i.«module» ++ (codes "." ++ (escaped i.name ++ codes "\n"))))
 
 -- What is imported after an import of this type.
 abbrev pub with_import : Imported → TypeRef → Imported
@@ -118,7 +118,7 @@ with_import i (ty.Tag t) = record { functions = i.functions; tables = i.tables; 
 
 -- The place after an import.
 abbrev pub after_import : Place → Import → Place
-after_import place i = record { next = after_index place.next; imported = with_import place.imported i.ty }
+after_import place i = record { next = after_index place.next; address = place.address; imported = with_import place.imported i.ty }
 
 -- The words before the index of what is exported.
 abbrev pub kind_text : ExternalKind → List ℕ

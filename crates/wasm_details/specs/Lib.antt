@@ -1,9 +1,13 @@
 pub mod Places
+pub mod Writing
 pub mod Items
 pub mod Types
 pub mod Externals
 pub mod Bodies
 pub mod Namings
+pub mod Constants
+pub mod Rows
+pub mod Segments
 pub mod Contents
 pub mod Module
 pub mod Names

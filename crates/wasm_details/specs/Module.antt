@@ -1,6 +1,5 @@
 -- A module: the sections, which are shown one after another. Specification: Binary Format, Modules.
 use Rattle.std.specs.Prelude.{◌≡◌, ◌⊎◌, ℕ, List, [], ◌∷◌, ◌++◌, Bool, true, false, Option, Some, None, Result, Ok, Err, codes, map}
-use Rattle.std.specs.Io.KnownBytes.{Appends}
 use Rattle.wasm_below.specs.declared.error.Error.{Error}
 use Rattle.wasm_below.specs.declared.features.WasmFeatures.{WasmFeatures}
 use Rattle.wasm_below.specs.Source.{Reader, rest, reader_of, HasRead}
@@ -15,37 +14,41 @@ use Rattle.wasm_details.specs.declared.fault.Fault.{Fault}
 use Rattle.wasm_details.specs.declared.fault.Fault.TheVariants as fault
 use Rattle.wasm_details.specs.declared.place.Imported.{Imported}
 use Rattle.wasm_details.specs.declared.place.Place.{Place}
+use Rattle.wasm_details.specs.Constants.{Constants}
 use Rattle.wasm_details.specs.Places.{ModuleNames}
+use Rattle.wasm_details.specs.Writing.{WritesThen}
 use Rattle.wasm_details.specs.Contents.{first_place, ListsContents}
 
 -- What is appended for sections, one after another.
-abbrev pub AreListed : ModuleNames → Imported → List SectionParts → Imported → Option (List ℕ) → Option (List ℕ) → Type 0
-AreListed names i [] j old new = (j ≡ i) × (new ≡ old)
-AreListed names i (s ∷ ss) j old new =
-    (p : Place) × (between : Option (List ℕ)) × ListsContents names s.id s.contents (first_place s.id i) (Ok p) old between × AreListed names p.imported ss j between new
+abbrev pub AreListed : {X : Type 0} → Constants X → ModuleNames → Imported → List SectionParts → Imported → Option (List ℕ) → Option (List ℕ) → Type 0
+AreListed k names i [] j old new = (j ≡ i) × (new ≡ old)
+AreListed k names i (s ∷ ss) j old new =
+    (p : Place) × (between : Option (List ℕ)) × ListsContents k names s.id s.contents (first_place s.id i) (Ok p) old between ×
+    AreListed k names p.imported ss j between new
 
 -- Nothing is imported.
 abbrev pub none_imported : Imported
 none_imported = record { functions = 0; tables = 0; memories = 0; globals = 0; tags = 0 }
 
 -- Between the two readers are these sections, whose text is appended.
-pub record ShowsDetails (names : ModuleNames) (first next : Reader) (j : Imported) (old new : Option (List ℕ)) : Type 0 where
+pub record ShowsDetails {X : Type 0} (k : Constants X) (names : ModuleNames) (first next : Reader) (j : Imported) (old new : Option (List ℕ)) : Type 0 where
   pub sections : List SectionParts
   pub occur : SectionsOccur first sections next
-  pub listed : AreListed names none_imported sections j old new
+  pub listed : AreListed k names none_imported sections j old new
 
--- The next section is in error: as a whole, or in its contents, of which a part is appended.
-abbrev pub StopsDetails : ModuleNames → Imported → Error → Reader → Option (List ℕ) → Option (List ℕ) → Type 0
-StopsDetails names j e next old new =
-    (IsRefusedAs (EncodesSection next.features) SectionFault e next × (new ≡ old)) ⊎
-    ((s : SectionParts) × (later : Reader) × HasRead (EncodesSection next.features) s next later × ListsContents names s.id s.contents (first_place s.id j) (Err (fault.Section e)) old new)
+-- The next section is in error as a whole; or its contents are, or writing or allocation fails in
+-- them.
+abbrev pub StopsDetails : {X : Type 0} → Constants X → ModuleNames → Imported → Fault → Reader → Option (List ℕ) → Option (List ℕ) → Type 0
+StopsDetails k names j f next old new =
+    ((e : Error) × (f ≡ fault.Section e) × IsRefusedAs (EncodesSection next.features) SectionFault e next × (new ≡ old)) ⊎
+    ((s : SectionParts) × (later : Reader) × HasRead (EncodesSection next.features) s next later × ListsContents k names s.id s.contents (first_place s.id j) (Err f) old new)
 
--- All sections are shown, or those before an error, unless writing or allocation failed.
-abbrev pub ListsDetails : {X : Type 0} → ModuleNames → Reader → Result X Fault → Option (List ℕ) → Option (List ℕ) → Type 0
-ListsDetails names first (Ok x) old new = (next : Reader) × (j : Imported) × ShowsDetails names first next j old new × (rest next ≡ [])
-ListsDetails names first (Err (fault.Section e)) old new =
-    (next : Reader) × (j : Imported) × (mid : Option (List ℕ)) × ShowsDetails names first next j old mid × StopsDetails names j e next mid new
-ListsDetails names first (Err _) old new = Unit {0}
+-- All sections are written; or those before the first that is not written completely, and a part of
+-- it.
+abbrev pub ListsDetails : {X Y : Type 0} → Constants X → ModuleNames → Reader → Result Y Fault → Option (List ℕ) → Option (List ℕ) → Type 0
+ListsDetails k names first (Ok x) old new = (next : Reader) × (j : Imported) × ShowsDetails k names first next j old new × (rest next ≡ [])
+ListsDetails k names first (Err f) old new =
+    (next : Reader) × (j : Imported) × (mid : Option (List ℕ)) × ShowsDetails k names first next j old mid × StopsDetails k names j f next mid new
 
 -- Allocation failed while the functions were read.
 abbrev pub is_memory : ModuleFault → Bool
@@ -86,20 +89,19 @@ IsNameOf whole name =
     ((sections : List SectionParts) → IsModule whole sections → NamesModule whole name) ×
     (((sections : List SectionParts) → IsModule whole sections → ⊥) → name ≡ [])
 
--- A heading is appended, and the text of the sections.
-pub record WritesDetails {X : Type 0} (whole : Reader) (file : Option (List ℕ)) (result : Result X Fault) (old new : Option (List ℕ)) : Type 0 where
+-- A heading is written, and the sections.
+pub record WritesDetails {X Y : Type 0} (k : Constants X) (whole : Reader) (file : Option (List ℕ)) (result : Result Y Fault) (old new : Option (List ℕ)) : Type 0 where
   pub after : Reader
   pub begins : BeginsModule whole after
   pub name : List ℕ
   pub is_name : IsNameOf whole name
   pub names : ModuleNames
   pub are_names : AreNames whole names
-  pub titled : Option (List ℕ)
-  pub title : Appends old titled (heading_of file name)
-  pub lists : ListsDetails names after result titled new
+  pub lists : WritesThen (heading_of file name) (ListsDetails k names after) result old new
 
--- The sections are shown, up to an error, unless writing or allocation failed.
-abbrev pub ListsModule : {X : Type 0} → WasmFeatures → Option (List ℕ) → List ℕ → Result X Fault → Option (List ℕ) → Option (List ℕ) → Type 0
-ListsModule features file bytes (Ok x) old new = WritesDetails (reader_of features 0 bytes) file (Ok x) old new
-ListsModule {X} features file bytes (Err (fault.Section e)) old new = WritesDetails {X = X} (reader_of features 0 bytes) file (Err (fault.Section e)) old new
-ListsModule features file bytes (Err _) old new = Unit {0}
+-- The module is written, completely or up to an error. If allocation fails before the names are
+-- known, nothing is written.
+abbrev pub ListsModule : {X Y : Type 0} → Constants X → WasmFeatures → Option (List ℕ) → List ℕ → Result Y Fault → Option (List ℕ) → Option (List ℕ) → Type 0
+ListsModule k features file bytes (Ok x) old new = WritesDetails k (reader_of features 0 bytes) file (Ok x) old new
+ListsModule {X} {Y} k features file bytes (Err f) old new =
+    ((f ≡ fault.Memory) × (new ≡ old)) ⊎ WritesDetails {Y = Y} k (reader_of features 0 bytes) file (Err f) old new

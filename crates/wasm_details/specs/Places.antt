@@ -20,4 +20,4 @@ after_index index = min (index + 1) (2 ^ 32 - 1)
 
 -- The place after one item.
 abbrev pub after_one : Place → Place
-after_one p = record { next = after_index p.next; imported = p.imported }
+after_one p = record { next = after_index p.next; address = p.address; imported = p.imported }

@@ -117,4 +117,4 @@ group_lines place group = type_lines place.next (types_of group)
 
 -- The place after the types of a group.
 abbrev pub after_group : Place → RecGroup → Place
-after_group place group = record { next = after_types place.next (types_of group); imported = place.imported }
+after_group place group = record { next = after_types place.next (types_of group); address = place.address; imported = place.imported }

@@ -1,31 +1,49 @@
-ghost use Rattle.std.specs.Prelude.{◌≡◌, ◌++◌, OnOk, string_bytes};
+ghost use Rattle.std.specs.Prelude.{◌≡◌, ◌++◌, OnOk, length, string_bytes};
+ghost use Rattle.wasm_below.specs.Source.{rest};
 ghost use Rattle.wasm_details.specs.Bodies.{body_line, last_name, named_index, start_text, data_count_text};
 ghost use Rattle.wasm_details.specs.Places.{after_one};
+ghost use Rattle.wasm_details.specs.Writing.{WritesLine};
 
 use crate::details::Details;
 use crate::externals::push_name;
+use crate::fault::Fault;
 use crate::names::Names;
 use crate::place::{Place, after_one};
+use crate::writing::write_text;
 use std::alloc::Global;
+use std::io::Write;
 use wasm_below::BinaryReader;
 use wasm_text::Written;
 
+/// Appends the line of a body with this size.
+fn push_body(out: &mut String, names: &Names, index: u32, size: usize) -> Written
+    ensures { OnOk result (string_bytes out.new ≡ string_bytes out.old ++ body_line names.now index size) }
+{
+    write!(out, " - func[{index}] size={size}")?;
+    push_name(out, names.function(index))?;
+    out.push_str("\n")
+}
+
 /// An item of the code section: a function's body, without its size.
 impl<'a> Details<'a, Names> for BinaryReader<'a> {
-    ghost lines = { body_line };
+    ghost lists = { λ names place body. WritesLine (body_line names place.next (length (rest body))) (after_one place) };
 
-    ghost after = { λ place body. after_one place };
-
-    fn push_lines(&self, _alloc: Global, out: &mut String, names: &Names, place: Place) -> Written {
-        let index = place.next;
-        let size = self.bytes_remaining();
-        write!(out, " - func[{index}] size={size}")?;
-        push_name(out, names.function(index))?;
-        out.push_str("\n")
-    }
-
-    fn place_after(&self, place: Place) -> Place {
-        after_one(place)
+    fn write_lines<W: Write>(
+        &self,
+        _alloc: Global,
+        writer: &mut W,
+        line: &mut String,
+        names: &Names,
+        place: Place,
+    ) -> Result<Place, Fault> {
+        line.clear();
+        if push_body(line, names, place.next, self.bytes_remaining()).is_err() {
+            return Err(Fault::Memory);
+        }
+        match write_text(writer, line.as_str()) {
+            Ok(()) => Ok(after_one(place)),
+            Err(fault) => Err(fault),
+        }
     }
 }
 

@@ -1,15 +1,15 @@
-ghost use Rattle.std.specs.Prelude.{◌≡◌, ◌<◌, IfErr, OnOk};
-ghost use Rattle.std.specs.Io.KnownBytes.{Appends};
+ghost use Rattle.std.specs.Prelude.{◌≡◌, ◌<◌};
 ghost use Rattle.wasm_below.specs.declared.message.Message.TheVariants as message;
 ghost use Rattle.wasm_below.specs.declared.malformed.Malformed.TheVariants as malformed;
 ghost use Rattle.wasm_details.specs.Bodies.{start_text, data_count_text};
-ghost use Rattle.wasm_details.specs.Items.{IsHalt};
 ghost use Rattle.wasm_details.specs.Namings.{custom_text};
-ghost use Rattle.wasm_details.specs.Contents.{first_index, first_place, ListsNumber, ListsTitle, ListsUnknown, ListsCustom, ListsData, is_name, ListsContents};
+ghost use Rattle.wasm_details.specs.Contents.{first_index, first_place, ListsNumber, unknown_text, ListsCustom, ListsCustomData, is_name, ListsContents};
+ghost use Rattle.wasm_details.specs.Writing.{WritesText, WritesLine};
 
 use crate::bodies::{push_data_count, push_start};
+use crate::constants::SegmentDetails;
 use crate::fault::Fault;
-use crate::items::{write_section, write_title};
+use crate::items::write_section;
 use crate::name_section::write_names;
 use crate::names::Names;
 use crate::namings::push_custom;
@@ -21,6 +21,7 @@ use wasm_below::{BinaryReader, Malformed, Message};
 use wasm_externals::{Export, Import, MemoryType, TagType, Text};
 use wasm_grammars::Read;
 use wasm_sections::read_all;
+use wasm_segments::Table;
 use wasm_types::RecGroup;
 
 /// Returns the index of the first thing that a section with this id defines.
@@ -44,6 +45,7 @@ pub fn first_place(id: u8, imported: Imported) -> Place
 {
     Place {
         next: first_index(id, imported),
+        address: 0,
         imported,
     }
 }
@@ -69,8 +71,10 @@ fn write_start<W: Write>(
     if push_start(line, names, index).is_err() {
         return Err(Fault::Memory);
     }
-    write_text(writer, line.as_str())?;
-    Ok(place)
+    match write_text(writer, line.as_str()) {
+        Ok(()) => Ok(place),
+        Err(fault) => Err(fault),
+    }
 }
 
 /// Writes the data count section.
@@ -93,36 +97,20 @@ fn write_data_count<W: Write>(
     if push_data_count(line, count).is_err() {
         return Err(Fault::Memory);
     }
-    write_text(writer, line.as_str())?;
-    Ok(place)
-}
-
-/// Writes the title of a section with its number of items.
-fn write_titled<W: Write>(
-    alloc: Global,
-    writer: &mut W,
-    line: &mut String,
-    place: Place,
-    title: &str,
-    contents: BinaryReader<'_>,
-) -> Result<Place, Fault>
-    ensures { ListsTitle title.now contents.entry place result (W.contents writer.old) (W.contents writer.new) }
-{
-    let mut reader = contents;
-    let count = match u32::read_from(alloc, &mut reader) {
-        Ok(count) => count,
-        Err(e) => return Err(Fault::Section(e)),
-    };
-    write_title(writer, line, title, count)?;
-    Ok(place)
+    match write_text(writer, line.as_str()) {
+        Ok(()) => Ok(place),
+        Err(fault) => Err(fault),
+    }
 }
 
 /// Writes the title of a section that is not known.
 fn write_unknown<W: Write>(writer: &mut W, place: Place) -> Result<Place, Fault>
-    ensures { ListsUnknown place result (W.contents writer.old) (W.contents writer.new) }
+    ensures { WritesLine unknown_text place result (W.contents writer.old) (W.contents writer.new) }
 {
-    write_text(writer, "Unknown:\n")?;
-    Ok(place)
+    match write_text(writer, "Unknown:\n") {
+        Ok(()) => Ok(place),
+        Err(fault) => Err(fault),
+    }
 }
 
 /// Writes the title of a custom section.
@@ -132,8 +120,7 @@ fn write_custom_title<W: Write>(
     line: &mut String,
     name: &str,
 ) -> Result<(), Fault>
-    ensures ok { OnOk result (Appends (W.contents writer.old) (W.contents writer.new) (custom_text name.now)) }
-    ensures err { IfErr result (λ fault. IsHalt fault) }
+    ensures { WritesText (custom_text name.now) result (W.contents writer.old) (W.contents writer.new) }
 {
     line.clear();
     if push_custom(alloc, line, name).is_err() {
@@ -151,7 +138,7 @@ fn write_data<W: Write>(
     name: &str,
     contents: BinaryReader<'_>,
 ) -> Result<Place, Fault>
-    ensures { ListsData (is_name name.now) contents.entry place result (W.contents writer.old) (W.contents writer.new) }
+    ensures { ListsCustomData (is_name name.now) contents.entry place result (W.contents writer.old) (W.contents writer.new) }
 {
     let is_name = name == "name";
     if is_name {
@@ -177,7 +164,9 @@ fn write_custom<W: Write>(
         Err(e) => return Err(Fault::Section(e)),
     };
     let shown = name.as_str();
-    write_custom_title(alloc, writer, line, shown)?;
+    if let Err(fault) = write_custom_title(alloc, writer, line, shown) {
+        return Err(fault);
+    }
     write_data(alloc, writer, line, place, shown, reader)
 }
 
@@ -185,60 +174,64 @@ fn write_custom<W: Write>(
 /// place after the last item.
 ///
 /// Fails with `Section` if the section is in error, after the items before the error.
-pub fn write_contents<W: Write>(
+pub fn write_contents<'a, W: Write, C: SegmentDetails<'a>>(
     alloc: Global,
     writer: &mut W,
     line: &mut String,
     names: &Names,
     place: Place,
     id: u8,
-    contents: BinaryReader<'_>,
+    contents: BinaryReader<'a>,
 ) -> Result<Place, Fault>
-    ensures { ListsContents names.now id contents.entry place result (W.contents writer.old) (W.contents writer.new) }
+    ensures { ListsContents (record { grammar = C.grammar; shows = C.shows }) names.now id contents.entry place result (W.contents writer.old) (W.contents writer.new) }
 {
     match id {
         0 => write_custom(alloc, writer, line, place, contents),
         1 => write_section::<W, Names, RecGroup>(
             alloc, writer, line, names, place, "Type", contents,
         ),
-        2 => write_section::<W, Names, Import<'_>>(
+        2 => write_section::<W, Names, Import<'a>>(
             alloc, writer, line, names, place, "Import", contents,
         ),
         3 => write_section::<W, Names, u32>(
             alloc, writer, line, names, place, "Function", contents,
         ),
-        4 => write_titled(alloc, writer, line, place, "Table", contents),
+        4 => write_section::<W, Names, Table<C>>(
+            alloc, writer, line, names, place, "Table", contents,
+        ),
         5 => write_section::<W, Names, MemoryType>(
             alloc, writer, line, names, place, "Memory", contents,
         ),
-        6 => write_titled(alloc, writer, line, place, "Global", contents),
-        _ => write_late(alloc, writer, line, names, place, id, contents),
+        6 => write_section::<W, Names, wasm_segments::Global<C>>(
+            alloc, writer, line, names, place, "Global", contents,
+        ),
+        _ => write_late::<W, C>(alloc, writer, line, names, place, id, contents),
     }
 }
 
 /// Writes a section with an id above 6.
-fn write_late<W: Write>(
+fn write_late<'a, W: Write, C: SegmentDetails<'a>>(
     alloc: Global,
     writer: &mut W,
     line: &mut String,
     names: &Names,
     place: Place,
     id: u8,
-    contents: BinaryReader<'_>,
+    contents: BinaryReader<'a>,
 ) -> Result<Place, Fault>
     requires { 6 < id }
-    ensures { ListsContents names.now id contents.entry place result (W.contents writer.old) (W.contents writer.new) }
+    ensures { ListsContents (record { grammar = C.grammar; shows = C.shows }) names.now id contents.entry place result (W.contents writer.old) (W.contents writer.new) }
 {
     match id {
-        7 => write_section::<W, Names, Export<'_>>(
+        7 => write_section::<W, Names, Export<'a>>(
             alloc, writer, line, names, place, "Export", contents,
         ),
         8 => write_start(alloc, writer, line, names, place, contents),
-        9 => write_titled(alloc, writer, line, place, "Elem", contents),
-        10 => write_section::<W, Names, BinaryReader<'_>>(
+        9 => C::write_element_section(alloc, writer, line, names, place, contents),
+        10 => write_section::<W, Names, BinaryReader<'a>>(
             alloc, writer, line, names, place, "Code", contents,
         ),
-        11 => write_titled(alloc, writer, line, place, "Data", contents),
+        11 => C::write_data_section(alloc, writer, line, names, place, contents),
         12 => write_data_count(alloc, writer, line, place, contents),
         13 => write_section::<W, Names, TagType>(
             alloc, writer, line, names, place, "Tag", contents,

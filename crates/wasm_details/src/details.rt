@@ -1,30 +1,28 @@
-ghost use Rattle.std.specs.Prelude.{◌≡◌, ◌++◌, ℕ, List, OnOk, string_bytes};
+ghost use Rattle.std.specs.Prelude.{List, ℕ, Option, Result};
+ghost use Rattle.wasm_details.specs.declared.fault.Fault.{Fault};
 ghost use Rattle.wasm_details.specs.declared.place.Place.{Place};
 
+use crate::fault::Fault;
 use crate::place::Place;
-use std::alloc::{AllocError, Global};
+use std::alloc::Global;
+use std::io::Write;
 use wasm_grammars::Read;
 
 /// An item of a section that is shown as lines, which depend on a context, such as the names of a
 /// module's things.
 pub trait Details<'a, C>: Read<'a> {
-    /// The lines of the item at a place.
-    ghost lines: { C → Place → Self → List ℕ };
+    /// What is written for the item at a place, and the place after it.
+    ghost lists: { C → Place → Self → Result Place Fault → Option (List ℕ) → Option (List ℕ) → Type 0 };
 
-    /// The place after the item.
-    ghost after: { Place → Self → Place };
-
-    /// Appends the lines of the item, which is at this place.
-    fn push_lines(
+    /// Writes the lines of the item, which is at this place, through the buffer `line`. Returns the
+    /// place after it.
+    fn write_lines<W: Write>(
         &self,
         alloc: Global,
-        out: &mut String,
+        writer: &mut W,
+        line: &mut String,
         context: &C,
         place: Place,
-    ) -> Result<(), AllocError>
-        ensures { OnOk result (string_bytes out.new ≡ string_bytes out.old ++ lines context.now place self.now) };
-
-    /// Returns the place after the item, which is at this place.
-    fn place_after(&self, place: Place) -> Place
-        ensures { result ≡ after place self.now };
+    ) -> Result<Place, Fault>
+        ensures { lists context.now place self.now result (W.contents writer.old) (W.contents writer.new) };
 }

@@ -2,12 +2,16 @@ ghost use Rattle.std.specs.Prelude.{◌≡◌, ◌++◌, OnOk, string_bytes};
 ghost use Rattle.wasm_text.specs.Lines.{shown_name};
 ghost use Rattle.wasm_details.specs.Externals.{function_text, function_line, maximum_text, shared_text, address_text, limits_text, page_text, memory_limits, sizes_text, pages_text, memory_text, memory_line, table_text, mutable_text, global_text, tag_text, tag_line, imported_text, import_line, with_import, after_import, kind_text, exported_name, export_line};
 ghost use Rattle.wasm_details.specs.Places.{after_one};
+ghost use Rattle.wasm_details.specs.Writing.{WritesLine};
 
 use crate::details::Details;
+use crate::fault::Fault;
 use crate::names::Names;
 use crate::place::{Imported, Place, after_index, after_one};
 use crate::types::push_type_name;
+use crate::writing::write_text;
 use std::alloc::Global;
+use std::io::Write;
 use wasm_below::ValType;
 use wasm_escapes::write_escaped;
 use wasm_externals::{
@@ -35,19 +39,34 @@ fn push_function(out: &mut String, names: &Names, index: u32, ty: u32) -> Writte
     push_name(out, names.function(index))
 }
 
+/// Appends the line of a function.
+fn push_function_line(out: &mut String, names: &Names, index: u32, ty: u32) -> Written
+    ensures { OnOk result (string_bytes out.new ≡ string_bytes out.old ++ function_line names.now index ty) }
+{
+    push_function(out, names, index, ty)?;
+    out.push_str("\n")
+}
+
 /// An item of the function section: the index of a function's type.
 impl<'a> Details<'a, Names> for u32 {
-    ghost lines = { function_line };
+    ghost lists = { λ names place ty. WritesLine (function_line names place.next ty) (after_one place) };
 
-    ghost after = { λ place ty. after_one place };
-
-    fn push_lines(&self, _alloc: Global, out: &mut String, names: &Names, place: Place) -> Written {
-        push_function(out, names, place.next, *self)?;
-        out.push_str("\n")
-    }
-
-    fn place_after(&self, place: Place) -> Place {
-        after_one(place)
+    fn write_lines<W: Write>(
+        &self,
+        _alloc: Global,
+        writer: &mut W,
+        line: &mut String,
+        names: &Names,
+        place: Place,
+    ) -> Result<Place, Fault> {
+        line.clear();
+        if push_function_line(line, names, place.next, *self).is_err() {
+            return Err(Fault::Memory);
+        }
+        match write_text(writer, line.as_str()) {
+            Ok(()) => Ok(after_one(place)),
+            Err(fault) => Err(fault),
+        }
     }
 }
 
@@ -133,25 +152,34 @@ fn push_memory(out: &mut String, index: u32, ty: MemoryType) -> Written
     push_pages(out, ty)
 }
 
+/// Appends the line of a memory.
+fn push_memory_line(out: &mut String, index: u32, ty: MemoryType) -> Written
+    ensures { OnOk result (string_bytes out.new ≡ string_bytes out.old ++ memory_line index ty) }
+{
+    push_memory(out, index, ty)?;
+    out.push_str("\n")
+}
+
 /// An item of the memory section.
 impl<'a> Details<'a, Names> for MemoryType {
-    ghost lines = { λ names. memory_line };
+    ghost lists = { λ names place ty. WritesLine (memory_line place.next ty) (after_one place) };
 
-    ghost after = { λ place ty. after_one place };
-
-    fn push_lines(
+    fn write_lines<W: Write>(
         &self,
         _alloc: Global,
-        out: &mut String,
+        writer: &mut W,
+        line: &mut String,
         _names: &Names,
         place: Place,
-    ) -> Written {
-        push_memory(out, place.next, *self)?;
-        out.push_str("\n")
-    }
-
-    fn place_after(&self, place: Place) -> Place {
-        after_one(place)
+    ) -> Result<Place, Fault> {
+        line.clear();
+        if push_memory_line(line, place.next, *self).is_err() {
+            return Err(Fault::Memory);
+        }
+        match write_text(writer, line.as_str()) {
+            Ok(()) => Ok(after_one(place)),
+            Err(fault) => Err(fault),
+        }
     }
 }
 
@@ -190,25 +218,34 @@ fn push_tag(out: &mut String, index: u32, ty: TagType) -> Written
     write!(out, " - tag[{index}] sig={of}")
 }
 
+/// Appends the line of a tag.
+fn push_tag_line(out: &mut String, index: u32, ty: TagType) -> Written
+    ensures { OnOk result (string_bytes out.new ≡ string_bytes out.old ++ tag_line index ty) }
+{
+    push_tag(out, index, ty)?;
+    out.push_str("\n")
+}
+
 /// An item of the tag section.
 impl<'a> Details<'a, Names> for TagType {
-    ghost lines = { λ names. tag_line };
+    ghost lists = { λ names place ty. WritesLine (tag_line place.next ty) (after_one place) };
 
-    ghost after = { λ place ty. after_one place };
-
-    fn push_lines(
+    fn write_lines<W: Write>(
         &self,
         _alloc: Global,
-        out: &mut String,
+        writer: &mut W,
+        line: &mut String,
         _names: &Names,
         place: Place,
-    ) -> Written {
-        push_tag(out, place.next, *self)?;
-        out.push_str("\n")
-    }
-
-    fn place_after(&self, place: Place) -> Place {
-        after_one(place)
+    ) -> Result<Place, Fault> {
+        line.clear();
+        if push_tag_line(line, place.next, *self).is_err() {
+            return Err(Fault::Memory);
+        }
+        match write_text(writer, line.as_str()) {
+            Ok(()) => Ok(after_one(place)),
+            Err(fault) => Err(fault),
+        }
     }
 }
 
@@ -249,24 +286,46 @@ fn with_import(imported: Imported, ty: TypeRef) -> Imported
     now
 }
 
+/// Appends the line of an import.
+fn push_import(
+    alloc: Global,
+    out: &mut String,
+    names: &Names,
+    imported: Imported,
+    import: &Import<'_>,
+) -> Written
+    ensures { OnOk result (string_bytes out.new ≡ string_bytes out.old ++ import_line names.now imported import.now) }
+{
+    push_imported(alloc, out, names, imported, import.ty)?;
+    out.push_str(" <- ")?;
+    write_escaped(alloc, out, import.module.as_str().as_bytes())?;
+    out.push_str(".")?;
+    write_escaped(alloc, out, import.name.as_str().as_bytes())?;
+    out.push_str("\n")
+}
+
 impl<'a> Details<'a, Names> for Import<'a> {
-    ghost lines = { import_line };
+    ghost lists = { λ names place i. WritesLine (import_line names place.imported i) (after_import place i) };
 
-    ghost after = { after_import };
-
-    fn push_lines(&self, alloc: Global, out: &mut String, names: &Names, place: Place) -> Written {
-        push_imported(alloc, out, names, place.imported, self.ty)?;
-        out.push_str(" <- ")?;
-        write_escaped(alloc, out, self.module.as_str().as_bytes())?;
-        out.push_str(".")?;
-        write_escaped(alloc, out, self.name.as_str().as_bytes())?;
-        out.push_str("\n")
-    }
-
-    fn place_after(&self, place: Place) -> Place {
-        Place {
-            next: after_index(place.next),
-            imported: with_import(place.imported, self.ty),
+    fn write_lines<W: Write>(
+        &self,
+        alloc: Global,
+        writer: &mut W,
+        line: &mut String,
+        names: &Names,
+        place: Place,
+    ) -> Result<Place, Fault> {
+        line.clear();
+        if push_import(alloc, line, names, place.imported, self).is_err() {
+            return Err(Fault::Memory);
+        }
+        match write_text(writer, line.as_str()) {
+            Ok(()) => Ok(Place {
+                next: after_index(place.next),
+                address: place.address,
+                imported: with_import(place.imported, self.ty),
+            }),
+            Err(fault) => Err(fault),
         }
     }
 }
@@ -293,22 +352,37 @@ fn exported_name(names: &Names, kind: ExternalKind, index: u32) -> &str
     }
 }
 
+/// Appends the line of an export.
+fn push_export(alloc: Global, out: &mut String, names: &Names, export: &Export<'_>) -> Written
+    ensures { OnOk result (string_bytes out.new ≡ string_bytes out.old ++ export_line names.now export.now) }
+{
+    let index = export.index;
+    out.push_str(kind_words(export.kind))?;
+    write!(out, "{index}]")?;
+    push_name(out, exported_name(names, export.kind, index))?;
+    out.push_str(" -> \"")?;
+    write_escaped(alloc, out, export.name.as_str().as_bytes())?;
+    out.push_str("\"\n")
+}
+
 impl<'a> Details<'a, Names> for Export<'a> {
-    ghost lines = { λ names place. export_line names };
+    ghost lists = { λ names place e. WritesLine (export_line names e) (after_one place) };
 
-    ghost after = { λ place e. after_one place };
-
-    fn push_lines(&self, alloc: Global, out: &mut String, names: &Names, _place: Place) -> Written {
-        let index = self.index;
-        out.push_str(kind_words(self.kind))?;
-        write!(out, "{index}]")?;
-        push_name(out, exported_name(names, self.kind, index))?;
-        out.push_str(" -> \"")?;
-        write_escaped(alloc, out, self.name.as_str().as_bytes())?;
-        out.push_str("\"\n")
-    }
-
-    fn place_after(&self, place: Place) -> Place {
-        after_one(place)
+    fn write_lines<W: Write>(
+        &self,
+        alloc: Global,
+        writer: &mut W,
+        line: &mut String,
+        names: &Names,
+        place: Place,
+    ) -> Result<Place, Fault> {
+        line.clear();
+        if push_export(alloc, line, names, self).is_err() {
+            return Err(Fault::Memory);
+        }
+        match write_text(writer, line.as_str()) {
+            Ok(()) => Ok(after_one(place)),
+            Err(fault) => Err(fault),
+        }
     }
 }

@@ -1,6 +1,6 @@
-ghost use Rattle.std.specs.Prelude.{◌≡◌, ◌++◌, IfErr, OnOk, string_bytes};
-ghost use Rattle.std.specs.Io.KnownBytes.{Appends};
-ghost use Rattle.wasm_details.specs.Items.{ListsItems, ListsSection, IsHalt, title_text};
+ghost use Rattle.std.specs.Prelude.{◌≡◌, ◌++◌, OnOk, string_bytes};
+ghost use Rattle.wasm_details.specs.Items.{ListsItems, ListsSection, title_text};
+ghost use Rattle.wasm_details.specs.Writing.{WritesText};
 
 use crate::details::Details;
 use crate::fault::Fault;
@@ -10,25 +10,6 @@ use std::alloc::{AllocError, Global};
 use std::io::Write;
 use wasm_below::BinaryReader;
 use wasm_sections::SectionReader;
-
-/// Writes the lines of an item through the buffer `line`.
-fn write_item<'a, W: Write, C, T: Details<'a, C>>(
-    alloc: Global,
-    writer: &mut W,
-    line: &mut String,
-    context: &C,
-    place: Place,
-    item: &T,
-) -> Result<(), Fault>
-    ensures ok { OnOk result (Appends (W.contents writer.old) (W.contents writer.new) (T.lines context.now place item.now)) }
-    ensures err { IfErr result (λ fault. IsHalt fault) }
-{
-    line.clear();
-    if item.push_lines(alloc, line, context, place).is_err() {
-        return Err(Fault::Memory);
-    }
-    write_text(writer, line.as_str())
-}
 
 /// Writes the lines of items, of which the first is at this place. Returns the place after them.
 ///
@@ -41,7 +22,7 @@ pub fn write_items<'a, W: Write, C, T: Details<'a, C>>(
     place: Place,
     section: SectionReader<'a, T>,
 ) -> Result<Place, Fault>
-    ensures { ListsItems T.grammar (T.lines context.now) T.after section.entry place result (W.contents writer.old) (W.contents writer.new) }
+    ensures { ListsItems T.grammar (T.lists context.now) section.entry place result (W.contents writer.old) (W.contents writer.new) }
 {
     let mut items = section.into_iter();
     let mut reached = place;
@@ -50,8 +31,10 @@ pub fn write_items<'a, W: Write, C, T: Details<'a, C>>(
             Ok(item) => item,
             Err(e) => return Err(Fault::Section(e)),
         };
-        write_item(alloc, writer, line, context, reached, &item)?;
-        reached = item.place_after(reached);
+        reached = match item.write_lines(alloc, writer, line, context, reached) {
+            Ok(after) => after,
+            Err(fault) => return Err(fault),
+        };
     }
     Ok(reached)
 }
@@ -65,14 +48,13 @@ fn push_title(out: &mut String, title: &str, count: u32) -> Result<(), AllocErro
 }
 
 /// Writes the title of a section with this number of items.
-pub fn write_title<W: Write>(
+fn write_title<W: Write>(
     writer: &mut W,
     line: &mut String,
     title: &str,
     count: u32,
 ) -> Result<(), Fault>
-    ensures ok { OnOk result (Appends (W.contents writer.old) (W.contents writer.new) (title_text title.now count)) }
-    ensures err { IfErr result (λ fault. IsHalt fault) }
+    ensures { WritesText (title_text title.now count) result (W.contents writer.old) (W.contents writer.new) }
 {
     line.clear();
     if push_title(line, title, count).is_err() {
@@ -94,12 +76,14 @@ pub fn write_section<'a, W: Write, C, T: Details<'a, C>>(
     title: &str,
     contents: BinaryReader<'a>,
 ) -> Result<Place, Fault>
-    ensures { ListsSection T.grammar (T.lines context.now) T.after title.now contents.entry place result (W.contents writer.old) (W.contents writer.new) }
+    ensures { ListsSection T.grammar (T.lists context.now) title.now contents.entry place result (W.contents writer.old) (W.contents writer.new) }
 {
     let section: SectionReader<'a, T> = match SectionReader::new(alloc, contents) {
         Ok(section) => section,
         Err(e) => return Err(Fault::Section(e)),
     };
-    write_title(writer, line, title, section.count())?;
+    if let Err(fault) = write_title(writer, line, title, section.count()) {
+        return Err(fault);
+    }
     write_items(alloc, writer, line, context, place, section)
 }

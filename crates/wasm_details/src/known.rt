@@ -30,7 +30,7 @@ fn shown_name(alloc: Global, name: &FunctionName<'_>) -> Result<String, AllocErr
 }
 
 /// Returns the names of all functions as shown.
-fn shown_names(alloc: Global, functions: &Functions<'_>) -> Result<Vec<String>, AllocError>
+pub fn shown_names(alloc: Global, functions: &Functions<'_>) -> Result<Vec<String>, AllocError>
     ensures { IfOk result (λ names. map string_bytes names.items ≡ map escaped functions.now.names) }
 {
     let given = functions.names();

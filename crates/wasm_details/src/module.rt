@@ -1,11 +1,11 @@
 ghost use Rattle.std.specs.Prelude.{◌≡◌, ◌++◌, IfErr, IfOk, OnOk, map, option_map, string_bytes};
-ghost use Rattle.std.specs.Io.KnownBytes.{Appends};
 ghost use Rattle.wasm_below.specs.Source.{reader_of};
 ghost use Rattle.wasm_module.specs.Refusals.{SectionsFault};
 ghost use Rattle.wasm_module.specs.Sections.{BeginsModule};
-ghost use Rattle.wasm_details.specs.Items.{IsHalt};
 ghost use Rattle.wasm_details.specs.Module.{ListsDetails, AreNames, NamesKnown, name_line, file_line, heading_of, ListsModule, none_imported};
+ghost use Rattle.wasm_details.specs.Writing.{WritesText};
 
+use crate::constants::SegmentDetails;
 use crate::contents::{first_place, write_contents};
 use crate::fault::Fault;
 use crate::known::known_names;
@@ -22,13 +22,13 @@ use wasm_text::Written;
 /// Writes all sections after the preamble.
 ///
 /// Fails with `Section` at the first section in error, after its part before the error.
-fn write_details<W: Write>(
+fn write_details<'a, W: Write, C: SegmentDetails<'a>>(
     alloc: Global,
     writer: &mut W,
     names: &Names,
-    sections: BinaryReader<'_>,
+    sections: BinaryReader<'a>,
 ) -> Result<(), Fault>
-    ensures { ListsDetails names.now sections.entry result (W.contents writer.old) (W.contents writer.new) }
+    ensures { ListsDetails (record { grammar = C.grammar; shows = C.shows }) names.now sections.entry result (W.contents writer.old) (W.contents writer.new) }
 {
     function_laws::next_section();
     let mut reader = sections;
@@ -42,14 +42,18 @@ fn write_details<W: Write>(
         let number = section.id();
         let place = first_place(number, imported);
         let contents = section.contents();
-        let after = write_contents(alloc, writer, &mut line, names, place, number, contents)?;
-        imported = after.imported;
+        imported = match write_contents::<W, C>(
+            alloc, writer, &mut line, names, place, number, contents,
+        ) {
+            Ok(after) => after.imported,
+            Err(fault) => return Err(fault),
+        };
     }
     Ok(())
 }
 
 /// Appends the line with a module's name, if it has one.
-fn push_module_name(alloc: Global, out: &mut String, name: &[u8]) -> Written
+pub fn push_module_name(alloc: Global, out: &mut String, name: &[u8]) -> Written
     ensures { OnOk result (string_bytes out.new ≡ string_bytes out.old ++ name_line name.now) }
 {
     if name.is_empty() {
@@ -61,7 +65,7 @@ fn push_module_name(alloc: Global, out: &mut String, name: &[u8]) -> Written
 }
 
 /// Appends the line with the name of a file.
-fn push_file(alloc: Global, out: &mut String, file: &str) -> Written
+pub fn push_file(alloc: Global, out: &mut String, file: &str) -> Written
     ensures { OnOk result (string_bytes out.new ≡ string_bytes out.old ++ file_line file.now) }
 {
     out.push_str("\n")?;
@@ -87,8 +91,7 @@ fn write_heading<W: Write>(
     name: &[u8],
     writer: &mut W,
 ) -> Result<(), Fault>
-    ensures ok { OnOk result (Appends (W.contents writer.old) (W.contents writer.new) (heading_of (option_map (λ text. text.now) file.entry) name.now)) }
-    ensures err { IfErr result (λ fault. IsHalt fault) }
+    ensures { WritesText (heading_of (option_map (λ text. text.now) file.entry) name.now) result (W.contents writer.old) (W.contents writer.new) }
 {
     let mut heading = String::new(alloc);
     if push_heading(alloc, &mut heading, file, name).is_err() {
@@ -98,23 +101,25 @@ fn write_heading<W: Write>(
 }
 
 /// Writes the heading and the sections, which follow the preamble.
-fn list_opened<W: Write>(
+fn list_opened<'a, W: Write, C: SegmentDetails<'a>>(
     alloc: Global,
     features: WasmFeatures,
     file: Option<&str>,
     bytes: &[u8],
     writer: &mut W,
-    sections: BinaryReader<'_>,
+    sections: BinaryReader<'a>,
 ) -> Result<(), Fault>
     requires { BeginsModule (reader_of features 0 bytes.now) sections }
-    ensures { ListsModule features (option_map (λ text. text.now) file.entry) bytes.now result (W.contents writer.old) (W.contents writer.new) }
+    ensures { ListsModule (record { grammar = C.grammar; shows = C.shows }) features (option_map (λ text. text.now) file.entry) bytes.now result (W.contents writer.old) (W.contents writer.new) }
 {
     let names = match known_names(alloc, features, bytes) {
         Ok(names) => names,
         Err(_) => return Err(Fault::Memory),
     };
-    write_heading(alloc, file, module_name(features, bytes), writer)?;
-    write_details(alloc, writer, &names, sections)
+    if let Err(fault) = write_heading(alloc, file, module_name(features, bytes), writer) {
+        return Err(fault);
+    }
+    write_details::<W, C>(alloc, writer, &names, sections)
 }
 
 /// Writes a heading, with the names of the file and the module unless `file` is `None`, and the
@@ -122,20 +127,20 @@ fn list_opened<W: Write>(
 /// error, after its part before the error.
 ///
 /// Fails if the bytes do not start with a module's preamble, and then writes nothing.
-pub fn list_details<W: Write>(
+pub fn list_details<'a, W: Write, C: SegmentDetails<'a>>(
     alloc: Global,
     features: WasmFeatures,
     file: Option<&str>,
-    bytes: &[u8],
+    bytes: &'a [u8],
     writer: &mut W,
 ) -> Result<Result<(), Fault>, ModuleFault>
-    ensures lists { IfOk result (λ listed. ListsModule features (option_map (λ text. text.now) file.entry) bytes.now listed
+    ensures lists { IfOk result (λ listed. ListsModule (record { grammar = C.grammar; shows = C.shows }) features (option_map (λ text. text.now) file.entry) bytes.now listed
         (W.contents writer.old) (W.contents writer.new)) }
     ensures refused { IfErr result (λ fault. SectionsFault fault (reader_of features 0 bytes.now)) }
     ensures nothing { IfErr result (λ fault. writer.new ≡ writer.old) }
 {
     match open_sections(features, bytes) {
-        Ok(sections) => Ok(list_opened(alloc, features, file, bytes, writer, sections)),
+        Ok(sections) => Ok(list_opened::<W, C>(alloc, features, file, bytes, writer, sections)),
         Err(fault) => Err(fault),
     }
 }

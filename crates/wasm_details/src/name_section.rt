@@ -1,5 +1,7 @@
 ghost use Rattle.std.specs.Prelude.{◌≡◌};
-ghost use Rattle.wasm_details.specs.Names.{ListsName, ListsNames, ListsModuleName};
+ghost use Rattle.wasm_details.specs.Names.{ListsName, ListsNames};
+ghost use Rattle.wasm_details.specs.Namings.{module_line};
+ghost use Rattle.wasm_details.specs.Writing.{WritesLine};
 
 use crate::fault::Fault;
 use crate::items::write_items;
@@ -19,14 +21,16 @@ fn write_module_name<W: Write>(
     place: Place,
     name: &str,
 ) -> Result<Place, Fault>
-    ensures { ListsModuleName name.now result (W.contents writer.old) (W.contents writer.new) }
+    ensures { WritesLine (module_line name.now) place result (W.contents writer.old) (W.contents writer.new) }
 {
     line.clear();
     if push_module(alloc, line, name).is_err() {
         return Err(Fault::Memory);
     }
-    write_text(writer, line.as_str())?;
-    Ok(place)
+    match write_text(writer, line.as_str()) {
+        Ok(()) => Ok(place),
+        Err(fault) => Err(fault),
+    }
 }
 
 /// Writes the names in a subsection. Fails with `Section` at a name in error.
@@ -79,7 +83,10 @@ pub fn write_names<W: Write>(
             Ok(name) => name,
             Err(e) => return Err(Fault::Section(e)),
         };
-        write_name(alloc, writer, line, place, name)?;
+        let _after = match write_name(alloc, writer, line, place, name) {
+            Ok(after) => after,
+            Err(fault) => return Err(fault),
+        };
     }
     Ok(place)
 }

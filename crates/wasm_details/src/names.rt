@@ -46,6 +46,27 @@ impl Names {
         name_at(self.functions.as_slice(), index)
     }
 
+    /// Returns the name of the table with this index.
+    pub fn table(&self, index: u32) -> &str
+        ensures { result.now ≡ name_at self.now.tables index }
+    {
+        name_at(self.tables.as_slice(), index)
+    }
+
+    /// Returns the name of the global with this index.
+    pub fn global(&self, index: u32) -> &str
+        ensures { result.now ≡ name_at self.now.globals index }
+    {
+        name_at(self.globals.as_slice(), index)
+    }
+
+    /// Returns the name of the data segment with this index.
+    pub fn segment(&self, index: u32) -> &str
+        ensures { result.now ≡ name_at self.now.segments index }
+    {
+        name_at(self.segments.as_slice(), index)
+    }
+
     /// Returns the name of the tag with this index.
     pub fn tag(&self, index: u32) -> &str
         ensures { result.now ≡ name_at self.now.tags index }

@@ -1,10 +1,14 @@
 ghost use Rattle.std.specs.Prelude.{◌≡◌, ◌++◌, OnOk, string_bytes};
 ghost use Rattle.wasm_escapes.specs.Escapes.{escaped};
 ghost use Rattle.wasm_details.specs.Namings.{label_text, naming_line, module_line, custom_text};
+ghost use Rattle.wasm_details.specs.Writing.{WritesLine};
 
 use crate::details::Details;
+use crate::fault::Fault;
 use crate::place::Place;
+use crate::writing::write_text;
 use std::alloc::Global;
+use std::io::Write;
 use wasm_escapes::write_escaped;
 use wasm_names::Naming;
 use wasm_text::Written;
@@ -37,22 +41,37 @@ fn label_words(label: Label) -> &'static str
     }
 }
 
+/// Appends the line of a name.
+fn push_naming(alloc: Global, out: &mut String, label: Label, naming: &Naming<'_>) -> Written
+    ensures { OnOk result (string_bytes out.new ≡ string_bytes out.old ++ naming_line label naming.now) }
+{
+    let index = naming.index;
+    out.push_str(label_words(label))?;
+    write!(out, "{index}] <")?;
+    write_escaped(alloc, out, naming.name.as_str().as_bytes())?;
+    out.push_str(">\n")
+}
+
 /// A name in a map of the custom section `name`.
 impl<'a> Details<'a, Label> for Naming<'a> {
-    ghost lines = { λ label place. naming_line label };
+    ghost lists = { λ label place n. WritesLine (naming_line label n) place };
 
-    ghost after = { λ place n. place };
-
-    fn push_lines(&self, alloc: Global, out: &mut String, label: &Label, _place: Place) -> Written {
-        let index = self.index;
-        out.push_str(label_words(*label))?;
-        write!(out, "{index}] <")?;
-        write_escaped(alloc, out, self.name.as_str().as_bytes())?;
-        out.push_str(">\n")
-    }
-
-    fn place_after(&self, place: Place) -> Place {
-        place
+    fn write_lines<W: Write>(
+        &self,
+        alloc: Global,
+        writer: &mut W,
+        line: &mut String,
+        label: &Label,
+        place: Place,
+    ) -> Result<Place, Fault> {
+        line.clear();
+        if push_naming(alloc, line, *label, self).is_err() {
+            return Err(Fault::Memory);
+        }
+        match write_text(writer, line.as_str()) {
+            Ok(()) => Ok(place),
+            Err(fault) => Err(fault),
+        }
     }
 }
 

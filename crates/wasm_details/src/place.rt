@@ -27,10 +27,13 @@ impl Imported {
     }
 }
 
-/// Where an item is: its index, and what is imported before it.
+/// Where an item is: its index, the address of the segment before it, and what is imported before
+/// it.
 #[derive(Clone, Copy)]
 pub struct Place {
     pub next: u32,
+    /// The address of the last segment with a constant one; 0 without such a segment.
+    pub address: u64,
     pub imported: Imported,
 }
 
@@ -47,6 +50,7 @@ pub fn after_one(place: Place) -> Place
 {
     Place {
         next: after_index(place.next),
+        address: place.address,
         imported: place.imported,
     }
 }

@@ -1,10 +1,14 @@
 ghost use Rattle.std.specs.Prelude.{◌≡◌, ◌++◌, OnOk, string_bytes, flat_map};
 ghost use Rattle.wasm_details.specs.Types.{type_name, next_type, types_text, results_text, signature_text, storage_text, field_text, inner_text, composite_text, supertype_text, final_text, declared_text, sub_text, type_line, type_lines, after_types, group_lines, after_group};
+ghost use Rattle.wasm_details.specs.Writing.{WritesLine};
 
 use crate::details::Details;
+use crate::fault::Fault;
 use crate::names::Names;
 use crate::place::{Place, after_index};
+use crate::writing::write_text;
 use std::alloc::Global;
+use std::io::Write;
 use wasm_below::ValType;
 use wasm_text::{Written, write_value_type};
 use wasm_types::{
@@ -209,18 +213,27 @@ fn after_types(index: u32, types: &[SubType]) -> u32
 
 /// An item of the type section.
 impl<'a> Details<'a, Names> for RecGroup {
-    ghost lines = { λ names. group_lines };
+    ghost lists = { λ names place group. WritesLine (group_lines place group) (after_group place group) };
 
-    ghost after = { after_group };
-
-    fn push_lines(&self, alloc: Global, out: &mut String, _names: &Names, place: Place) -> Written {
-        push_type_lines(alloc, out, place.next, self.types())
-    }
-
-    fn place_after(&self, place: Place) -> Place {
-        Place {
-            next: after_types(place.next, self.types()),
-            imported: place.imported,
+    fn write_lines<W: Write>(
+        &self,
+        alloc: Global,
+        writer: &mut W,
+        line: &mut String,
+        _names: &Names,
+        place: Place,
+    ) -> Result<Place, Fault> {
+        line.clear();
+        if push_type_lines(alloc, line, place.next, self.types()).is_err() {
+            return Err(Fault::Memory);
+        }
+        match write_text(writer, line.as_str()) {
+            Ok(()) => Ok(Place {
+                next: after_types(place.next, self.types()),
+                address: place.address,
+                imported: place.imported,
+            }),
+            Err(fault) => Err(fault),
         }
     }
 }

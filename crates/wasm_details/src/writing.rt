@@ -1,17 +1,27 @@
-ghost use Rattle.std.specs.Prelude.{◌≡◌, IfErr, OnOk};
-ghost use Rattle.std.specs.Io.KnownBytes.{Appends};
-ghost use Rattle.wasm_details.specs.Items.{IsHalt};
+ghost use Rattle.std.specs.Prelude.{◌≡◌};
+ghost use Rattle.wasm_details.specs.Writing.{WritesText};
 
 use crate::fault::Fault;
-use std::io::Write;
+use std::io::{ErrorKind, Write};
 
-/// Writes a text. Fails with `Writing`.
+/// Writes a text. Fails with `Writing`, after a part of the text.
 pub fn write_text<W: Write>(writer: &mut W, text: &str) -> Result<(), Fault>
-    ensures ok { OnOk result (Appends (W.contents writer.old) (W.contents writer.new) text.now) }
-    ensures err { IfErr result (λ fault. IsHalt fault) }
+    ensures { WritesText text.now result (W.contents writer.old) (W.contents writer.new) }
 {
-    if writer.write_all(text.as_bytes()).is_err() {
-        return Err(Fault::Writing);
+    let mut left = text.as_bytes();
+    for _try in 0..u64::MAX {
+        if left.is_empty() {
+            return Ok(());
+        }
+        match writer.write(left) {
+            Ok(0) => return Err(Fault::Writing),
+            Ok(written) => left = &left[written..],
+            Err(e) => {
+                if e.kind() != ErrorKind::Interrupted {
+                    return Err(Fault::Writing);
+                }
+            }
+        }
     }
-    Ok(())
+    Err(Fault::Writing)
 }

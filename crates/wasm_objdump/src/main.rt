@@ -15,6 +15,7 @@ use crate::printed::{PROGRAM, Printed};
 use std::io;
 use std::io::{BufWriter, IsTerminal, Write};
 use std::process::ExitCode;
+use wasm_constant_texts::ListedConstant;
 use wasm_details::list_details;
 use wasm_disassembly::{
     Fault, ModuleRequest, before_cut, find_cut, function_named, list_headers, run,
@@ -157,7 +158,13 @@ fn dump_sections<'a>(
         untold = None;
     }
     if options.details {
-        let listed = match list_details(rt.alloc(), options.features, untold, bytes, writer) {
+        let listed = match list_details::<_, ListedConstant<'_>>(
+            rt.alloc(),
+            options.features,
+            untold,
+            bytes,
+            writer,
+        ) {
             Ok(Ok(())) => Ok(()),
             Ok(Err(fault)) => Err(fault_of(fault)),
             Err(fault) => Err(Fault::Module(fault)),

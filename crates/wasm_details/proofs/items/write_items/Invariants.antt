@@ -4,5 +4,5 @@ use Rattle.wasm_details.proofs.items.write_items.Given as goal
 
 abbrev pub invariant-items : goal.invariant-items
 invariant-items g l =
-    WritesItems g.T.Read.grammar (g.T.Details.lines l.fn.context) g.T.Details.after l.fn.section l.fn.place l.reached l.items (g.W.Write.contents l.fn.writer)
+    WritesItems g.T.Read.grammar (g.T.Details.lists l.fn.context) l.fn.section l.fn.place l.reached l.items (g.W.Write.contents l.fn.writer)
     (g.W.Write.contents l.writer) × (l.items.refused ≡ false)

@@ -4,7 +4,9 @@ use Rattle.wasm_details.specs.Module.{ShowsDetails}
 use Rattle.wasm_details.proofs.module.write_details.Given as goal
 
 abbrev pub invariant-sections : goal.invariant-sections
-invariant-sections g l = ShowsDetails l.fn.names l.initial.reader l.reader l.imported (g.W.Write.contents l.fn.writer) (g.W.Write.contents l.writer)
+invariant-sections g l =
+    ShowsDetails (record { grammar = g.C.Read.grammar; shows = g.C.ConstantDetails.shows }) l.fn.names l.initial.reader l.reader l.imported
+    (g.W.Write.contents l.fn.writer) (g.W.Write.contents l.writer)
 
 abbrev pub decreases-sections : goal.decreases-sections
 decreases-sections g l = length (rest l.reader)
