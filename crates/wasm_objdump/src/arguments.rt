@@ -85,7 +85,11 @@ fn functions_of(word: String) -> Functions {
 
 /// Returns the mistake of an option that this program does not have.
 fn unsupported(alloc: Global, index: usize) -> Mistake {
-    match String::from_str(alloc, CHOICES[index].0) {
+    let name = match CHOICES.get(index) {
+        Some(choice) => choice.0,
+        None => "",
+    };
+    match String::from_str(alloc, name) {
         Ok(word) => Mistake::Word("not supported", word),
         Err(_) => Mistake::Memory,
     }
