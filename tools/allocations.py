@@ -31,7 +31,7 @@ from testing.built import built, missing
 
 SECONDS = 60
 # A program with more should be smaller.
-MOST = 1500
+MOST = 4000
 AS_EVER = "as ever\n"
 FIRST = re.compile(r"first (\d+)\n")
 # For `rows`: the line that counts them, and the start of the line if they cannot be read.
