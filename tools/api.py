@@ -1,5 +1,5 @@
 #!/usr/bin/env python3
-"""Writes bindings/rust/API.md, the list of the cargo crate's items, from api.tsv.
+"""Writes rust/API.md, the list of the cargo crate's items, from api.tsv.
 
     tools/api.py                     writes the tables of the page
     tools/api.py --check             fails unless the page is what api.tsv gives, and its names exist
@@ -20,9 +20,9 @@ from shared.tables import rows_of
 from shared.written import write_or_check
 
 TABLE = TOP / "tools/api.tsv"
-PAGE = TOP / "bindings/rust/API.md"
-HEADER = TOP / "include/wasm_operators.h"
-SOURCES = TOP / "bindings/rust/src"
+PAGE = TOP / "rust/API.md"
+HEADER = TOP / "c/include/wasm_operators.h"
+SOURCES = TOP / "rust/src"
 # The files of wasmparser's operators layer.
 LAYER = ["binary_reader.rs", "readers/core/code.rs", "readers/core/init.rs", "readers/core/operators.rs"]
 ROWS_HEAD = "|Type|Items|C function|Proved function|Note|\n|---|---|---|---|---|\n"

@@ -38,7 +38,7 @@ ROWS = TOP / "crates/wasm_tests_bodies/stdin"
 ENCODINGS = TOP / "crates/wasm_tests_encode/stdin"
 MODULES = TOP / "crates/wasm_objdump/data"
 CRATE = TOP / "crates/wasm_tests_c"
-HEADER = TOP / "include/wasm_operators.h"
+HEADER = TOP / "c/include/wasm_operators.h"
 VERSION = re.compile(r"^#define WASM_OPERATORS_VERSION (\d+)u$", re.M)
 EACH = 8
 # The calls over a body, in the order of the output, and how many cases each has.

@@ -11,7 +11,7 @@ WASM_OPERATORS_LIBRARIES is the folder of the library, as for cargo. WORK is a f
 SMITH the number of modules that `wasm-tools smith` makes with all its proposals (300). It makes as many with the
 proposals that walrus reads.
 
-bindings/clients has the programs and `changes.tsv`, the changed lines of each client with their causes. The programs
+rust/clients has the programs and `changes.tsv`, the changed lines of each client with their causes. The programs
 read the modules in crates/*/data, the modules of `wasm-tools smith`, and MODULES.
 """
 
@@ -29,7 +29,7 @@ from shared.crates import TOP
 from shared.leb128 import unsigned
 from shared.tables import rows_of
 
-CLIENTS = TOP / "bindings/clients"
+CLIENTS = TOP / "rust/clients"
 # The program of each client: its source, the version of the client, and the client's features.
 PROGRAMS = {
     "wasmparser": ("payloads", "0.239.0", ""),
@@ -45,7 +45,7 @@ CAUSES = {
     "exact": "exact references of 0.263",
     "validator": "this crate has no `Validator`",
 }
-OURS = f'package = "wasm-operators", path = "{TOP / "bindings/rust"}"'
+OURS = f'package = "wasm-operators", path = "{TOP / "rust"}"'
 SIDES = ("wasmparser", "wasm-operators")
 # The features of the crate that reads.
 PARSER = 'default-features = false, features = ["std", "features", "simd"]'

@@ -44,7 +44,7 @@ BESIDES = """\
 - The statements of the kit's standard library and of `bitflags`. Their proofs are the kit's; this list does not check them.
 - The C library, and `liblibc_c.a` and `libos_c.a` of the kit: that they do what the assumed contracts say.
 - The definitions in `specs/`, which say what is proved (tools/run definitions), and the tables that they come from.
-- For callers in C: that they pass what include/wasm_operators.h asks for. For callers in Rust: the crate in bindings/rust.
+- For callers in C: that they pass what c/include/wasm_operators.h asks for. For callers in Rust: the crate in rust.
 """
 
 

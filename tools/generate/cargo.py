@@ -1,4 +1,4 @@
-"""Writes the lists of operators of the cargo crate (bindings/rust/src)."""
+"""Writes the lists of operators of the cargo crate (rust/src)."""
 
 from pathlib import Path
 
@@ -166,4 +166,4 @@ def cargo_files(ops):
     """Returns the files, over the operators whose immediates have values here."""
     ops = [op for op in ops if op.combination]
     sources = {"operator": operator_source, "plain": plain_source, "visit": visit_source, "macros": macros_source, "frame_change": change_source}
-    return {f"bindings/rust/src/{name}.rs": source(ops) for name, source in sources.items()}
+    return {f"rust/src/{name}.rs": source(ops) for name, source in sources.items()}

@@ -1,4 +1,4 @@
-"""Writes the lists over the operators in include/wasm_operators.h. The rest of the header is written by hand."""
+"""Writes the lists over the operators in c/include/wasm_operators.h. The rest of the header is written by hand."""
 
 import re
 
@@ -6,7 +6,7 @@ from immediates import KINDS
 from plain import number
 from table import PROPOSALS, TOP, shared
 
-PATH = "include/wasm_operators.h"
+PATH = "c/include/wasm_operators.h"
 # The names of indices, if they are not those in the table.
 INDICES = {
     "relative_depth": "label",

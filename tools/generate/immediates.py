@@ -272,7 +272,7 @@ WRITERS = {"indirect": ("u32", "u32"), "reference_with_null": ("HeapType",), "re
 
 @dataclass(frozen=True, kw_only=True)
 class Combination:
-    number: int  # the number of its shape (`wasm_shape` in include/wasm_operators.h)
+    number: int  # the number of its shape (`wasm_shape` in c/include/wasm_operators.h)
     shape: str  # the function of wasm_view (src/shapes.rt)
     values: tuple = ()  # the fields in the cargo crate, from the C struct `op` and its `source`
     writer: str = ""  # the function of wasm_text (src/operands.rt), if one writes all operands

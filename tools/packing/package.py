@@ -1,4 +1,4 @@
-"""Makes the cargo package: the crate of bindings/rust with the libraries that it links."""
+"""Makes the cargo package: the crate of rust with the libraries that it links."""
 
 import gzip
 import io
@@ -12,7 +12,7 @@ from pathlib import Path
 from packing import texts
 from packing.builds import TOP, Failed
 
-FOLDER = "bindings/rust"
+FOLDER = "rust"
 CRATE = TOP / FOLDER
 KEPT = ["Cargo.toml", "Cargo.lock", "build.rs", "README.md", "API.md", "src", "examples", "tests"]
 OUTSIDE = re.compile(r'(include_(?:str|bytes)!\(\s*")(?:\.\./){2,}([^"]+)"')

@@ -38,7 +38,7 @@ The programs and the library have the checks of `rt try`: a run stops at an inde
 
 def defined(name):
     """Returns the value of a macro of the header."""
-    header = (TOP / "include/wasm_operators.h").read_text(encoding="utf-8")
+    header = (TOP / "c/include/wasm_operators.h").read_text(encoding="utf-8")
     return re.search(rf'^#define {name} "?(.*?)[u"]$', header, re.M)[1]
 
 
@@ -65,14 +65,14 @@ IN_PLACE = [
     ),
     (r"With the Rattle kit \(`rt doc` .*?, programs need neither clone nor kit:", "Programs need neither clone nor kit:"),
     (
-        r"-Iinclude -o (\w+) examples/c/(\w+\.c) bindings/rust/native/libwasm_c\.a bindings/rust/native/liblibc_c\.a -lm",
+        r"-Ic/include -o (\w+) c/examples/(\w+\.c) rust/native/libwasm_c\.a rust/native/liblibc_c\.a -lm",
         r"-o \1 \2 $(pkg-config --cflags --libs wasm_operators)",
     ),
-    (r"--manifest-path bindings/rust/Cargo\.toml", "--manifest-path CRATE/Cargo.toml --target-dir target"),
-    (r"<< 'TEXT'\n(wasm-operators = \{ path = )\"\.\./bindings/rust\"", r'<< TEXT\n\1"CRATE"'),
-    (r"path = \"\.\./bindings/rust\"", 'path = "CRATE"'),
-    (r"`bindings/rust`", "`CRATE`"),
-    (r"examples/c/|crates/wasm_objdump/data/", ""),
+    (r"--manifest-path rust/Cargo\.toml", "--manifest-path CRATE/Cargo.toml --target-dir target"),
+    (r"<< 'TEXT'\n(wasm-operators = \{ path = )\"\.\./rust\"", r'<< TEXT\n\1"CRATE"'),
+    (r"path = \"\.\./rust\"", 'path = "CRATE"'),
+    (r"`rust`", "`CRATE`"),
+    (r"c/examples/|crates/wasm_objdump/data/", ""),
     (r"\bDIR\b", "$prefix"),
 ]
 LINK = re.compile(r"\[([^\]]*)\]\(([^)#\s]*)(#[^)\s]*)?\)")

@@ -13,7 +13,7 @@ HEADER = (TOP / header.PATH).read_text(encoding="utf-8")
 
 class Bindings(unittest.TestCase):
     def test_a_program_on_wasmparser_names_no_other_crate(self):
-        programs = sorted((TOP / "bindings/programs").glob("*.rs"))
+        programs = sorted((TOP / "rust/programs").glob("*.rs"))
         self.assertGreater(len(programs), 2)
         for program in programs:
             text = program.read_text(encoding="utf-8")
@@ -21,12 +21,12 @@ class Bindings(unittest.TestCase):
             self.assertNotIn("wasm_operators", text, program)
 
     def test_only_one_module_has_unsafe_code(self):
-        sources = sorted((TOP / "bindings/rust/src").glob("*.rs"))
+        sources = sorted((TOP / "rust/src").glob("*.rs"))
         found = [path.name for path in sources if "unsafe {" in path.read_text(encoding="utf-8")]
         self.assertEqual(found, ["native.rs"])
 
     def test_each_operator_is_converted_once(self):
-        source = (TOP / "bindings/rust/src/operator.rs").read_text(encoding="utf-8")
+        source = (TOP / "rust/src/operator.rs").read_text(encoding="utf-8")
         converted = re.findall(r"=> Operator::(\w+)", source)
         self.assertEqual(sorted(converted), sorted(op.name for op in table()))
 
@@ -86,7 +86,7 @@ fn one() {}
 
     def test_the_versions_are_one(self):
         library = (TOP / "crates/wasm_c/src/lib.rt").read_text(encoding="utf-8")
-        crate = (TOP / "bindings/rust/src/native.rs").read_text(encoding="utf-8")
+        crate = (TOP / "rust/src/native.rs").read_text(encoding="utf-8")
         versions = [
             HEADER.split("#define WASM_OPERATORS_VERSION ")[1].split("u\n")[0],
             library.split("const VERSION: u32 = ")[1].split(";")[0],

@@ -29,7 +29,7 @@ class Exports(unittest.TestCase):
             self.assertEqual(words(body), words(f"wasm_c::{name}({', '.join(arguments)})"), name)
 
     def test_the_header_declares_them(self):
-        header = (TOP / "include/wasm_operators.h").read_text(encoding="utf-8")
+        header = (TOP / "c/include/wasm_operators.h").read_text(encoding="utf-8")
         declared = re.findall(r"^(?:uint32_t|size_t) (wasm_\w+)\([^{;]*\);", header, re.M)
         self.assertEqual(sorted(declared), sorted(re.findall(r"^pub fn (\w+)", self.library, re.M)))
 

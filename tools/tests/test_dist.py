@@ -167,7 +167,7 @@ class Package(Folders):
         self.assertEqual(package.brought_in('include_str!("../README.md")')[1], {})
 
     def test_the_build_script_names_the_command(self):
-        script = (TOP / "bindings/rust/build.rs").read_text(encoding="utf-8")
+        script = (TOP / "rust/build.rs").read_text(encoding="utf-8")
         self.assertIn('"    tools/dist",', script)
         self.assertIn("WASM_OPERATORS_LIBRARIES=$PWD/dist/lib", script)
 
@@ -212,7 +212,7 @@ class Manual(Folders):
             self.assertEqual(ran.stdout, f"{found}\n")
 
     def test_page_of_the_header(self):
-        header = (TOP / "include/wasm_operators.h").read_text(encoding="utf-8")
+        header = (TOP / "c/include/wasm_operators.h").read_text(encoding="utf-8")
         page = manual.header_page(header, "abc", ["low"])
         names = set(re.findall(r"^[\w ]*?\*?(wasm_\w+)\(", header, re.M)) | set(re.findall(r"^typedef struct (\w+)", header, re.M))
         self.assertEqual(set(re.findall(r"^\.SS (\w+)$", page, re.M)), names)
@@ -304,7 +304,7 @@ class Texts(Folders):
         text = lambda path: (texts.TOP / path).read_text(encoding="utf-8")
         version = texts.release()
         self.assertEqual(package.field("version"), version)
-        self.assertIn(f'name = "wasm-operators"\nversion = "{version}"\n', text("bindings/rust/Cargo.lock"))
+        self.assertIn(f'name = "wasm-operators"\nversion = "{version}"\n', text("rust/Cargo.lock"))
         self.assertIn(f"/wasm-operators-{version}`", text("docs/CALLERS.md"))
         self.assertRegex(text("CHANGELOG.md"), rf"\A# Changelog\n[^#]*\n## {version}, ")
         self.assertIn("follows wasmparser 0.263.0", release.notes().split("\n")[0])

@@ -36,7 +36,7 @@ class Records(unittest.TestCase):
             self.assertEqual(len(kind.visited), len(kind.types), kind.word)
 
     def test_shapes_have_the_numbers_of_the_header(self):
-        header = (TOP / "include" / "wasm_operators.h").read_text(encoding="utf-8")
+        header = (TOP / "c" / "include" / "wasm_operators.h").read_text(encoding="utf-8")
         shapes = re.findall(r"WASM_SHAPE_\w+ = (\d+)", header)
         numbers = [combination.number for combination in COMBINATIONS.values()]
         self.assertEqual(sorted(set(numbers)), [int(number) for number in shapes])

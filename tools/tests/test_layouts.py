@@ -5,8 +5,8 @@ import unittest
 
 from shared.crates import TOP
 
-HEADER = re.sub(r"/\*.*?\*/", "", (TOP / "include/wasm_operators.h").read_text(encoding="utf-8"), flags=re.S)
-NATIVE = re.sub(r"//.*", "", (TOP / "bindings/rust/src/native.rs").read_text(encoding="utf-8"))
+HEADER = re.sub(r"/\*.*?\*/", "", (TOP / "c/include/wasm_operators.h").read_text(encoding="utf-8"), flags=re.S)
+NATIVE = re.sub(r"//.*", "", (TOP / "rust/src/native.rs").read_text(encoding="utf-8"))
 FILES = [path for name in ("wasm_view", "wasm_encode_view", "wasm_c", "wasm_module") for path in TOP.glob(f"crates/{name}/src/**/*.rt")]
 RATTLE = "\n".join(path.read_text(encoding="utf-8") for path in FILES)
 INTEGERS = {f"uint{width}_t": f"u{width}" for width in (8, 16, 32, 64)} | {"size_t": "usize"}

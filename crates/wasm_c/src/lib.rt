@@ -1,6 +1,6 @@
 //! The operators of function bodies for C, and for languages that call C. No call has a `requires`.
 //!
-//! `include/wasm_operators.h` describes the calls. Each returns 0, or the number of its error, and
+//! `c/include/wasm_operators.h` describes the calls. Each returns 0, or the number of its error, and
 //! sets `refusal`. On failure, nothing else changes, unless the call says so. If allocation fails,
 //! the number is 3.
 #![tactic(auto)]

@@ -10,7 +10,7 @@ use wasm_module::{
     open_bodies,
 };
 
-// The numbers of errors, as in `include/wasm_operators.h`.
+// The numbers of errors, as in `c/include/wasm_operators.h`.
 const NOT_A_MODULE: u32 = 106;
 
 const IMPORT_KIND: u32 = 107;

@@ -5,7 +5,7 @@ use std::alloc::Global;
 use wasm_c::{WasmReader, WasmRefusal, WasmValue, wasm_read_value};
 use wasm_tests_texts::Written;
 
-/// The kinds of values in `include/wasm_operators.h`.
+/// The kinds of values in `c/include/wasm_operators.h`.
 const VAR_U32: u32 = 3;
 
 const CONSTANT: u32 = 12;

@@ -16,7 +16,7 @@ use std::time::Instant;
 use wasm_operators as proved;
 use wasmparser as original;
 
-#[path = "rust/tests/changed/mod.rs"]
+#[path = "tests/changed/mod.rs"]
 mod changed;
 
 /// Returns the bodies of a file.

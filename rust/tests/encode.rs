@@ -7,7 +7,7 @@ use wasm_operators::{
 };
 
 /// The samples: name, bytes before the operator, the operator, bytes after it, and the shortest encoding.
-const SAMPLES: &str = include_str!("../../../crates/wasm_tests_encode/stdin");
+const SAMPLES: &str = include_str!("../../crates/wasm_tests_encode/stdin");
 
 fn bytes_of(hex: &str) -> Vec<u8> {
     let digits = hex.as_bytes().chunks(2);
@@ -151,7 +151,7 @@ fn lists() -> Result<()> {
 }
 
 /// A module with padded numbers, as linkers write them.
-const PADDED: &[u8] = include_bytes!("../../../crates/wasm_compact/data/padded.wasm");
+const PADDED: &[u8] = include_bytes!("../../crates/wasm_compact/data/padded.wasm");
 
 /// Writes a code section again.
 fn rewritten(code: &CodeSectionReader<'_>) -> Result<CodeSection> {

@@ -1,4 +1,4 @@
-//! The parts and items of a module as lines. `tests/parser.rs` and `bindings/clients/payloads.rs` have this module, and
+//! The parts and items of a module as lines. `tests/parser.rs` and `rust/clients/payloads.rs` have this module, and
 //! name in `library` the crate that reads.
 
 use crate::library::*;

@@ -6,7 +6,7 @@ use wasm_operators::{
     for_each_visit_simd_operator,
 };
 
-const OUTPUT: &str = include_str!("../../../crates/wasm_tests_replay/stdin");
+const OUTPUT: &str = include_str!("../../crates/wasm_tests_replay/stdin");
 
 /// Returns the rows of the output, in cells.
 fn rows() -> impl Iterator<Item = Vec<&'static str>> {

@@ -1,4 +1,4 @@
-//! Two bodies, and what becomes of them if they are cut or a byte is changed. `tests/ahead.rs` and `../../beside.rs` use them.
+//! Two bodies, and what becomes of them if they are cut or a byte is changed. `tests/ahead.rs` and `../beside.rs` use them.
 
 /// The number of blocks around the others: more than are read ahead, so that no batch has them all.
 const AROUND: usize = 70;

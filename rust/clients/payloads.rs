@@ -1,11 +1,11 @@
 //! Lists the parts and items of modules, which needs no other crate.
 //!
 //!     payloads LIST           a line for each module that the list names, like the programs of the clients
-//!     payloads --rows FILE..  a row of `bindings/rust/tests/data/payloads.tsv` for each module
+//!     payloads --rows FILE..  a row of `rust/tests/data/payloads.tsv` for each module
 //!     payloads --lines FILE   the lines of a module
 
 mod each_file;
-#[path = "../rust/tests/payloads/mod.rs"]
+#[path = "../tests/payloads/mod.rs"]
 mod payloads;
 /// The crate that reads.
 mod library {
