@@ -2,7 +2,7 @@
 """Checks that every edit still applies to the sources, or tries the must-fail edits that the gate leaves out.
 
     tools/edits.py [--log LOG]
-    tools/edits.py --more [--keep DIR] [--record] [NAME..]
+    tools/edits.py --more [--keep DIR] [--libraries FOLDER] [--record] [NAME..]
 
 An edit replaces texts of files, which must occur once, in order: lines `file: PATH`, `old: TEXT`, `new: TEXT`. The gate
 tries `crates/NAME/must-fail/X.edit`, `--more` those in `crates/NAME/more-must-fail.edits`, and `tools/run tests_catch` those
@@ -10,10 +10,12 @@ in `tests-catch.edits`. In these two, a line `edit: X` starts an edit. With `--l
 `rt ci` has a `BAD EDIT`, which `rt ci` skips.
 
 The gate leaves edits out, since a second edit costs another proof of the crate. `--more` copies the crates, puts these
-edits in the place of the gate's, and runs `rt ci NAME..` there. Without NAME it takes every crate with such edits. After
-the gate, `rt ci` proves no crate below NAME again. `--keep DIR` keeps the copy, in a folder that is new, empty or such a
-copy. `RT_JOBS=N` has `rt` do N things at a time. `--record` writes the crates whose edits were all rejected into
-tools/more_must_fail.tsv, with the commit and the date, for docs/GATE.md. It needs a checkout without changes in crates/.
+edits in the place of the gate's, and has `rt` try them there. Without NAME it takes every crate with such edits.
+`RT_JOBS=N` does N things at a time. The libraries below NAME are those that `rt ci` kept, if the kit keeps any (`rt help`
+then shows `rt ci` with names). Else `rt must-fail` builds them. With `--libraries FOLDER` they come from a checkout in
+which `rt ci` has passed. It has the same sources of all crates below NAME. `--keep DIR` keeps the copy, in a folder that
+is new, empty or such a copy. `--record` writes the crates whose edits were all rejected into tools/more_must_fail.tsv,
+with the commit and the date, for docs/GATE.md. It needs a checkout without changes in crates/.
 
 The last line has the numbers of edits and of wrong ones; the status is 0 if none is wrong.
 """
@@ -26,10 +28,11 @@ import shutil
 import subprocess
 import sys
 import tempfile
+from concurrent.futures import ThreadPoolExecutor
 from pathlib import Path
 
 from shared.arguments import read
-from shared.crates import TOP
+from shared.crates import TOP, below, crates
 from shared.tables import rows_of
 
 GATE, MORE, TESTS = "must-fail", "more-must-fail.edits", "tests-catch.edits"
@@ -150,27 +153,73 @@ def exchanged(folder, names):
 
 
 def rejected_in(lines):
-    """Yields each line of `rt ci`, with the crate and the edit that it reports as rejected."""
+    """Yields each line of `rt`, with the crate and the edit that it reports as rejected."""
     for line in lines:
         found = REJECTED.match(line)
         yield line, (found[1], found[2]) if found else None
 
 
-def tried(folder, names):
-    """Returns the number of rejected edits, and the others."""
+def sources(crate):
+    """Returns the files of a crate that its library is built from, by their paths in it."""
+    return {path.relative_to(crate): path for part in PARTS for path in crate.glob(f"{part}**/*") if path.is_file()}
+
+
+def is_library_of(library, crate, of_copy):
+    """Returns whether a library was built from the sources of its crate after their last change, and the copy's are the same."""
+    ours, theirs = sources(of_copy), sources(crate)
+    is_same = ours.keys() == theirs.keys() and all(ours[it].read_bytes() == theirs[it].read_bytes() for it in ours)
+    return library.is_dir() and is_same and library.stat().st_mtime >= max(it.stat().st_mtime for it in theirs.values())
+
+
+def lend(libraries, folder, names):
+    """Links the libraries of a checkout into the copy. Returns, by name, a crate below that has none."""
+    uses, lacking = crates(folder), {}
+    same = {name for name, listed in crates(libraries).items() if uses.get(name) == listed}
+    for name in uses:
+        place, library = (top / "crates" / name / "out/rlib" / f"{name}.rlib" for top in (folder, libraries))
+        if name in same and is_library_of(library, libraries / "crates" / name, folder / "crates" / name):
+            place.parent.mkdir(parents=True, exist_ok=True)
+            place.symlink_to(library)
+        else:
+            lacking |= {above: name for above in names if name in below(uses, above)}
+    return lacking
+
+
+def commands(names, libraries):
+    """Returns the commands that try the edits of a copy, to be run at the same time."""
+    if libraries:
+        return [[sys.executable, "-B", Path(__file__).parent / "testing" / "over_libraries.py", name] for name in names]
+    usage = subprocess.run(["rt", "help"], capture_output=True, text=True, errors="replace")
+    takes_names = re.search(r"^ *rt ci +\[?NAME", usage.stdout + usage.stderr, re.M)
+    return [["rt", "ci" if takes_names else "must-fail", *names]]
+
+
+def run(command, folder):
+    """Passes the output of a command on. Returns the edits that it reports as rejected, and its status."""
     # (rt ci refuses names if CI is set)
     env = {name: value for name, value in os.environ.items() if name != "CI"}
     how = {"stdout": subprocess.PIPE, "stderr": subprocess.STDOUT, "text": True, "errors": "replace"}
     seen = set()
-    with subprocess.Popen(["rt", "ci", *names], cwd=folder, env=env, **how) as ran:
+    with subprocess.Popen(command, cwd=folder, env=env, **how) as ran:
         for line, edit in rejected_in(ran.stdout):
             print(line, end="", flush=True)
             seen |= {edit} - {None}
+    return seen, ran.returncode
+
+
+def tried(folder, names, libraries=None):
+    """Returns the number of rejected edits, and the others."""
+    lacking = lend(libraries, folder, names) if libraries else {}
+    wrong = [f"{name}/ ({libraries} has no library of {it} from these sources)" for name, it in lacking.items()]
+    names = [name for name in names if name not in lacking]
+    with ThreadPoolExecutor(int(os.environ.get("RT_JOBS") or 2)) as pool:
+        runs = list(pool.map(lambda command: run(command, folder), commands(names, libraries) if names else []))
+    seen = {edit for rejected, _ in runs for edit in rejected}
     wanted = {(name, f"{edit.name}.edit") for name in names for edit in edits_of(folder / "crates" / name, [GATE])}
-    wrong = [f"{name}/{edit}" for name, edit in sorted(wanted - seen)]
-    if ran.returncode and not wrong:
-        wrong = [f"{name}/ (rt ci failed)" for name in names]
-    return len(wanted & seen), wrong
+    lost = [f"{name}/{edit}" for name, edit in sorted(wanted - seen)]
+    if any(status for _, status in runs) and not lost:
+        lost = [f"{name}/ (rt failed)" for name in names]
+    return len(wanted & seen), wrong + lost
 
 
 def recorded():
@@ -197,7 +246,7 @@ def record(names, commit):
         writer.writerows(rows[name] for name in sorted(rows) if (TOP / "crates" / name / MORE).exists())
 
 
-def try_more(names, kept, is_recorded):
+def try_more(names, kept, libraries, is_recorded):
     """Tries the edits that the gate leaves out. Returns how many were rejected, and the others."""
     every = [path.parent.name for path in sorted(TOP.glob(f"crates/*/{MORE}"))]
     unknown = [name for name in names if name not in every]
@@ -209,7 +258,7 @@ def try_more(names, kept, is_recorded):
         folder = kept or Path(scratch) / "copy"
         copied(folder)
         exchanged(folder, names)
-        rejected, wrong = tried(folder, names)
+        rejected, wrong = tried(folder, names, libraries)
     if is_recorded:
         failed = {edit.split("/")[0] for edit in wrong}
         record([name for name in names if name not in failed], commit)
@@ -217,9 +266,9 @@ def try_more(names, kept, is_recorded):
 
 
 def main():
-    given = read(__doc__, "--log LOG", "--more", "--keep DIR", "--record", "NAME..")
+    given = read(__doc__, "--log LOG", "--more", "--keep DIR", "--libraries FOLDER", "--record", "NAME..")
     if given.more:
-        count, found = try_more(given.names, given.keep, given.record)
+        count, found = try_more(given.names, given.keep, given.libraries, given.record)
         found, done = [f"NOT REJECTED: {edit}" for edit in found], "rejected"
     else:
         found, count = faults(TOP)

@@ -1,6 +1,9 @@
+import io
+import os
 import subprocess
 import tempfile
 import unittest
+from contextlib import redirect_stdout
 from pathlib import Path
 from unittest import mock
 
@@ -124,6 +127,49 @@ class MoreMustFail(unittest.TestCase):
         edits.exchanged(self.folder, ["low"])
         left = {str(path.relative_to(self.folder / "crates")): path.read_text() for path in self.folder.glob("crates/*/must-fail/*")}
         self.assertEqual(left, {"low/must-fail/one.edit": "old: 1\n\n", "low/must-fail/two.edit": "old: 2\n"})
+
+    def test_libraries_of_a_checkout(self):
+        names = ["low", "middle", "other", "high"]
+        for top in ("copy", "checkout"):
+            for name in names:
+                source = self.folder / top / "crates" / name / "src" / "lib.rt"
+                source.parent.mkdir(parents=True)
+                source.write_text(name)
+            (self.folder / top / "crates.txt").write_text("low: std\nmiddle: low\nother: low\nhigh: middle other\n")
+        libraries = [self.folder / "checkout" / "crates" / name / "out/rlib" / f"{name}.rlib" for name in names]
+        for library in libraries:
+            library.mkdir(parents=True)
+        place = self.folder / "copy/crates/low/out/rlib/low.rlib"
+        lent = lambda: edits.lend(self.folder / "checkout", self.folder / "copy", ["middle", "high"])
+        self.assertEqual(lent(), {})
+        self.assertEqual(place.resolve(), libraries[0].resolve())
+
+        def again():
+            for name in names:
+                (self.folder / f"copy/crates/{name}/out/rlib/{name}.rlib").unlink(missing_ok=True)
+            return lent()
+
+        (self.folder / "copy/crates/middle/src/lib.rt").write_text("changed")
+        self.assertEqual(again(), {"high": "middle"})
+        # (a source that changed after the library was built)
+        os.utime(libraries[0], (0, 0))
+        self.assertEqual(again(), {"middle": "low", "high": "middle"})
+
+    def test_commands(self):
+        for usage, word in (("  rt ci                   the gate\n", "must-fail"), ("  rt ci [NAME..]  the gate\n", "ci")):
+            ended = subprocess.CompletedProcess([], 0, "", usage)
+            with mock.patch.object(subprocess, "run", lambda *_, **__: ended):
+                self.assertEqual(edits.commands(["low", "high"], None), [["rt", word, "low", "high"]])
+        self.assertEqual([it[3:] for it in edits.commands(["low", "high"], self.folder)], [["low"], ["high"]])
+
+    def test_tried(self):
+        (self.folder / "crates/wasm_low/must-fail").mkdir(parents=True)
+        for name in ("turned", "slow", "lost"):
+            (self.folder / f"crates/wasm_low/must-fail/{name}.edit").write_text("")
+        (self.folder / "log").write_text(LOG)
+        for command, wrong in ((["cat", "log"], ["wasm_low/lost.edit"]), (["false"], [f"wasm_low/{it}.edit" for it in ("lost", "slow", "turned")])):
+            with mock.patch.object(edits, "commands", lambda *_: [command]), redirect_stdout(io.StringIO()):
+                self.assertEqual(edits.tried(self.folder, ["wasm_low"]), (3 - len(wrong), wrong))
 
 
 if __name__ == "__main__":
