@@ -1,11 +1,11 @@
 #!/usr/bin/env python3
-"""Writes docs/GATE.md and docs/gate.svg, what the crates cost in the gate, from logs of `.ci/run`.
+"""Writes docs/GATE.md and docs/gate.svg, what the crates cost in the gate, from a log of `.ci/run`.
 
-    tools/gate_table.py LOG NOTE [LOG NOTE ..]
+    tools/gate_table.py LOG NOTE
     tools/gate_table.py --summary LOG
 
-NOTE is a sentence for the page: the commit, the machine. The chart is of the first log. The costs of several logs joined to
-one, of runs that continued each other, are added.
+NOTE is a sentence for the page: the commit, the machine. The costs of several logs joined to one, of runs that continued
+each other, are added.
 `--summary` prints the figures of a log. Minutes come from tools/timed.py, functions and edits from `rt`, the edits
 outside the gate from tools/more_must_fail.tsv.
 """
@@ -18,7 +18,7 @@ from pathlib import Path
 sys.path[:0] = [str(Path(__file__).resolve().parent / "generate"), str(Path(__file__).resolve().parent)]
 
 from edits import recorded
-from shared import arguments
+from shared import arguments, svg
 from shared.crates import TOP
 
 PAGE = TOP / "docs" / "GATE.md"
@@ -109,24 +109,10 @@ def shown(crates):
 
 def chart(crates):
     """Returns a bar for each shown crate: CPU minutes of its proof and of its edits."""
-    rows = shown(crates)
-    most = max(sum(it.processor.get(part, 0) for part in COLOURS) for it in rows.values()) or 1
-    out = [
-        f'<svg xmlns="http://www.w3.org/2000/svg" viewBox="0 0 720 {22 * len(rows) + 44}" font-family="sans-serif" font-size="12">',
-        f'<rect width="720" height="{22 * len(rows) + 44}" fill="#ffffff"/>',
-    ]
-    for at, (name, crate) in enumerate(rows.items()):
-        x, y = 180, 22 * at + 10
-        out.append(f'<text x="172" y="{y + 12}" text-anchor="end">{name.strip("`")}</text>')
-        for part, colour in COLOURS.items():
-            size = 480 * crate.processor.get(part, 0) / most
-            out.append(f'<rect x="{x:.1f}" y="{y}" width="{size:.1f}" height="16" fill="{colour}"/>')
-            x += size
-        out.append(f'<text x="{x + 6:.1f}" y="{y + 12}">{minutes(sum(crate.processor.get(part, 0) for part in COLOURS))}</text>')
-    for at, (part, colour) in enumerate(COLOURS.items()):
-        text = f'<text x="{200 + 160 * at}" y="{22 * len(rows) + 30}">CPU minutes of {part}</text>'
-        out.append(f'<rect x="{180 + 160 * at}" y="{22 * len(rows) + 18}" width="14" height="14" fill="{colour}"/>{text}')
-    return "\n".join([*out, "</svg>", ""])
+    costs = [(name.strip("`"), [crate.processor.get(part, 0) for part in COLOURS]) for name, crate in shown(crates).items()]
+    parts, y = svg.bars(10, [(name, seconds, minutes(sum(seconds))) for name, seconds in costs], COLOURS)
+    legend = {f"CPU minutes of {part}": colour for part, colour in COLOURS.items()}
+    return svg.document(svg.WIDTH, y + 34, parts + svg.legend(svg.LEFT, y + 8, 160, legend))
 
 
 def row(name, crate):
@@ -190,29 +176,24 @@ def outside_section(rows):
     return OUTSIDE + "\n".join([*lines, f"| all | {total} | | |", ""])
 
 
-def page(runs, rows=()):
+def page(text, note="", rows=()):
     """Returns the page with its head and new sections."""
     head = PAGE.read_text(encoding="utf-8").split("\n## ")[0]
-    return "".join([head, *(run_section(text, note) for text, note in runs), outside_section(rows)])
-
-
-def text_of(path):
-    return Path(path).read_text(encoding="utf-8", errors="replace")
+    return "".join([head, run_section(text, note), outside_section(rows)])
 
 
 def main():
     sys.dont_write_bytecode = True
-    given = arguments.read(__doc__, "--summary LOG", "WORD..")
+    given = arguments.read(__doc__, "--summary", "LOG", "[NOTE]")
+    text = given.log.read_text(encoding="utf-8", errors="replace")
     if given.summary:
-        print(summary(text_of(given.summary)))
-        return
-    words = given.words
-    if not words or len(words) % 2:
+        print(summary(text))
+    elif given.note:
+        PAGE.write_text(page(text, given.note, recorded()), encoding="utf-8")
+        CHART.write_text(chart(measured(text)[0]), encoding="utf-8")
+        print("docs/GATE.md, docs/gate.svg")
+    else:
         sys.exit(__doc__)
-    runs = [(text_of(log), note) for log, note in zip(words[::2], words[1::2])]
-    PAGE.write_text(page(runs, recorded()), encoding="utf-8")
-    CHART.write_text(chart(measured(runs[0][0])[0]), encoding="utf-8")
-    print("docs/GATE.md, docs/gate.svg")
 
 
 if __name__ == "__main__":

@@ -16,6 +16,7 @@ import tempfile
 from html import escape
 
 import large_bodies
+from shared import svg
 from shared.arguments import read
 
 FIGURE = large_bodies.TOP / "docs" / "growth.svg"
@@ -80,21 +81,21 @@ def figure(series):
     most = math.ceil(math.log10(max(it.bytes for found in series.values() for it in found)))
     across = lambda size: LEFT + (WIDTH - LEFT - RIGHT) * math.log10(max(size, 1)) / most
     up = lambda time: HEIGHT - BOTTOM - (HEIGHT - TOP - BOTTOM) * time / marks[-1]
-    out = [f'<svg xmlns="http://www.w3.org/2000/svg" viewBox="0 0 {WIDTH} {HEIGHT}" font-family="sans-serif" font-size="12">', f'<rect width="{WIDTH}" height="{HEIGHT}" fill="#ffffff"/>']
+    out = []
     for mark in marks:
         out.append(f'<line x1="{LEFT}" x2="{WIDTH - RIGHT}" y1="{up(mark):.1f}" y2="{up(mark):.1f}" stroke="#dddddd"/>')
-        out.append(f'<text x="{LEFT - 8}" y="{up(mark) + 4:.1f}" text-anchor="end">{mark}</text>')
-    for power in range(most + 1):
-        out.append(f'<text x="{across(10**power):.1f}" y="{HEIGHT - BOTTOM + 18}" text-anchor="middle">{10**power:,}</text>')
-    out.append(f'<text x="{(LEFT + WIDTH - RIGHT) / 2}" y="{HEIGHT - 10}" text-anchor="middle">bytes of the body</text>')
-    out.append(f'<text transform="rotate(-90 16 {HEIGHT / 2})" x="16" y="{HEIGHT / 2}" text-anchor="middle">nanoseconds</text>')
+        out.append(svg.text(LEFT - 8, f"{up(mark) + 4:.1f}", mark, ' text-anchor="end"'))
+    middle = ' text-anchor="middle"'
+    out += [svg.text(f"{across(10**power):.1f}", HEIGHT - BOTTOM + 18, f"{10**power:,}", middle) for power in range(most + 1)]
+    out.append(svg.text((LEFT + WIDTH - RIGHT) / 2, HEIGHT - 10, "bytes of the body", middle))
+    out.append(svg.text(16, HEIGHT / 2, "nanoseconds", f' transform="rotate(-90 16 {HEIGHT / 2})"{middle}'))
     for at, (name, found) in enumerate(series.items()):
         title, unit, _ = BODIES[name]
         points = " ".join(f"{across(it.bytes):.1f},{up(it.time):.1f}" for it in found)
         out.append(f'<polyline points="{points}" fill="none" stroke="{COLOURS[at]}" stroke-width="2"/>')
         label = escape(f"{title.replace('`', '')}, per {unit}")
-        out.append(f'<text x="{WIDTH - RIGHT - 10}" y="{TOP + 14 + 16 * at}" text-anchor="end" fill="{COLOURS[at]}">{label}</text>')
-    return "\n".join([*out, "</svg>", ""])
+        out.append(svg.text(WIDTH - RIGHT - 10, TOP + 14 + 16 * at, label, f' text-anchor="end" fill="{COLOURS[at]}"'))
+    return svg.document(WIDTH, HEIGHT, out)
 
 
 def main():

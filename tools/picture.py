@@ -1,17 +1,19 @@
 #!/usr/bin/env python3
-"""Draws the crates, without the tests, as docs/crates.svg.
+"""Draws the crates, without the tests, as docs/crates.svg, and the speed as docs/speed.svg.
 
-    tools/picture.py             writes the picture
-    tools/picture.py --check     fails if the picture is not what crates.txt gives
+    tools/picture.py             writes the pictures
+    tools/picture.py --check     fails if a picture is not what crates.txt and the tables of docs/SPEED.md and docs/OBJDUMP.md give
 
 A crate is above those that it lists. A line leads to each of them that no other one of them lists, directly or not.
 """
 
+from pages import speed
+from shared import svg
 from shared.arguments import read
 from shared.crates import TOP, below, crates
 from shared.written import write_or_check
 
-PICTURE = "docs/crates.svg"
+PICTURE, SPEED = "docs/crates.svg", "docs/speed.svg"
 PREFIX = "wasm_"
 WIDTH, BOX, ROW, HEIGHT = 900, 26, 70, 20
 COLOURS = {"library": "#e8f0fa", "program": "#e3f3e6", "C": "#fbeedd"}
@@ -99,25 +101,20 @@ def picture():
     height = ROW * len(rows) + HEIGHT
     x_of = lambda it: f"{middle[it] - left:.0f}"
     top = {it: height - ROW * (at + 1) + (ROW - BOX) // 2 for at, row in enumerate(rows) for it in row}
-    out = [
-        f'<svg xmlns="http://www.w3.org/2000/svg" viewBox="0 0 {right - left:.0f} {height}" font-family="sans-serif" font-size="12">',
-        f'<rect width="{right - left:.0f}" height="{height}" fill="#ffffff"/>',
-    ]
+    out = []
     for way in ways:
         points = " ".join(f"{x_of(it)},{top[it]} {x_of(it)},{top[it] + BOX}" for it in way)
         out.append(f'<polyline points="{points}" fill="none" stroke="#9aa5b1"/>')
     for name in uses:
         box = f'x="{middle[name] - width(name) / 2 - left:.0f}" y="{top[name]}" width="{width(name):.0f}" height="{BOX}"'
         out.append(f'<rect {box} rx="4" fill="{COLOURS[kind(name)]}" stroke="#51606e"/>')
-        out.append(f'<text x="{x_of(name)}" y="{top[name] + 17}" text-anchor="middle">{label(name)}</text>')
-    for at, (what, colour) in enumerate(COLOURS.items()):
-        out.append(f'<rect x="{8 + 90 * at}" y="6" width="14" height="14" fill="{colour}" stroke="#51606e"/>')
-        out.append(f'<text x="{28 + 90 * at}" y="17">{what}</text>')
-    return "\n".join([*out, "</svg>", ""])
+        out.append(svg.text(x_of(name), top[name] + 17, label(name), ' text-anchor="middle"'))
+    out += svg.legend(8, 6, 90, COLOURS, ' stroke="#51606e"')
+    return svg.document(f"{right - left:.0f}", height, out)
 
 
 def main():
-    write_or_check({PICTURE: picture()}, read(__doc__, "--check").check, "tools/picture.py")
+    write_or_check({PICTURE: picture(), SPEED: speed.picture()}, read(__doc__, "--check").check, "tools/picture.py")
 
 
 if __name__ == "__main__":

@@ -32,14 +32,14 @@ cost all 186 126 4
 
 class GateTable(unittest.TestCase):
     def test_page(self):
-        page = gate_table.page([(LOG, "Alone."), (LOG, "")])
+        page = gate_table.page(LOG, "Alone.")
         self.assertIn("| `wasm_low` | 7 | 2.0 | 1.5 | 0.5 | 1 |", page)
         self.assertIn("| all | 7 | 2.0 | | 0.5 | 1 |", page)
         self.assertIn("took 2.1 minutes wall-clock on 4 processors, and 3.1 CPU minutes", page)
         self.assertIn("`2 passed, 1 failed`. Alone.\n", page)
         self.assertIn("A proof takes 17.1 seconds per function.", page)
         self.assertIn("About 0 of the minutes of edits", page)
-        self.assertEqual(page.count("| all |"), 2)
+        self.assertEqual(page.count("| all |"), 1)
 
     def test_ten_rows(self):
         log = "".join(f"== low{at}\nlogic=proved functions=2 x\ncost low{at} proof {60 * (at + 1)} 60\n" for at in range(12))
@@ -122,7 +122,7 @@ class Progress(unittest.TestCase):
                          ["[1/2, 0 min] wasm_high: NOT PROVED"])
 
     def test_expected_minutes(self):
-        page = gate_table.page([(LOG, "")])
+        page = gate_table.page(LOG)
         self.assertAlmostEqual(timed.expected_minutes(page, 4), 2.1)
         self.assertAlmostEqual(timed.expected_minutes(page, 2), 4.2)
         self.assertAlmostEqual(timed.expected_minutes(page, 8), 2.1)
