@@ -28,6 +28,7 @@ from pathlib import Path
 from shared.arguments import read
 from shared.crates import TOP
 from testing.built import built, missing
+from testing.crates import find_kit
 
 SECONDS = 60
 # A program with more should be smaller.
@@ -41,10 +42,8 @@ UNREAD = b"the rows could not be read"
 
 
 def built_library(folder):
-    page = subprocess.run(["rt", "doc"], capture_output=True, text=True, check=True).stdout.strip()
-    compiler = Path(page).parent / "toolchain" / "bin" / "clang"
     library = f"{folder}/refuse.so"
-    words = [compiler, "-O1", "-shared", "-fPIC", "-nostdlib", "-fuse-ld=lld", "-o", library]
+    words = [find_kit() / "toolchain/bin/clang", "-O1", "-shared", "-fPIC", "-nostdlib", "-fuse-ld=lld", "-o", library]
     subprocess.run([*words, TOP / "tools" / "refuse_allocation.c"], check=True)
     return library
 

@@ -15,6 +15,7 @@ rust/clients has the programs and `changes.tsv`, the changed lines of each clien
 read the modules in crates/*/data, the modules of `wasm-tools smith`, and MODULES.
 """
 
+import itertools
 import os
 import random
 import re
@@ -24,9 +25,9 @@ import sys
 import tempfile
 from pathlib import Path
 
+from shared import modules
 from shared.arguments import read
 from shared.crates import TOP
-from shared.leb128 import unsigned
 from shared.tables import rows_of
 
 CLIENTS = TOP / "rust/clients"
@@ -101,26 +102,23 @@ def patch(client, source, folder):
     (folder / "Cargo.toml").write_text(manifest, encoding="utf-8")
 
 
-def build(registry, work):
+def build(engines, work):
     """Builds the programs over both crates, and returns their paths by client and side."""
-    config = f'[source.crates-io]\nreplace-with = "local"\n[source.local]\ndirectory = "{registry}"\n[net]\noffline = true\n'
-    (work / ".cargo").mkdir(parents=True, exist_ok=True)
-    (work / ".cargo/config.toml").write_text(config, encoding="utf-8")
     programs = {}
     for client, (source, version, features) in PROGRAMS.items():
         copy = work / "clients" / client
         if client != "wasmparser":
-            patch(client, registry / f"{client}-{version}", copy)
+            patch(client, engines.registry / f"{client}-{version}", copy)
         for side in SIDES:
             is_ours = side == "wasm-operators"
             name = f"{source}-{side}"
             parser = ("wasmparser", OURS if is_ours else 'version = "0.239"', PARSER)
             wanted = [(client, f'path = "{copy}"' if is_ours else f'version = "{version}"', features), parser]
-            programs[client, side] = project(work, name, source, wanted[client == "wasmparser" :])
+            programs[client, side] = project(engines, work, name, source, wanted[client == "wasmparser" :])
     return programs
 
 
-def project(work, name, source, wanted):
+def project(engines, work, name, source, wanted):
     """Builds a program, and returns its path."""
     folder = work / name
     folder.mkdir(exist_ok=True)
@@ -133,11 +131,8 @@ def project(work, name, source, wanted):
     ]
     (folder / "Cargo.toml").write_text("\n".join(manifest) + "\n", encoding="utf-8")
     target = work / "target"
-    command = ["cargo", "build", "--offline", "--quiet"]
-    environment = {**os.environ, "CARGO_TARGET_DIR": str(target)}
-    run = subprocess.run(command, cwd=folder, env=environment, capture_output=True, text=True)
-    if run.returncode != 0:
-        sys.exit(f"{name} does not build:\n{run.stderr}")
+    if why := engines.build(folder, CARGO_TARGET_DIR=str(target)):
+        sys.exit(f"{name} does not build:\n{why}")
     return target / "debug" / name
 
 
@@ -146,31 +141,22 @@ def module_of_bodies(data):
     bodies = []
     while data:
         length = int.from_bytes(data[:4], "little")
-        bodies.append(unsigned(length) + data[4 : 4 + length])
+        bodies.append(modules.sized(data[4 : 4 + length]))
         data = data[4 + length :]
-    count = unsigned(len(bodies))
-    parts = [(1, b"\x01\x60\0\0"), (3, count + bytes(len(bodies))), (10, count + b"".join(bodies))]
-    return b"\0asm\1\0\0\0" + b"".join(bytes([id]) + unsigned(len(part)) + part for id, part in parts)
+    return modules.module({1: b"\x01\x60\0\0", 3: modules.vector([b"\0"] * len(bodies)), 10: modules.vector(bodies)})
 
 
 def smith(engines, work, count):
     """Makes modules with all proposals that `wasm-tools smith` knows, and as many with those that walrus reads."""
-    root = engines / "root"
-    library = root / "usr/lib/x86_64-linux-gnu"
-    program = [root / "usr/lib64/ld-linux-x86-64.so.2", "--library-path", library, root / "usr/bin/wasm-tools", "smith"]
-    texts = subprocess.run([*program, "--help"], capture_output=True, text=True, check=True).stdout
-    proposals = sorted(set(re.findall(r"--([\w-]+)-enabled", texts)))
-    random_bytes, made = random.Random(SEED), []
-    while len(made) < 2 * count:
-        path = work / f"smith-{len(made):03}.wasm"
-        left_out = UNREAD if len(made) >= count else set()
+    texts = engines.run(["wasm-tools", "smith", "--help"]).stdout.decode()
+    proposals, made = sorted(set(re.findall(r"--([\w-]+)-enabled", texts))), []
+    for part, left_out in enumerate((set(), UNREAD)):
         flags = [f"--{proposal}-enabled={str(proposal not in left_out).lower()}" for proposal in proposals]
-        seed = random_bytes.randbytes(SEED_BYTES)
-        run = subprocess.run([*program, *flags, "-o", path], input=seed, capture_output=True)
-        if run.returncode == 0:
-            made.append(path)
-        elif run.returncode == 1:
-            sys.exit(run.stderr.decode())
+        inputs = random.Random(SEED + part)
+        found = engines.smith(flags, (inputs.randbytes(SEED_BYTES) for _ in itertools.count()))
+        for number, (_, module) in enumerate(itertools.islice(found, count)):
+            made.append(work / f"smith-{part * count + number:03}.wasm")
+            made[-1].write_bytes(module)
     return made
 
 
@@ -188,17 +174,17 @@ def given(words, work):
     return found
 
 
-def compare(programs, modules, work):
+def compare(programs, modules_of_all, work):
     """Runs the programs, and returns a line for each client, and the modules at which they differ."""
     paths = work / "modules"
-    paths.write_text("".join(f"{path}\n" for path in modules), encoding="utf-8")
+    paths.write_text("".join(f"{path}\n" for path in modules_of_all), encoding="utf-8")
     lines, faults = [], []
     for client in PROGRAMS:
         found = []
         for side in SIDES:
             run = subprocess.run([programs[client, side], paths], capture_output=True, text=True)
             found.append(run.stdout.splitlines())
-            if run.returncode != 0 or len(found[-1]) != len(modules):
+            if run.returncode != 0 or len(found[-1]) != len(modules_of_all):
                 faults.append(f"{client} over {side}: {run.stderr or 'ends early'}")
         pairs = list(zip(*found))
         # walrus validates what it reads, which it does not over this crate
@@ -219,13 +205,14 @@ def main():
     if not words.words:
         sys.exit(__doc__)
     engines, *others = words.words
-    engines = Path(engines).resolve()
+    engines = modules.Engines(Path(engines).resolve())
     with tempfile.TemporaryDirectory() as folder:
         work = Path(os.environ.get("WORK", folder)).resolve()
-        programs = build(engines / "root/usr/share/cargo/registry", work)
-        modules = sorted((TOP / "crates").glob("*/data/*.wasm"))
-        modules += smith(engines, work, int(os.environ.get("SMITH", "300"))) + given(others, work)
-        lines, faults = compare(programs, modules, work)
+        work.mkdir(parents=True, exist_ok=True)
+        programs = build(engines, work)
+        paths = sorted((TOP / "crates").glob("*/data/*.wasm"))
+        paths += smith(engines, work, int(os.environ.get("SMITH", "300"))) + given(others, work)
+        lines, faults = compare(programs, paths, work)
     print("\n".join(lines + faults))
     sys.exit(bool(faults))
 

@@ -10,7 +10,7 @@ replay.section, code sections of the same bodies; and globals.section.
 import random
 
 from shared.arguments import read
-from shared.leb128 import unsigned
+from shared.modules import sized, vector
 
 # A type, 1 if mutable, and an expression. The last one does not end where its block does.
 GLOBALS = [
@@ -56,12 +56,10 @@ def main():
         "samples": [bytes.fromhex("".join(cells[2:5])) for cells in rows(samples)],
     }
     for name, bodies in files.items():
-        section = unsigned(len(bodies)) + b"".join(unsigned(len(body)) + body for body in bodies)
         (folder / f"{name}.bodies").write_bytes(prefixed(bodies))
-        (folder / f"{name}.section").write_bytes(section)
+        (folder / f"{name}.section").write_bytes(vector([sized(body) for body in bodies]))
     (folder / "random.bodies").write_bytes(prefixed(random_bodies(4000)))
-    globals_section = unsigned(len(GLOBALS)) + b"".join(bytes.fromhex(one) for one in GLOBALS)
-    (folder / "globals.section").write_bytes(globals_section)
+    (folder / "globals.section").write_bytes(vector([bytes.fromhex(one) for one in GLOBALS]))
 
 
 if __name__ == "__main__":

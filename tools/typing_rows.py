@@ -22,7 +22,7 @@ cases: they are about declarations of locals, and about constant expressions.
 import re
 
 import typing_cases
-from shared import leb128
+from shared import leb128, modules
 from shared.arguments import read
 
 ROWS = typing_cases.TOP / "crates" / "wasm_tests_check" / "stdin"
@@ -85,19 +85,13 @@ class Bytes:
         return self.data[self.at - 1]
 
     def number(self):
-        out = shift = 0
-        while True:
-            byte = self.byte()
-            out |= (byte & 127) << shift
-            shift += 7
-            if byte < 128:
-                return out
+        value, self.at = leb128.read(self.data, self.at)
+        return value
 
     def signed(self):
-        start = self.at
-        out = self.number()
+        start, value = self.at, self.number()
         bits = 7 * (self.at - start)
-        return out - (1 << bits) if out >> (bits - 1) else out
+        return value - (1 << bits) if value >> (bits - 1) else value
 
     def skip(self, count):
         self.at += count
@@ -168,26 +162,24 @@ class Bytes:
     def constant(self):
         """Skips a constant expression, and returns the functions that it declares."""
         declared = []
-        while True:
-            code = self.byte()
-            if code == 0x0B:
-                return declared
-            if code == 0xD2:
+        while (code := self.byte()) != 0x0B:
+            if code == REF_FUNC:
                 declared.append(self.number())
-            elif code == 0xD0:
-                self.heap()
-            elif code in (0x41, 0x42):
-                self.signed()
-            elif code == 0x43:
-                self.skip(4)
-            elif code == 0x44:
-                self.skip(8)
-            elif code == 0x23:
-                self.number()
-            elif code == 0xFD and self.number() == 12:
-                self.skip(16)
-            elif code not in (0x6A, 0x6B, 0x6C, 0x7C, 0x7D, 0x7E):
+            elif code in SKIPPED:
+                SKIPPED[code](self)
+            elif code not in PLAIN and (code != 0xFD or self.number() != 12):
                 raise NoRow("constant expression")
+            elif code == 0xFD:
+                self.skip(16)
+        return declared
+
+
+# How the immediates of constant instructions are skipped, and the instructions without immediates.
+SKIPPED = {
+    0x23: Bytes.number, 0x41: Bytes.signed, 0x42: Bytes.signed, 0x43: lambda it: it.skip(4), 0x44: lambda it: it.skip(8),
+    0xD0: Bytes.heap,
+}
+PLAIN = (0x6A, 0x6B, 0x6C, 0x7C, 0x7D, 0x7E)
 
 
 class Module:
@@ -198,131 +190,99 @@ class Module:
         self.types, self.functions, self.globals, self.tables, self.memories = [], [], [], [], []
         self.elements, self.data_count, self.declared, self.bodies, self.imported = [], 0, set(), [], 0
         self.tags = []
-        it = Bytes(data, 8)
-        while it.at < len(data):
-            kind, size = it.byte(), it.number()
-            section = Bytes(data, it.at, it.at + size)
-            it.skip(size)
-            read = getattr(self, f"section_{kind}", None)
-            if read is None:
-                raise NoRow(f"section {kind}")
-            read(section)
+        for kind, _, start, end in modules.sections(data):
+            self.section(kind, Bytes(data, start, end))
 
-    def section_0(self, it):
-        pass
-
-    def section_1(self, it):
-        self.types = []
-        for _ in range(it.number()):
-            self.types.append(it.composite())
-        if len(set(self.types)) != len(self.types):
-            raise NoRow("two equal types")
-        if any(f"#{index}" in re.split(r"[^#0-9]", ty) for index, ty in enumerate(self.types)):
-            raise NoRow("a recursive type")
-
-    def section_2(self, it):
-        def one():
-            for _ in range(2):
-                it.skip(it.number())
-            match it.byte():
-                case 0:
-                    self.functions.append(it.number())
-                    self.imported += 1
-                case 1:
-                    address, element, _ = it.table()
+    def section(self, kind, it):
+        match kind:
+            case 0 | 8:
+                pass
+            case 1:
+                self.types = it.many(it.composite)
+                if len(set(self.types)) != len(self.types):
+                    raise NoRow("two equal types")
+                if any(f"#{index}" in re.split(r"[^#0-9]", ty) for index, ty in enumerate(self.types)):
+                    raise NoRow("a recursive type")
+            case 2:
+                it.many(lambda: self.an_import(it))
+            case 3:
+                self.functions += it.many(it.number)
+            case 4:
+                for address, element, declared in it.many(it.table):
                     self.tables.append(f"{address}:{element}")
-                case 2:
-                    self.memories.append(it.limits())
-                case 3:
-                    self.globals.append(self.a_global(it))
-                case 4:
-                    self.tags.append(it.tag())
-                case _:
-                    raise NoRow("import of another kind")
+                    self.declared |= set(declared)
+            case 5:
+                self.memories += it.many(it.limits)
+            case 6 if self.constant:
+                it.skip(1)
+                ty = it.value()
+                it.skip(1)
+                self.expression = ty, it.data[it.at : it.end]
+                if it.data[it.at] == REF_FUNC:
+                    self.declared |= set(it.constant())
+            case 6:
+                for ty, declared in it.many(lambda: (self.a_global(it), it.constant())):
+                    self.globals.append(ty)
+                    self.declared |= set(declared)
+            case 7:
+                exports = it.many(lambda: (it.skip(it.number()), it.byte(), it.number()))
+                self.declared |= {index for _, kind, index in exports if kind == 0}
+            case 9:
+                self.elements += it.many(lambda: self.an_element(it))
+            case 10:
+                self.bodies += it.many(lambda: self.a_body(it))
+            case 11 | 12:
+                self.data_count = it.number()
+            case 13:
+                self.tags += it.many(it.tag)
+            case _:
+                raise NoRow(f"section {kind}")
 
-        it.many(one)
+    def an_import(self, it):
+        for _ in range(2):
+            it.skip(it.number())
+        match it.byte():
+            case 0:
+                self.functions.append(it.number())
+                self.imported += 1
+            case 1:
+                address, element, _ = it.table()
+                self.tables.append(f"{address}:{element}")
+            case 2:
+                self.memories.append(it.limits())
+            case 3:
+                self.globals.append(self.a_global(it))
+            case 4:
+                self.tags.append(it.tag())
+            case _:
+                raise NoRow("import of another kind")
 
     def a_global(self, it):
         ty = it.value()
         return ("mut:" if it.byte() & 1 else "") + ty
 
-    def section_3(self, it):
-        self.functions += it.many(it.number)
-
-    def section_4(self, it):
-        for address, element, declared in it.many(it.table):
-            self.tables.append(f"{address}:{element}")
-            self.declared |= set(declared)
-
-    def section_5(self, it):
-        self.memories += it.many(it.limits)
-
-    def section_6(self, it):
-        if self.constant:
-            it.skip(1)
-            ty = it.value()
-            it.skip(1)
-            self.expression = ty, it.data[it.at : it.end]
-            if it.data[it.at] == REF_FUNC:
-                self.declared |= set(it.constant())
-            return
-
-        def one():
-            self.globals.append(self.a_global(it))
-            self.declared |= set(it.constant())
-
-        it.many(one)
-
-    def section_7(self, it):
-        def one():
-            it.skip(it.number())
-            kind, index = it.byte(), it.number()
-            if kind == 0:
-                self.declared.add(index)
-
-        it.many(one)
-
-    def section_8(self, it):
-        pass
-
-    def section_9(self, it):
-        def one():
-            flags = it.number()
-            if not flags & 1:
-                if flags & 2:
-                    it.number()
-                it.constant()
-            element = "!func" if not flags & 4 else "?func"
-            if flags & 3:
-                if flags & 4:
-                    element = it.reference()
-                elif it.byte() != 0:
-                    raise NoRow("element kind")
+    def an_element(self, it):
+        flags = it.number()
+        if not flags & 1:
+            if flags & 2:
+                it.number()
+            it.constant()
+        element = "!func" if not flags & 4 else "?func"
+        if flags & 3:
             if flags & 4:
-                self.declared |= {index for found in it.many(it.constant) for index in found}
-            else:
-                self.declared |= set(it.many(it.number))
-            self.elements.append(element)
+                element = it.reference()
+            elif it.byte() != 0:
+                raise NoRow("element kind")
+        if flags & 4:
+            self.declared |= {index for found in it.many(it.constant) for index in found}
+        else:
+            self.declared |= set(it.many(it.number))
+        return element
 
-        it.many(one)
-
-    def section_10(self, it):
-        def one():
-            size = it.number()
-            end = it.at + size
-            self.bodies.append((it.at, end))
-            it.at = end
-
-        it.many(one)
-
-    def section_11(self, it):
-        self.data_count = it.number()
-
-    def section_12(self, it):
-        self.data_count = it.number()
-
-    def section_13(self, it):
-        self.tags += it.many(it.tag)
+    def a_body(self, it):
+        size, start = it.number(), it.at
+        it.skip(size)
+        return start, start + size
 
     def row(self, name, number, data, verdict):
         start, end = self.bodies[number]

@@ -22,47 +22,30 @@ import tempfile
 from collections import Counter
 from pathlib import Path
 
-from shared import leb128
+from shared import modules
 from shared.arguments import read
 
 BATCH = 100
 SECONDS = 300
-CODE = 10
 CHANGES = 10
-SMITH = ["smith", "--max-memories=2", "--max-tables=3", "--gc-enabled=true", "--exceptions-enabled=true", "--simd-enabled=true"]
+SMITH = ["--max-memories=2", "--max-tables=3", "--gc-enabled=true", "--exceptions-enabled=true", "--simd-enabled=true"]
 SMITH += ["--relaxed-simd-enabled=true", "--tail-call-enabled=true", "--memory64-enabled=true", "--threads-enabled=true"]
 SMITH += ["--reference-types-enabled=true", "--bulk-memory-enabled=true", "--multi-value-enabled=true", "--extended-const-enabled=true"]
 FEATURES = ["--features", "MULTI_MEMORY|MEMORY64|CALL_INDIRECT_OVERLONG"]
 REJECTED = re.compile(r"(?P<file>\S+): error at 0x(?P<offset>[0-9a-f]+)(?: \(function \d+(?: <.*>)?\))?: (?P<message>.*)")
 
 
-def smith(root, count, folder):
+def smith(engines, count, folder):
     """Writes modules of `wasm-tools smith` from fixed seeds into a folder."""
-    loader = [str(root / "usr/lib64/ld-linux-x86-64.so.2"), "--library-path", str(root / "usr/lib/x86_64-linux-gnu")]
-    made = []
-    for seed in range(count):
-        given = random.Random(seed).randbytes(200 + seed % 97 * 60)
-        ran = subprocess.run([*loader, str(root / "usr/bin/wasm-tools"), *SMITH], input=given, capture_output=True, timeout=SECONDS)
-        if ran.returncode == 0:
-            made.append(folder / f"smith{seed}.wasm")
-            made[-1].write_bytes(ran.stdout)
-    return made
-
-
-def code_of(module):
-    """Returns where the contents of the code section start and end; None without one."""
-    at = 8
-    while at < len(module):
-        size, start = leb128.read(module, at + 1)
-        if module[at] == CODE:
-            return start, start + size
-        at = start + size
-    return None
+    inputs = (random.Random(seed).randbytes(200 + seed % 97 * 60) for seed in range(count))
+    for seed, module in engines.smith(SMITH, inputs):
+        (folder / f"smith{seed}.wasm").write_bytes(module)
+        yield folder / f"smith{seed}.wasm"
 
 
 def copies(module, count, seed):
     """Returns copies of a module, each with another byte in its code section."""
-    place = code_of(module)
+    place = modules.code(module)
     if place is None or place[0] == place[1]:
         return
     chosen = random.Random(seed)
@@ -105,7 +88,7 @@ def main():
     with tempfile.TemporaryDirectory() as made:
         paths = [Path(it).absolute() for it in wanted.modules]
         if wanted.smith:
-            paths += smith(wanted.engines / "root", wanted.smith, Path(made))
+            paths += smith(modules.Engines(wanted.engines), wanted.smith, Path(made))
         for first in range(0, len(paths), BATCH):
             with tempfile.TemporaryDirectory() as folder:
                 names = []

@@ -38,6 +38,7 @@ sys.path.insert(0, str(Path(__file__).resolve().parent / "generate"))
 sys.dont_write_bytecode = True
 
 from immediates import KINDS as IMMEDIATES
+from shared import modules
 from shared.arguments import read
 from shared.crates import TOP
 from shared.leb128 import unsigned
@@ -232,8 +233,7 @@ def module_of(op):
     is_open = (op.role.startswith("opens") or bool(before)) and op.role != "delegates"
     body = b"\x00" + before + encoding(op) + b"\x0b" * (is_open + (op.role != "ends"))
     parts = {number: bytes.fromhex(contents) for number, contents in SECTIONS.items()}
-    parts |= {10: b"\x01" + unsigned(len(body)) + body, 11: b"\x01\x01\x00"}
-    return b"\0asm\1\0\0\0" + b"".join(bytes([number]) + unsigned(len(it)) + it for number, it in parts.items())
+    return modules.module(parts | {10: modules.vector([modules.sized(body)]), 11: b"\x01\x01\x00"})
 
 
 def wabt_name(op, path):
@@ -281,7 +281,7 @@ MODULES = {
 }
 
 
-def modules(given):
+def made_modules(given):
     if len(given.words) != 1:
         return "name a folder"
     folder = Path(given.words[0])
@@ -300,7 +300,7 @@ COMMANDS = {
     "stored": (stored_modules, None),
     "objdump": (other_modules, THEIRS[0]),
     "names": (names, THEIRS[0]),
-    "modules": (modules, "clang"),
+    "modules": (made_modules, "clang"),
 }
 
 
