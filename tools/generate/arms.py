@@ -25,7 +25,7 @@ def unread(ops):
     """Returns an error for each operator that the decoder would omit."""
     wanting = [op for op in ops if op.may_hold and not op.borrows and not has_list_arm(op)]
     return [
-        f"{op.place}: wasm_decode_groups has no arm for the immediates {', '.join(op.immediates)}: write it in src/one_byte_arms.rt, and name it in COMBINATIONS of tools/generate/immediates.py"
+        f"{op.place}: wasm_decode_groups has no arm for the immediates {', '.join(op.immediates)}: write it in src/one_byte_arms.rt, and name it in tools/generate/combinations.tsv"
         for op in wanting
     ]
 

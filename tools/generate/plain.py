@@ -9,7 +9,7 @@ BOUND = ["a", "b", "c"]
 
 
 def unshaped(ops):
-    lacks = "its immediates have no shape: give them one in tools/generate/immediates.py, crates/wasm_view/src/shapes.rt and specs/View.antt"
+    lacks = "its immediates have no shape: give them one in tools/generate/combinations.tsv, crates/wasm_view/src/shapes.rt and specs/View.antt"
     return [f"{op.place}: {lacks}" for op in ops if op.combination is None]
 
 
