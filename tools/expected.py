@@ -23,41 +23,9 @@ from shared.written import write_or_check
 TOP = Path(__file__).resolve().parent.parent
 CRATE = TOP / "crates" / "wasm_tests_lists"
 
-# The indices and lane numbers, all below 128, by the names of the fields. Other fields have the number 9.
-NUMBERS = {
-    "array_size": 5,
-    "struct_type_index": 1,
-    "cont_type_index": 2,
-    "argument_index": 2,
-    "result_index": 3,
-    "function_index": 0,
-    "type_index": 0,
-    "tag_index": 0,
-    "relative_depth": 0,
-    "table_index": 4,
-    "mem": 6,
-    "lane": 7,
-}
-# The other fields, by name or type: how they are encoded in hexadecimal, and how they print.
-LANES = "000102030405060708090a0b0c0d0e0f", "[0, 1, 2, 3, 4, 5, 6, 7, 8, 9, 10, 11, 12, 13, 14, 15]"
-OTHERS = {
-    "from_ref_type": ("07", "RefType { nullable: true, heap_type: Concrete(7) }"),
-    "to_ref_type": ("6208", "RefType { nullable: false, heap_type: Exact(8) }"),
-    "i32": ("7f", "-1"),
-    "i64": ("7e", "-2"),
-    "[u8; 16]": LANES,
-    "Ordering": ("01", "AcqRel"),
-    "HeapType": ("07", "Concrete(7)"),
-    "ValType": ("017e", "I64"),
-    "BlockType": ("00", "FuncType(0)"),
-    "Ieee32": ("20000000", "Ieee32(32)"),
-    "Ieee64": ("4000000000000000", "Ieee64(64)"),
-    "V128": (LANES[0], f"V128({LANES[1]})"),
-    "BrTable<'a>": ("010100", "BrTable { count: 1, default: 0, targets: [1] }"),
-    "SelectTypes": ("027f7e", "Members { items: [I32, I64] }"),
-    "TryTable": ("00010201", "TryTable { ty: FuncType(0), catches: Members { items: [All { label: 1 }] } }"),
-    "ResumeTable": ("010100", "ResumeTable { handlers: Members { items: [OnSwitch { tag: 0 }] } }"),
-}
+# How fields are encoded in hexadecimal, and how they print, by name or type. Numbers without a row are 9.
+VALUES = {row["field"]: (row["encoding"], row["printed"]) for row in rows_of(CRATE / "values.tsv")}
+NUMBER = "09", "9"
 # In `MemArg` the flags are an alignment of 1 and that a memory index follows.
 MEMARG = "410308"
 # The types of the table of types, as `OperandType` prints.
@@ -93,9 +61,8 @@ def value(op, name, ty):
     if ty == "MemArg":
         return MEMARG, memarg(op)
     if ty in ("u8", "u32"):
-        number = NUMBERS.get(name, 9)
-        return f"{number:02x}", str(number)
-    return OTHERS[name if name in OTHERS else ty]
+        return VALUES.get(name, NUMBER)
+    return VALUES[name if name in VALUES else ty]
 
 
 def values(op):
@@ -140,7 +107,7 @@ def typing(op, signature):
 def lane(op):
     lanes = re.match(r"[IF]\d+x(\d+)", op.name)
     count = lanes[1] if lanes else 128 // int(re.fullmatch(r"V128(?:Load|Store)(\d+)Lane", op.name)[1])
-    return f"lane {NUMBERS['lane']} of {count}"
+    return f"lane {VALUES['lane'][1]} of {count}"
 
 
 def typing_lines(op, signature):

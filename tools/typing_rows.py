@@ -15,8 +15,8 @@ elements. What is mutable has `mut:` before it. A reference type is `?` (nullabl
 or an index after `#`.
 
 A valid case has a row for each function body. An invalid one has a row for the body in which wasmparser reports the error.
-There is no row for a module with groups of types, subtypes, or two equal types. The last rows are not from
-cases: they are about declarations of locals, and about constant expressions.
+There is no row for a module with groups of types, subtypes, or two equal types. The last rows are from locals.tsv and
+constants.tsv of the crate, which are written by hand.
 """
 
 import re
@@ -24,8 +24,10 @@ import re
 import typing_cases
 from shared import leb128, modules
 from shared.arguments import read
+from shared.tables import rows_of
 
-ROWS = typing_cases.TOP / "crates" / "wasm_tests_check" / "stdin"
+CRATE = typing_cases.TOP / "crates" / "wasm_tests_check"
+ROWS = CRATE / "stdin"
 VALUES = {0x7F: "i32", 0x7E: "i64", 0x7D: "f32", 0x7C: "f64", 0x7B: "v128"}
 HEAPS = {
     0x70: "func", 0x6F: "extern", 0x6E: "any", 0x6D: "eq", 0x6C: "i31", 0x6B: "struct", 0x6A: "array",
@@ -35,40 +37,11 @@ HEAPS = {
 GRAMMAR = {("else", "without if")}
 REF_FUNC = 0xD2
 PACKED = {0x78: "i8", 0x77: "i16"}
-# Declarations of locals: a label, the type of the function, the number of locals and their type for each declaration, and the
-# verdict. A function has at most 50,000 parameters and locals: WebAssembly JavaScript Interface, Implementation-defined Limits.
-LOCALS = [
-    ("none", ">", [], "valid"),
-    ("as many as allowed", ">", [(50000, "7f")], "valid"),
-    ("one more", ">", [(50001, "7f")], "invalid"),
-    ("as many as allowed, after parameters", "i32 i64>", [(49998, "7b")], "valid"),
-    ("one more, after parameters", "i32 i64>", [(49999, "7b")], "invalid"),
-    ("as many as allowed, in declarations", ">", [(40000, "7f"), (0, "7e"), (10000, "7f")], "valid"),
-    ("one more, in declarations", ">", [(40000, "7f"), (10000, "7e"), (1, "7f")], "invalid"),
-    ("of a type of the module", ">", [(2, "6300"), (1, "6400")], "valid"),
-    ("of a type that the module does not have", ">", [(1, "7f"), (1, "6301")], "invalid"),
-]
-# Constant expressions: a label, the types and the globals of the module, the type of the value, the expression without its end,
-# and the verdict. WebAssembly Core Specification 3.0: Validation, Constant Expressions.
-CONSTANTS = [
-    ("i64.add", "", "", "i64", "420142017c", "valid"),
-    ("f64.const", "", "", "f64", "440000000000000000", "valid"),
-    ("ref.null", "", "", "?func", "d070", "valid"),
-    ("ref.i31", "", "", "!i31", "4100fb1c", "valid"),
-    ("extern.convert_any", "", "", "?extern", "d06efb1b", "valid"),
-    ("struct.new_default", "struct i32", "", "!#0", "fb0100", "valid"),
-    ("array.new", "array i32", "", "!#0", "41014102fb0600", "valid"),
-    ("array.new_default", "array i32", "", "!#0", "4102fb0700", "valid"),
-    ("global.get", "", "i64 i32", "i32", "2301", "valid"),
-    ("global.get of a mutable global", "", "mut:i32", "i32", "2300", "invalid"),
-    ("global.get of another type", "", "i64", "i32", "2300", "invalid"),
-    ("nop", "", "", "i32", "014100", "invalid"),
-    ("block", "", "", "i32", "027f41000b", "invalid"),
-    ("call", ">i32", "", "i32", "1000", "invalid"),
-    ("i32.and", "", "", "i32", "4100410071", "invalid"),
-    ("two values", "", "", "i32", "41004100", "invalid"),
-    ("no value", "", "", "i32", "", "invalid"),
-]
+# Declarations of locals, `NUMBER TYPE, ..`. A function has at most 50,000 parameters and locals: WebAssembly JavaScript
+# Interface, Implementation-defined Limits.
+LOCALS = rows_of(CRATE / "locals.tsv")
+# Constant expressions without their end. WebAssembly Core Specification 3.0: Validation, Constant Expressions.
+CONSTANTS = rows_of(CRATE / "constants.tsv")
 VERDICTS = {"valid": "valid", "invalid": "invalid", "unsupported": "invalid"}
 
 
@@ -295,7 +268,7 @@ class Module:
         return "\t".join([*cells, " ".join(declared), ty, code.hex(), VERDICTS[verdict]])
 
 
-def rows_of(case):
+def rows_of_case(case):
     if (case.name, case.label) in GRAMMAR:
         raise NoRow("not in the grammar")
     name = f"{case.name}, {case.label}"
@@ -317,15 +290,15 @@ def rows_of(case):
     return [module.row(name, number, case.module, case.verdict) for number in numbers]
 
 
-def row_of_locals(label, ty, declarations, verdict):
-    runs = [leb128.unsigned(count).hex() + of for count, of in declarations]
+def row_of_locals(label, type, declarations, verdict):
+    runs = [leb128.unsigned(int(count)).hex() + of for count, of in (it.split() for it in declarations.split(", ") if it)]
     body = leb128.unsigned(len(runs)).hex() + "".join(runs) + "0b"
-    return "\t".join([f"locals, {label}", ty, "0", "", "", "", "", "", "0", "0", "0", body, verdict])
+    return "\t".join([f"locals, {label}", type, "0", "", "", "", "", "", "0", "0", "0", body, verdict])
 
 
-def row_of_constant(label, types, of_globals, ty, code, verdict):
+def row_of_constant(label, types, globals, type, code, verdict):
     functions = "0" if ">" in types else ""
-    return "\t".join([f"constant, {label}", types, functions, of_globals, "", "", "", "", "0", functions, ty, f"{code}0b", verdict])
+    return "\t".join([f"constant, {label}", types, functions, globals, "", "", "", "", "0", functions, type, f"{code}0b", verdict])
 
 
 def all_rows():
@@ -333,12 +306,12 @@ def all_rows():
     rows, left = [], []
     for case in typing_cases.cases_of():
         try:
-            rows += rows_of(case)
+            rows += rows_of_case(case)
         except NoRow as reason:
             left.append(f"{case.name}, {case.label}: {reason}")
         except IndexError:
             left.append(f"{case.name}, {case.label}: malformed")
-    return rows + [row_of_locals(*case) for case in LOCALS] + [row_of_constant(*case) for case in CONSTANTS], left
+    return rows + [row_of_locals(**case) for case in LOCALS] + [row_of_constant(**case) for case in CONSTANTS], left
 
 
 def main():

@@ -23,7 +23,8 @@ class Rows(unittest.TestCase):
             self.assertEqual(expected.row(OPS[name]), wanted)
 
     def test_numbers_are_one_byte(self):
-        self.assertLess(max(expected.NUMBERS.values()), 0x80)
+        numbers = [int(printed) for _, printed in [*expected.VALUES.values(), expected.NUMBER] if printed.isdecimal()]
+        self.assertLess(max(numbers), 0x80)
 
 
 class Shown(unittest.TestCase):

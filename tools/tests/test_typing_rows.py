@@ -12,11 +12,11 @@ def case(label, verdict="valid", offset="", module=BODY):
 
 class Rows(unittest.TestCase):
     def test_a_row(self):
-        (row,) = typing_rows.rows_of(case("ok"))
+        (row,) = typing_rows.rows_of_case(case("ok"))
         self.assertEqual(row, "Nop, ok\t>\t0\t\t\t\t\t\t0\t0\t0\t000b\tvalid")
 
     def test_an_invalid_body(self):
-        (row,) = typing_rows.rows_of(case("no", "invalid", "0x17"))
+        (row,) = typing_rows.rows_of_case(case("no", "invalid", "0x17"))
         self.assertTrue(row.endswith("\t000b\tinvalid"))
 
     def test_types(self):
@@ -27,7 +27,7 @@ class Rows(unittest.TestCase):
 
     def test_an_error_elsewhere(self):
         with self.assertRaises(typing_rows.NoRow):
-            typing_rows.rows_of(case("no", "invalid", "0x9"))
+            typing_rows.rows_of_case(case("no", "invalid", "0x9"))
 
     def test_the_rows_of_the_program(self):
         rows, left = typing_rows.all_rows()
@@ -38,11 +38,11 @@ class Rows(unittest.TestCase):
     def test_a_constant(self):
         # A global of type i32, whose value is 1.
         module = bytes.fromhex("0061736d01000000" "0606017f0041010b")
-        (row,) = typing_rows.rows_of(Case("const", "i32.const", "valid", "", "", module))
+        (row,) = typing_rows.rows_of_case(Case("const", "i32.const", "valid", "", "", module))
         self.assertTrue(row.endswith("\t0\t\ti32\t41010b\tvalid"))
 
     def test_locals(self):
-        row = typing_rows.row_of_locals("two", "i32>", [(128, "7f"), (1, "7e")], "valid")
+        row = typing_rows.row_of_locals("two", "i32>", "128 7f, 1 7e", "valid")
         self.assertTrue(row.endswith("\t0\t0\t0280017f017e0b\tvalid"))
 
 
