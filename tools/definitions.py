@@ -8,9 +8,9 @@
 A definition is described by the comment above it, and the section that this comment or the head of the file names. The
 check also wants words for those that the comments refer to.
 
-tools/definitions.tsv has what comments lack: a section, words, or a name that no public contract uses. Its columns are
-the file, the names (none: the section of the whole file), the section and the words. The words "as `NAME`" put names into
-the row of NAME. A comment of more than 40 words needs words there.
+tools/definitions.tsv has what comments lack: a section, or words. Its columns are the file, the names (none: the section
+of the whole file), the section and the words. The words "as `NAME`" are those of NAME. A comment of more than 40 words
+needs words there.
 
 The check fails if no words describe a definition (wanting), or if a line of the table is wrong or adds nothing
 (misplaced).
@@ -19,7 +19,7 @@ The check fails if no words describe a definition (wanting), or if a line of the
 import re
 import sys
 
-from pages.rows import LIMIT, commented, count, faults_of, given_of, rows_of, with_referred
+from pages.rows import LIMIT, count, described, faults_of, given_of, with_referred
 from pages.specs import WORD, file_at, files_of, names_of
 from shared.arguments import read
 from shared.crates import TOP
@@ -103,50 +103,42 @@ def by_file(places):
     return found
 
 
-def rows_by_file(files, given, found):
-    rows, faults = {}, []
-    added = [(*it.file, name) for it in given if it.file in files for name in it.names]
-    for place, names in sorted(by_file([*found, *added]).items()):
+def wanting(files, given, found):
+    """Returns the definitions that are described, and a line for each that is not. `found` has the names in contracts."""
+    known, faults = [], []
+    for place, names in sorted(by_file(found).items()):
         file, path = files[place], "/".join(place)
         lost = {name for name in names - file.definitions.keys() if (*place, name) in found}
         faults += [f"{path}.antt does not define {name}, used by {found[(*place, name)]}" for name in sorted(lost)]
-        known = with_referred(file, names & file.definitions.keys())
-        rows[file], undescribed = rows_of(file, known, [it for it in given if it.file == place])
-        for name in undescribed:
-            user = found.get((*place, name), "tools/definitions.tsv")
-            faults.append(f"no comment describes {name} ({path}.antt), used by {user}")
-        long = [row.names[0] for row in rows[file] if count(row.words) > LIMIT]
-        faults += [f"more than {LIMIT} words describe {name} ({path}.antt)" for name in long]
-    return rows, faults
+        lines = [it for it in given if it.file == place]
+        for name in sorted(with_referred(file, names & file.definitions.keys())):
+            words = described(file, name, lines)
+            if words is None:
+                user = found.get((*place, name), "another comment")
+                faults.append(f"no comment describes {name} ({path}.antt), used by {user}")
+            elif count(words[0]) > LIMIT:
+                faults.append(f"more than {LIMIT} words describe {name} ({path}.antt)")
+            else:
+                known.append((file, name))
+    return known, faults
 
 
-def report(rows, found, wanting, misplaced):
-    lines = [row for of_file in rows.values() for row in of_file]
-    names, given = sum(len(row.names) for row in lines), sum(row.is_given for row in lines)
-    print("".join(f"{line}\n" for line in wanting + misplaced), end="")
-    print(f"definitions: {names} described in {len(lines)} rows, {given} of them from tools/definitions.tsv; ", end="")
-    print(f"{len(found)} used, {len(wanting)} wanting, {len(misplaced)} misplaced")
-
-
-def described(files, rows, name):
-    """Returns file, name, words and section of each definition that a name of the command line means."""
-    lines = [(row.file, it, row.words, row.section) for of_file in rows.values() for row in of_file for it in row.names]
+def meant(files, known, name):
+    """Returns file and name of each definition that a name of the command line means."""
     if name.startswith("wasm_"):
-        return [line for line in lines if name in (line[0].crate, f"{line[0].crate}/{line[0].name}")]
-    known = [line for line in lines if line[1] == name]
-    others = [(file, name, commented(file, name)) for file in files.values() if name in file.definitions and file not in {it[0] for it in known}]
-    return known + [(file, name, own.words, own.section or file.section) for file, name, own in others if own]
+        return [it for it in known if name in (it[0].crate, f"{it[0].crate}/{it[0].name}")]
+    return [(file, name) for file in files.values() if name in file.definitions]
 
 
-def say(files, rows, names):
+def say(files, given, known, names):
     """Prints the words for the names. Returns whether one has none."""
     is_lost = False
     for name in names:
-        found = described(files, rows, name)
-        is_lost |= not found
-        for file, it, words, section in found:
-            print(" ".join([f"{it} (crates/{file.crate}/specs/{file.name}.antt):", words, *([f"[{section}]"] if section else [])]))
-        if not found:
+        found = [(file, it, described(file, it, [line for line in given if line.file == (file.crate, file.name)])) for file, it in meant(files, known, name)]
+        for file, it, words in (it for it in found if it[2]):
+            print(" ".join([f"{it} (crates/{file.crate}/specs/{file.name}.antt):", words[0], *([f"[{words[1]}]"] if words[1] else [])]))
+        if not any(words for _, _, words in found):
+            is_lost = True
             print(f"{name}: no words describe it")
     return is_lost
 
@@ -155,12 +147,13 @@ def main():
     wanted = read(__doc__, "NAME..")
     files, given = files_of(TOP), given_of(TABLE.read_text(encoding="utf-8"))
     found = used(names_of(TOP))
-    rows, wanting = rows_by_file(files, given, found)
+    known, faults = wanting(files, given, found)
     if wanted.names:
-        sys.exit(say(files, rows, wanted.names))
-    misplaced = [f"tools/definitions.tsv:{it.number}: {what}" for it, what in faults_of(files, given, by_file(found))]
-    report(rows, found, wanting, misplaced)
-    sys.exit(bool(wanting or misplaced or not found))
+        sys.exit(say(files, given, known, wanted.names))
+    misplaced = [f"tools/definitions.tsv:{it.number}: {what}" for it, what in faults_of(files, given)]
+    print("".join(f"{line}\n" for line in faults + misplaced), end="")
+    print(f"definitions: {len(known)} described, {len(found)} used, {len(faults)} wanting, {len(misplaced)} misplaced")
+    sys.exit(bool(faults or misplaced or not found))
 
 
 if __name__ == "__main__":

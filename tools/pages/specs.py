@@ -11,16 +11,6 @@ REFERENCE = re.compile(
     r"(?:WebAssembly Core )?Specification(?: 3\.0)?[,:] |Proposals? |The legacy exception handling proposal: "
     r"|docs/ERRORS-AND-FEATURES\.md has |[A-Z][a-z]+ (?:Instructions|Types)\.$"
 )
-SHORTER = [
-    (r"(?:WebAssembly Core )?Specification(?: 3\.0)?[,:] ", ""),
-    (r"The legacy exception handling proposal: [^;]*", "legacy exception handling"),
-    (r"[Pp]roposals? (legacy exception handling): [^;]*", r"\1"),
-    (r"(?:[;,] )?(?:and )?\b[Pp]roposals? (?=[a-z])", lambda found: "; " if found[0][0] in ";," else ""),
-    (r", control frames\b", ""),
-    (r"\b(?:Instructions|Conventions), (?=[A-Z])", ""),
-    (r" Instructions and (\w+ Instructions)", r" and \1"),
-    (r"(docs/ERRORS-AND-FEATURES\.md) has the table.*", r"`\1`"),
-]
 
 
 class Definition:
@@ -53,14 +43,7 @@ def sentences_of(comment):
 def parts_of(comment):
     sentences = sentences_of(comment)
     names = [it for it in sentences if REFERENCE.match(it)]
-    return " ".join(it for it in sentences if it not in names), section_of(names)
-
-
-def section_of(sentences):
-    text = "; ".join(it.rstrip(".") for it in sentences)
-    for pattern, shorter in SHORTER:
-        text = re.sub(pattern, shorter, text)
-    return text
+    return " ".join(it for it in sentences if it not in names), " ".join(names)
 
 
 def definitions_of(lines, start):

@@ -53,10 +53,6 @@ def given(*lines):
     return rows.given_of("\n".join(["file\tnames\tsection\twords", *lines]))
 
 
-def named(found):
-    return [(row.names, row.words) for row in found]
-
-
 class Specs(unittest.TestCase):
     def test_names(self):
         found = [(it.name, it.head) for it in file().definitions.values()]
@@ -67,31 +63,22 @@ class Specs(unittest.TestCase):
     def test_words(self):
         found = file().definitions
         self.assertEqual(found["Encodes"].words, "The bytes encode `n`, a number. The last byte ends it.")
-        self.assertEqual(found["Encodes"].section, "Vector Instructions")
+        self.assertEqual(found["Encodes"].section, "Vector Instructions.")
         self.assertEqual([found[name].words for name in ("Lacks", "Bare", "short")], ["", "", ""])
         self.assertEqual(found["one_length"].words, "The lengths of both.")
         self.assertEqual(found["other_length"].words, "The second length.")
 
     def test_sections(self):
-        self.assertEqual(file().section, "Binary Format, Values: Bytes, Integers; wide arithmetic")
-        self.assertEqual(file().definitions["Kind"].section, "threads")
+        core = "WebAssembly Core Specification 3.0, Binary Format, Values: Bytes, Integers; proposal wide arithmetic."
+        self.assertEqual(file().section, core)
+        self.assertEqual(file().definitions["Kind"].section, "Proposal threads.")
         self.assertEqual(file("-- Frames.\n").section, "")
         refers = f"{HEAD}-- The numbers of errors. docs/ERRORS-AND-FEATURES.md has the table.\n"
-        self.assertEqual(file(refers).section, "`docs/ERRORS-AND-FEATURES.md`")
-
-    def test_shorter_sections(self):
-        control = "Binary Format, Control and Parametric Instructions"
-        for text, short in [
-            ("Binary Format, Instructions, Control Instructions and Parametric Instructions", control),
-            ("Appendix, Validation Algorithm, control frames", "Appendix, Validation Algorithm"),
-            ("Structure, Values; proposal legacy exception handling: try", "Structure, Values; legacy exception handling"),
-        ]:
-            self.assertEqual(specs.section_of([f"WebAssembly Core Specification 3.0: {text}."]), short)
-        self.assertEqual(specs.section_of(["The legacy exception handling proposal: try and delegate."]), "legacy exception handling")
+        self.assertEqual(file(refers).section, "docs/ERRORS-AND-FEATURES.md has the table.")
 
     def test_files_of_the_repository(self):
         found = specs.files_of(TOP)
-        self.assertEqual(found["wasm_below", "Number"].section, "Binary Format, Values, Integers")
+        self.assertIn("Binary Format, Values, Integers", found["wasm_below", "Number"].section)
         names = specs.names_of(TOP)
         self.assertEqual(specs.file_at(names, "wasm_operators", ["below", "Source"]), ("wasm_below", "Source"))
         self.assertEqual(specs.file_at(names, "wasm_operators", ["Stack"]), ("wasm_operators", "Stack"))
@@ -101,11 +88,12 @@ class Specs(unittest.TestCase):
 
 class Rows(unittest.TestCase):
     def test_shared_comments(self):
-        found, undescribed = rows.rows_of(file(), {"EncodesSigned", "Lacks", "Bare", "long"}, [])
+        words = lambda name: rows.described(file(), name, [])
         signed = "The same for a signed number. `Lacks` is about a message."
-        self.assertEqual(named(found)[0], (["EncodesSigned", "Lacks"], signed))
-        self.assertEqual(named(found)[1], (["Kind", "long"], "A kind of number."))
-        self.assertEqual(undescribed, ["Bare"])
+        self.assertEqual([words(name)[0] for name in ("EncodesSigned", "Lacks")], [signed, signed])
+        self.assertEqual(words("long"), ("A kind of number.", "Proposal threads."))
+        self.assertEqual(words("State"), ("The state.", file().section))
+        self.assertIsNone(words("Bare"))
 
     def test_comments_that_refer(self):
         self.assertEqual(rows.with_referred(file(), {"EncodesSigned"}), {"EncodesSigned", "Encodes"})
@@ -114,24 +102,10 @@ class Rows(unittest.TestCase):
 
     def test_table(self):
         words = "wasm_low/Words\tBare, Lacks\t\tGiven words."
-        lines = given(words, "wasm_low/Words\t\tStructure", "wasm_low/Words\tState\tValidation")
-        found, undescribed = rows.rows_of(file(), {"Lacks", "Bare", "State", "Kind"}, lines)
-        self.assertEqual(named(found)[0], (["Lacks", "Bare"], "Given words."))
-        self.assertEqual([row.section for row in found], ["Structure", "Structure; threads", "Validation"])
-        self.assertEqual([row.is_given for row in found], [True, False, False])
-        self.assertEqual(undescribed, [])
-
-    def test_same_row(self):
-        found, _ = rows.rows_of(file(), {"Bare", "State"}, given("wasm_low/Words\tBare\t\tas `State`"))
-        self.assertEqual(named(found), [(["State", "Bare"], "The state.")])
-
-    def test_sections(self):
-        of_file = "Binary Format, Types: Heap Types, Value Types; stack switching (clauses)"
-        self.assertEqual(rows.full_section("", of_file), of_file)
-        self.assertEqual(rows.full_section("Value Types", of_file), "Binary Format, Types, Value Types")
-        self.assertEqual(rows.full_section("stack switching", of_file), of_file)
-        self.assertEqual(rows.full_section("threads", "Structure"), "Structure; threads")
-        self.assertEqual(rows.full_section("threads", ""), "threads")
+        lines = given(words, "wasm_low/Words\t\tStructure", "wasm_low/Words\tState\tValidation", "wasm_low/Words\tone_length\t\tas `State`")
+        found = [rows.described(file(), name, lines) for name in ("Lacks", "Bare", "State", "Kind", "one_length")]
+        of_state = ("The state.", "Validation")
+        self.assertEqual(found, [("Given words.", "Structure")] * 2 + [of_state, ("A kind of number.", "Proposal threads."), of_state])
 
     def test_faults_of_the_table(self):
         long = "word " * rows.LIMIT
@@ -145,24 +119,25 @@ class Rows(unittest.TestCase):
             "wasm_low/Words\tBare\t\tWords.",
             "wasm_low/Words\tKind\t\tA kind of a number.",
             "wasm_low/Words\tKind\t\tA kind.",
-            f"wasm_low/Words\tKind\t{file().section}; threads",
+            "wasm_low/Words\tKind\tProposal threads.",
             "wasm_low/Words\tState",
-            "wasm_low/Words\tKind",
+            f"wasm_low/Words\t\t{file().section}",
             "wasm_low/Long\tIt\t\tWords.",
             "wasm_low/Fits\tIt\t\tWords.",
             "wasm_low/Words\t\tStructure",
             "wasm_low/Fits\t\t",
         )
-        faults = rows.faults_of(found, lines, {("wasm_low", "Words"): {"State"}})
+        faults = rows.faults_of(found, lines)
         words, section = "the comments have these words", "names this section"
         self.assertEqual([(it.number, what.split("; take")[0]) for it, what in faults], [
             (2, "there is no such file"),
             (3, "the file does not define Lost"),
             (6, words),
             (7, f"the file {section}"),
-            (8, "public contracts use these names"),
+            (8, "it says nothing"),
+            (9, f"the file {section}"),
             (11, words),
-            (13, f"the head of the file {section}"),
+            (13, "it says nothing"),
         ])
 
 

@@ -333,15 +333,16 @@ class Definitions(unittest.TestCase):
         self.assertNotIn("Hidden", found["read"])
         self.assertIn("Encodes", found["of"])
 
-    def test_rows_by_file(self):
+    def test_wanting(self):
         low = specs.File("wasm_low", "Words", "-- Words.\n\n-- The first.\nabbrev pub First : Type 0\n\nabbrev pub Second : Type 0\n")
         users = {"First": "read", "Second": "write", "Third": "end"}
         found = {("wasm_low", "Words", name): f"code.rt, {user}" for name, user in users.items()}
-        rows, faults = definitions.rows_by_file({("wasm_low", "Words"): low}, [], found)
-        self.assertEqual([row.names for row in rows[low]], [["First"]])
-        own = [(low, "First", "The first.", "")]
-        for name, wanted in {"First": own, "wasm_low": own, "wasm_low/Words": own, "wasm_low/Other": [], "Second": []}.items():
-            self.assertEqual(definitions.described({("wasm_low", "Words"): low}, rows, name), wanted, name)
+        files = {("wasm_low", "Words"): low}
+        known, faults = definitions.wanting(files, [], found)
+        own = [(low, "First")]
+        self.assertEqual(known, own)
+        for name, wanted in {"First": own, "wasm_low": own, "wasm_low/Words": own, "wasm_low/Other": [], "Second": [(low, "Second")]}.items():
+            self.assertEqual(definitions.meant(files, known, name), wanted, name)
         self.assertEqual(faults, [
             "wasm_low/Words.antt does not define Third, used by code.rt, end",
             "no comment describes Second (wasm_low/Words.antt), used by code.rt, write",
