@@ -9,7 +9,7 @@ A definition is described by the comment above it, and the section that this com
 check also wants words for those that the comments refer to.
 
 tools/definitions.tsv has what comments lack: a section, or words. Its columns are the file, the names (none: the section
-of the whole file), the section and the words. The words "as `NAME`" are those of NAME. A comment of more than 40 words
+of the whole file), the section and the words. The words "as `NAME`" mean the words of NAME. A comment of more than 40 words
 needs words there.
 
 The check fails if no words describe a definition (wanting), or if a line of the table is wrong or adds nothing
