@@ -25,7 +25,7 @@ from pathlib import Path
 
 from shared.arguments import read
 from shared.crates import TOP
-from testing.built import built, missing
+from testing.built import over_programs
 
 COLUMNS = ["case", "words", "input", "status", "output", "complaint"]
 SECONDS = 60
@@ -79,14 +79,13 @@ def ended(program, case, data=None):
 
 
 def run_cases(program, path):
-    cases, wrong = cases_of(path), 0
-    data = path.parent / "data"
+    """Returns the number of cases, and what is wrong."""
+    cases, wrong, data = cases_of(path), [], path.parent / "data"
     for case in cases:
         expected = (case["status"], case["output"], case["complaint"])
         found = ended(program, case, data if data.is_dir() else None)
         if found != expected:
-            wrong += 1
-            print(f"{program.name}, {case['case']}:\n  expected {expected}\n  found    {found}")
+            wrong.append(f"{case['case']}:\n  expected {expected}\n  found    {found}")
     return len(cases), wrong
 
 
@@ -95,20 +94,11 @@ def main():
     given = words.program
     if given and len(words.names) != 1:
         sys.exit("--program needs one NAME")
-    names = words.names or sorted(path.parent.name for path in TOP.glob("crates/*/cases.tsv"))
-    runs, wrong = 0, 0
-    for name in names:
-        path = TOP / "crates" / name / "cases.tsv"
-        programs = built(name, given)
-        if not programs or not path.exists():
-            print(f"{name}: {path.relative_to(TOP)} is missing" if programs else missing(name, given))
-            wrong += 1
-            continue
-        for program in programs:
-            some, bad = run_cases(program, path)
-            runs, wrong = runs + some, wrong + bad
-    print(f"cases: {runs} run, {wrong} wrong")
-    sys.exit(1 if wrong or not runs else 0)
+    paths = {path.parent.name: path for path in sorted(TOP.glob("crates/*/cases.tsv"))}
+    lost = [name for name in words.names if name not in paths]
+    if lost:
+        sys.exit(f"no crates/{lost[0]}/cases.tsv")
+    sys.exit(over_programs("cases", words.names or paths, given, lambda program, name: run_cases(program, paths[name])))
 
 
 if __name__ == "__main__":

@@ -4,8 +4,6 @@
     tools/typing_cases.py                     compares the two programs wasm_validate that `rt ci` built
     tools/typing_cases.py --program PROGRAM   compares PROGRAM
     tools/typing_cases.py --messages ..       compares messages, too
-    tools/typing_cases.py --modules           prints the modules in hexadecimal, a line each
-    tools/typing_cases.py --verdicts          prints the verdicts, a line each: `ok` or `error`
     tools/typing_cases.py --write FOLDER --peer PEER
                                               writes tools/original/typing_cases.tsv, which has the modules
 
@@ -30,7 +28,7 @@ from pathlib import Path
 
 from shared.arguments import read
 from shared.crates import TOP
-from testing.built import built, missing
+from testing.built import over_programs
 
 NAME = "wasm_validate"
 TABLE = TOP / "tools" / "original" / "typing_cases.tsv"
@@ -159,22 +157,12 @@ def compared(program, cases, messages):
 
 
 def main():
-    given = read(__doc__, "--modules", "--verdicts", "--messages", "--write FOLDER", "--peer PROGRAM", "--program PROGRAM", "[NAME]")
-    if given.modules:
-        print("\n".join(it.module.hex() for it in cases_of()))
-    elif given.verdicts:
-        print("\n".join("ok" if it.is_valid else "error" for it in cases_of()))
-    elif given.write:
+    given = read(__doc__, "--messages", "--write FOLDER", "--peer PROGRAM", "--program PROGRAM", "[NAME]")
+    if given.write:
         TABLE.write_text(text_of(written(given.write, given.peer)), encoding="utf-8")
-    else:
-        programs, cases, differ = built(NAME, given.program), cases_of(), 0
-        for program in programs:
-            lines = compared(program, cases, given.messages)
-            differ += len(lines)
-            print("\n".join([*lines, f"{len(lines)} of {len(cases)} differ"]))
-        if not programs:
-            print(missing(NAME, given.program))
-        sys.exit(differ > 0 or not programs)
+        return
+    cases = cases_of()
+    sys.exit(over_programs("typing_cases", [NAME], given.program, lambda program, _: (len(cases), compared(program, cases, given.messages))))
 
 
 if __name__ == "__main__":

@@ -44,7 +44,7 @@ from shared.crates import TOP
 from shared.leb128 import unsigned
 from shared.tables import rows_of
 from table import table
-from testing.built import built, missing
+from testing.built import built, missing, over_programs
 
 CRATE = TOP / "crates" / "wasm_objdump"
 THEIRS = ["wasm-objdump", "-d"]
@@ -95,21 +95,15 @@ def stored(program, path):
         status, _, complained = ended(program, [], module)
         if not is_answer(status, complained):
             wrong.append(f"{path.name}, {what}: status {status}, {complained!r}")
-    return [f"{program.name}, {fault}" for fault in wrong], len(files) + 2 * len(whole)
+    return wrong, len(files) + 2 * len(whole)
 
 
 def stored_modules(given):
-    programs = built(CRATE.name, given.program)
-    if not programs:
-        print(missing(CRATE.name, given.program))
-    wrong, runs = [], 0
-    for program, path in itertools.product(programs, sorted((CRATE / "data").glob("*.wasm"))):
-        found, some = stored(program, path)
-        wrong, runs = wrong + found, runs + some
-    for fault in wrong:
-        print(f"WRONG: {fault}")
-    print(f"stored: {runs} run, {len(wrong)} wrong")
-    return bool(wrong) or not runs
+    def run(program, _):
+        found = [stored(program, path) for path in sorted((CRATE / "data").glob("*.wasm"))]
+        return sum(runs for _, runs in found), [fault for wrong, _ in found for fault in wrong]
+
+    return over_programs("stored", [CRATE.name], given.program, run)
 
 
 # Prints a program's status, CPU seconds and most memory. A child's memory counts from its parent's, so a small

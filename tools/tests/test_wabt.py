@@ -44,7 +44,7 @@ class Stored(unittest.TestCase):
 
     def test_compared(self):
         self.assertEqual(self.faults(b"xa", b"xa"), ([], 6))
-        self.assertEqual(self.faults(b"xa", b"xb")[0], ["program, a.wasm: not what wabt wrote"])
+        self.assertEqual(self.faults(b"xa", b"xb")[0], ["a.wasm: not what wabt wrote"])
         # a prefix that lists a function before the end of the code section
         function = b"000030 func[0]:"
         self.assertEqual(self.faults(function, function)[0], [])
