@@ -1,28 +1,12 @@
 """Writes the encoder's lists over the operators (crates/wasm_encode_operators): opcodes, immediates, and their proofs."""
 
-from immediates import FORMS, KINDS, ROW_WORDS
+from immediates import COMBINATIONS, FORMS, KINDS, ROW_WORDS
 from plain import BOUND, bound
 from source import joined_arm, rust_pattern
 from table import ENUMS, held, imported
 from templates import filled, with_uses
 
 CRATE = "crates/wasm_encode_operators"
-# The capacity that the writer of each kind requires, as `most` in wasm_encode_immediates. A list reserves more itself.
-SIZES = {
-    "unsigned": 10, "signed_32": 10, "signed_64": 10, "float_32": 4, "float_64": 8, "lane_index": 1, "lane_list": 16,
-    "vector": 16, "memory": 22, "memory_index": 10, "table_index": 10, "ordered": 1, "fence": 1, "heap_type": 11,
-    "cast": 33, "block_type": 12, "branch_table": 0, "one_type": 22, "types": 0, "try_table": 12, "resume_table": 0,
-}
-# The functions that write immediates with a list, or a single type, by kinds. A field that owns or borrows is passed by
-# reference.
-WRITERS = {
-    ("branch_table",): "write_branch_table(out, features, a)",
-    ("one_type",): "write_one_type(out, features, *a)",
-    ("types",): "write_types(out, features, a)",
-    ("try_table",): "write_try_table(out, features, a)",
-    ("unsigned", "resume_table"): "write_resume(out, features, *a, b)",
-    ("unsigned", "unsigned", "resume_table"): "write_resume_throw(out, features, *a, *b, c)",
-}
 # The prover's search finds no proof of an arm of this many operators or more, nor of an arm with immediates of these
 # kinds, except for one heap type of one operator.
 MANY = 22
@@ -32,7 +16,7 @@ UNFOUND_KINDS = {("unsigned", "unsigned", "resume_table")}
 
 def most(ops):
     """Returns the greatest number of bytes of the immediates of these operators, without lists."""
-    return max(sum(SIZES[kind] for kind in op.kinds) for op in ops)
+    return max(sum(KINDS[kind].most for kind in op.kinds) for op in ops)
 
 
 def pattern(op, ty):
@@ -65,8 +49,8 @@ def value(op, by_reference):
 
 def call(op, by_reference):
     """Returns the expression that writes the immediates."""
-    if op.kinds in WRITERS:
-        return WRITERS[op.kinds]
+    if op.combination and op.combination.encoder:
+        return op.combination.encoder
     if not op.kinds:
         return "Ok(())"
     it = value(op, by_reference)
@@ -90,7 +74,8 @@ def enums():
 
 
 def writers():
-    return ", ".join(sorted({it.split("(")[0] for it in WRITERS.values()}))
+    """Returns the names of the functions that write immediates with a list, or a single type."""
+    return sorted({it.encoder.split("(")[0] for it in COMBINATIONS.values() if it.encoder})
 
 
 def immediates_source(enum, ops):
@@ -114,7 +99,7 @@ def own_source(ops, all_ops):
         by_enum=[f"Operator::{enum.group}(inner) => write_{enum.module}(out, features, *inner)," for enum in enums()],
     )
     calls = sorted(f"use crate::immediates::{enum.module}::write_{enum.module};" for enum in enums())
-    return with_uses("encode/own_uses.rt", body, calls=calls, writers=writers(), **read_types())
+    return with_uses("encode/own_uses.rt", body, calls=calls, writers=", ".join(writers()), **read_types())
 
 
 def read_types():
@@ -193,7 +178,7 @@ def called(those, it, found):
     A function that several arms call is named alone in the first arm of one pattern, else in the last arm.
     """
     name = it.split("(")[0]
-    if it.startswith(name) and name in [writer.split("(")[0] for writer in WRITERS.values()]:
+    if it.startswith(name) and name in writers():
         return f"c.{name}", "ensures"
     calls = [ops for ops, other in found if ".write(" in other]
     alone = next((ops for ops in calls if len(ops) == 1), calls[-1])

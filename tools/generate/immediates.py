@@ -60,6 +60,7 @@ class Kind:
     writer: str  # the function of wasm_text (src/operands.rt)
     held: str = ""  # what the fields of the C struct hold; nothing for an index
     least: str = "00"  # the least encoding in hexadecimal
+    most: int  # the capacity that its writer in wasm_encode_immediates requires. A list reserves more itself
     sort: str = ""  # of a memory argument, only in `FORMS`
 
     @property
@@ -143,6 +144,7 @@ class Combination:
     values: tuple = ()  # the fields in the cargo crate, from the C struct `op` and its `source`
     writer: str = ""  # the function of wasm_text (src/operands.rt), if one writes all operands
     list_arm: str = ""  # if it may own a list, the name of its arms in lemmas
+    encoder: str = ""  # the call that writes it, if it has a list or a single type. A field that owns or borrows is passed by reference
 
 
 # By kinds, in the order of the shapes.

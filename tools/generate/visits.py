@@ -1,5 +1,7 @@
 """Writes the groups of visits, and the dispatch of each group."""
 
+from immediates import FOLDER
+from shared.tables import rows_of
 from source import uses
 from table import NUMERIC, SIMD_HALF, WIDTH, doc, held, prefix_of, singular
 from templates import filled, filled_file
@@ -8,7 +10,7 @@ from templates import filled, filled_file
 class Group:
     """A group of visits. `condition` is on the code, if the same list of entries has operators of other groups without immediates."""
 
-    def __init__(self, module, trait, enum, short, title, section, *, condition=""):
+    def __init__(self, module, trait, enum, short, title, section, condition):
         self.module = module
         self.trait = trait
         self.enum = enum
@@ -43,38 +45,7 @@ class Group:
 
 FROM, TO = f"0x{NUMERIC[0]:02x}", f"0x{NUMERIC[-1]:02x}"
 HALF = f"0x{SIMD_HALF:02x}"
-GROUPS = [
-    Group(
-        "one_byte", "VisitOneByte", "Own", "the operators with a one-byte opcode",
-        "the operators with a one-byte opcode, except the numeric ones and the branch table", "Instructions.",
-        condition=f"{FROM} ≤ code → code ≤ {TO} → ⊥",
-    ),
-    Group(
-        "numeric", "VisitNumeric", "Numeric", "the numeric operators",
-        f"the numeric operators with a one-byte opcode, {FROM} to {TO}", "Numeric Instructions.",
-        condition=f"({FROM} ≤ code) × (code ≤ {TO})",
-    ),
-    Group(
-        "gc", "VisitGc", "Gc", "the operators with prefix 0xfb", "the operators with the prefix byte 0xfb",
-        "Aggregate Instructions.",
-    ),
-    Group(
-        "misc", "VisitMisc", "Misc", "the operators with prefix 0xfc", "the operators with the prefix byte 0xfc",
-        "Numeric, Memory and Table Instructions.",
-    ),
-    Group(
-        "atomic", "VisitAtomic", "Atomic", "the operators with prefix 0xfe", "the operators with the prefix byte 0xfe",
-        "Proposal threads.",
-    ),
-    Group(
-        "simd_low", "VisitSimdLow", "Simd", f"the SIMD operators below {HALF}",
-        f"the SIMD operators with a subopcode below {HALF}", "Vector Instructions.", condition=f"code < {HALF}",
-    ),
-    Group(
-        "simd_high", "VisitSimdHigh", "Simd", f"the SIMD operators from {HALF} on",
-        f"the SIMD operators with a subopcode of at least {HALF}", "Vector Instructions.", condition=f"{HALF} ≤ code",
-    ),
-]
+GROUPS = [Group(**{name: cell.format(FROM=FROM, TO=TO, HALF=HALF) for name, cell in row.items()}) for row in rows_of(FOLDER / "groups.tsv")]
 FIXED = [group for group in GROUPS if group.enum != "Simd"]
 VECTORS = [group for group in GROUPS if group.enum == "Simd"]
 
