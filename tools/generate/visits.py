@@ -45,7 +45,9 @@ class Group:
 
 FROM, TO = f"0x{NUMERIC[0]:02x}", f"0x{NUMERIC[-1]:02x}"
 HALF = f"0x{SIMD_HALF:02x}"
-GROUPS = [Group(**{name: cell.format(FROM=FROM, TO=TO, HALF=HALF) for name, cell in row.items()}) for row in rows_of(FOLDER / "groups.tsv")]
+GROUPS = [
+    Group(**{name: cell.format(FROM=FROM, TO=TO, HALF=HALF) for name, cell in row.items()}) for row in rows_of(FOLDER / "groups.tsv")
+]
 FIXED = [group for group in GROUPS if group.enum != "Simd"]
 VECTORS = [group for group in GROUPS if group.enum == "Simd"]
 
