@@ -1,4 +1,4 @@
-"""Draws times and instructions of docs/SPEED.md and docs/OBJDUMP.md beside those of wasmparser and wabt."""
+"""Draws the times and instructions of docs/SPEED.md and docs/OBJDUMP.md, and for comparison wasmparser's and wabt's."""
 
 import re
 
