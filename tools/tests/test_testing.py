@@ -1,7 +1,9 @@
+import io
 import os
 import tempfile
 import time
 import unittest
+from contextlib import redirect_stdout
 from pathlib import Path
 from unittest import mock
 
@@ -169,6 +171,17 @@ class Scripts(unittest.TestCase):
         self.assertEqual(built.built("no_crate"), [])
         self.assertIn("crates/no_crate/out/no_crate is missing", built.missing("no_crate"))
         self.assertEqual(built.missing("a", Path("/b")), "a: /b is missing")
+
+    def test_over_programs(self):
+        for given, run, wanted in (
+            (Path(__file__), (3, []), (False, "it: 3 run, 0 wrong\n")),
+            (Path(__file__), (0, []), (True, "it: 0 run, 0 wrong\n")),
+            (Path(__file__), (3, ["case: wrong"]), (True, "test_testing.py, case: wrong\nit: 3 run, 1 wrong\n")),
+            (Path("/b"), (3, []), (True, "a: /b is missing\nit: 0 run, 1 wrong\n")),
+        ):
+            with redirect_stdout(io.StringIO()) as out:
+                is_wrong = built.over_programs("it", ["a"], given, lambda program, name: run)
+            self.assertEqual((is_wrong, out.getvalue()), wanted)
 
 
 class SelfTest(unittest.TestCase):
