@@ -11,10 +11,10 @@ in `tests-catch.edits`. In these two, a line `edit: X` starts an edit. With `--l
 
 The gate leaves edits out, since a second edit costs another proof of the crate. `--more` copies the crates, puts these
 edits in the place of the gate's, and has `rt` try them there. Without NAME it takes every crate with such edits.
-`RT_JOBS=N` does N things at a time. The libraries below NAME are those that `rt ci` kept, if the kit keeps any (`rt help`
-then shows `rt ci` with names). Else `rt must-fail` builds them. With `--libraries FOLDER` they come from a checkout in
-which `rt ci` has passed. It has the same sources of all crates below NAME. `--keep DIR` keeps the copy, in a folder that
-is new, empty or such a copy. `--record` writes the crates whose edits were all rejected into tools/more_must_fail.tsv,
+The libraries below NAME are those that `rt ci` kept, if the kit keeps any (`rt help` then shows `rt ci` with names). Else
+`rt must-fail` builds them. With `--libraries FOLDER` they come from a checkout in which `rt ci` has passed, and which has
+the same sources of all crates below NAME. Then `RT_JOBS=N` tries the edits of N crates at a time (2). `--keep DIR` keeps the
+copy, in a folder that is new, empty or such a copy. `--record` writes the crates whose edits were all rejected into tools/more_must_fail.tsv,
 with the commit and the date, for docs/GATE.md. It needs a checkout without changes in crates/.
 
 The last line has the numbers of edits and of wrong ones; the status is 0 if none is wrong.
