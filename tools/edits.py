@@ -13,9 +13,10 @@ The gate leaves edits out, since a second edit costs another proof of the crate.
 edits in the place of the gate's, and has `rt` try them there. Without NAME it takes every crate with such edits.
 The libraries below NAME are those that `rt ci` kept, if the kit keeps any (`rt help` then shows `rt ci` with names). Else
 `rt must-fail` builds them. With `--libraries FOLDER` they come from a checkout in which `rt ci` has passed, and which has
-the same sources of all crates below NAME. Then `RT_JOBS=N` tries the edits of N crates at a time (2). `--keep DIR` keeps the
-copy, in a folder that is new, empty or such a copy. `--record` writes the crates whose edits were all rejected into tools/more_must_fail.tsv,
-with the commit and the date, for docs/GATE.md. It needs a checkout without changes in crates/.
+the same sources of all crates below NAME. Then `RT_JOBS=N` tries the edits of N crates at a time (2), first of those with
+the most edits. `--keep DIR` keeps the copy, in a folder that is new, empty or such a copy. `--record` writes the crates
+whose edits were all rejected into tools/more_must_fail.tsv, with the commit and the date, for docs/GATE.md. It needs a
+checkout without changes in crates/.
 
 The last line has the numbers of edits and of wrong ones; the status is 0 if none is wrong.
 """
@@ -211,7 +212,8 @@ def tried(folder, names, libraries=None):
     """Returns the number of rejected edits, and the others."""
     lacking = lend(libraries, folder, names) if libraries else {}
     wrong = [f"{name}/ ({libraries} has no library of {it} from these sources)" for name, it in lacking.items()]
-    names = [name for name in names if name not in lacking]
+    many = lambda name: -len(edits_of(folder / "crates" / name, [GATE]))
+    names = sorted((name for name in names if name not in lacking), key=many)
     with ThreadPoolExecutor(int(os.environ.get("RT_JOBS") or 2)) as pool:
         runs = list(pool.map(lambda command: run(command, folder), commands(names, libraries) if names else []))
     seen = {edit for rejected, _ in runs for edit in rejected}
