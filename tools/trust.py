@@ -34,7 +34,8 @@ from testing.crates import Crates, Missing, find_kit
 WANTED = [
     ("functions that C code defines", "rt", r'extern "C" \{'),
     ("unsafe blocks and functions", "rt", r"\bunsafe (?:\{|fn|impl)"),
-    ("the handles Abort, Wait, Threads, Net, Processes", "rt", r"\b(?:Abort|Wait|Threads|Net|Processes)\b"),
+    # (not the proposal of this name)
+    ("the handles Abort, Wait, Threads, Net, Processes", "rt", r"^(?! *Threads,$).*(?<!Proposal::)\b(?:Abort|Wait|Threads|Net|Processes)\b"),
     ("axioms", "antt", r"^[ \t]*axiom\b|\bPrim\.Axiom\b"),
     ("holes", "antt", r"(?:^|[\s(])\?\w*(?=[\s)]|$)"),
 ]
