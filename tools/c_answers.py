@@ -27,9 +27,9 @@ Modules, Code Section).
 
 import re
 
-from shared import modules
 from shared.arguments import read
 from shared.crates import TOP
+from shared.leb128 import unsigned
 from shared.tables import rows_of
 from shared.written import write_or_check
 
@@ -187,8 +187,9 @@ def encode_lines(text):
 def code_lines():
     lines = []
     for locals_, declared, operators in CODE:
-        section = modules.section(10, modules.vector([modules.sized(bytes.fromhex(declared + operators))]))
-        lines.append(f"code\t{locals_}\t{operators}\t{section.hex()}")
+        body = bytes.fromhex(declared + operators)
+        entries = unsigned(1) + unsigned(len(body)) + body
+        lines.append(f"code\t{locals_}\t{operators}\t{(bytes([10]) + unsigned(len(entries)) + entries).hex()}")
     return lines
 
 
