@@ -22,11 +22,12 @@ import tempfile
 from collections import Counter
 from pathlib import Path
 
-from shared import modules
+from shared import leb128, modules
 from shared.arguments import read
 
 BATCH = 100
 SECONDS = 300
+CODE = 10
 CHANGES = 10
 SMITH = ["--max-memories=2", "--max-tables=3", "--gc-enabled=true", "--exceptions-enabled=true", "--simd-enabled=true"]
 SMITH += ["--relaxed-simd-enabled=true", "--tail-call-enabled=true", "--memory64-enabled=true", "--threads-enabled=true"]
@@ -43,9 +44,20 @@ def smith(engines, count, folder):
         yield folder / f"smith{seed}.wasm"
 
 
+def code_of(module):
+    """Returns where the contents of the code section start and end; None without one."""
+    at = 8
+    while at < len(module):
+        size, start = leb128.read(module, at + 1)
+        if module[at] == CODE:
+            return start, start + size
+        at = start + size
+    return None
+
+
 def copies(module, count, seed):
     """Returns copies of a module, each with another byte in its code section."""
-    place = modules.code(module)
+    place = code_of(module)
     if place is None or place[0] == place[1]:
         return
     chosen = random.Random(seed)
