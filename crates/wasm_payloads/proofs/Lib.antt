@@ -1,2 +1,4 @@
 pub mod Lengths
 pub mod NextBody
+pub mod OnePayload
+pub mod Determined

@@ -1,3 +1,4 @@
 pub mod Custom
 pub mod Contents
 pub mod Parsing
+pub mod Payloads

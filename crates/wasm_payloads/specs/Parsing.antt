@@ -102,6 +102,7 @@ GivesBody n size p old new = ((n ≡ 0) × (size ≡ 0) × GivesSection p old ne
     HasReadBy (delimited size (sized_contents old.reader.features)) (body, left) old.reader new.reader × (p ≡ payload.CodeSectionEntry body) ×
     (new ≡ moved_to old new.reader (phase.Bodies (n - 1) left)))
 
+-- The next payload was read: the preamble, a section, a body or the end.
 abbrev pub Gives : ParserState → Payload → Parsing → Parsing → Type 0
 Gives phase.Header p old new = GivesVersion p old new
 Gives phase.Section p old new = GivesSection p old new
@@ -138,6 +139,7 @@ abbrev pub FailsAtBody : ℕ → ℕ → Error → Parsing → Type 0
 FailsAtBody n size e old = ((n ≡ 0) × (size ≡ 0) × FailsAtSection e old) ⊎ (((n ≡ 0) × (0 < size) × IsMalformed malformed.CodeContent e (offset_of old.reader)) ⊎
     ((0 < n) × Fails (delimited size (sized_contents old.reader.features)) (offset_of old.reader) e old.reader))
 
+-- The error of the next payload.
 abbrev pub FailsAt : ParserState → Error → Parsing → Type 0
 FailsAt phase.Header e old = Fails preamble (offset_of old.reader) e old.reader
 FailsAt phase.Section e old = FailsAtSection e old

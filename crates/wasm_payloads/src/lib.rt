@@ -5,11 +5,13 @@
 
 mod contents;
 mod custom;
+mod laws;
 mod parser;
 mod payload;
 mod unread;
 
 pub use custom::CustomSectionReader;
+pub use laws::payload_laws;
 pub use parser::{Parser, ParserState, parse_all};
 pub use payload::{
     Encoding, ExportSectionReader, FunctionSectionReader, ImportSectionReader, MemorySectionReader,
