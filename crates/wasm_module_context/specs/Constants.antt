@@ -1,10 +1,11 @@
 -- Constant expressions that leave a value of a type.
 -- WebAssembly Core Specification 3.0: Validation, Instructions, Constant Expressions.
-use Rattle.std.specs.Prelude.{[], ◌∷◌, ◌⊎◌}
+use Rattle.std.specs.Prelude.{◌≢◌, [], ◌∷◌, ◌⊎◌}
 use Rattle.wasm_below.specs.declared.types.ValType.{ValType}
 use Rattle.wasm_below.specs.Source.{Reader, source_of}
 use Rattle.wasm_typing.specs.Types.{value_type}
 use Rattle.wasm_check_operators.specs.Language.{rules_of}
+use Rattle.wasm_check.specs.declared.error.CheckError.TheVariants as check
 use Rattle.wasm_check.specs.Constants.{constant_in, is_constant, IsTypedOf, ExplainsOf}
 use Rattle.wasm_context.specs.Components.{Components}
 use Rattle.wasm_context.specs.Environment.{environment_of}
@@ -16,9 +17,9 @@ use Rattle.wasm_module_context.specs.References.{DeclaresReferences, FailsRefere
 abbrev pub IsConstant : Components → ValType → Reader → Type 0
 IsConstant c t r = IsTypedOf (is_constant (constant_in (environment_of c) t)) (rules_of (constant_in (environment_of c) t)) (value_type t ∷ []) (source_of r)
 
--- Why it isn't.
+-- Why it isn't: the error, unless allocation failed.
 abbrev pub ExplainsConstant : Components → ValType → Reader → PayloadError → Type 0
-ExplainsConstant c t r (error.Constant e) = ExplainsOf (is_constant (constant_in (environment_of c) t)) (rules_of (constant_in (environment_of c) t)) (value_type t ∷ []) r e
+ExplainsConstant c t r (error.Constant e) = (e ≢ check.Memory → IsConstant c t r → ⊥) × ExplainsOf (is_constant (constant_in (environment_of c) t)) (rules_of (constant_in (environment_of c) t)) (value_type t ∷ []) r e
 ExplainsConstant c t r _ = ⊥
 
 -- The functions to which the expression refers are declared, and the expression has the type in the
