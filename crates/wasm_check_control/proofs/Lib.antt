@@ -1,5 +1,6 @@
 pub mod SegmentLemmas
 pub mod SetLists
+pub mod LocalStacks
 pub mod WithSet
 pub mod Taking
 pub mod Labels

@@ -1,8 +1,7 @@
 -- The locals that are set in each frame: additions, and ends of frames.
 use Rattle.std.proofs.Common.{◌≡◌, ℕ, suc, ◌+◌, ◌-◌, ◌<◌, ◌≤◌, Bool, true, false, ◌||◌, if◌then◌else◌, List, [], ◌∷◌, ◌++◌, length, take, drop, reverse, get_or, Option, Some, None, Ok, Err, refl, sym, ap, subst, ◌∙◌, arith, add-one}
-use Rattle.std.specs.Prelude.{nat_eq, Result}
-use Rattle.std.specs.Result.{is_ok, is_err}
-use Rattle.std.specs.Option.{option_to_list}
+use Rattle.std.specs.Prelude.{Result, OnOk}
+use Rattle.std.specs.Result.{is_err}
 use Rattle.std.proofs.lemmas.List.{append-nil, reverse-append, length-reverse, take-append-drop, length-drop, get_or-reverse}
 use Rattle.std.proofs.lemmas.Bool.{eqb-true}
 use Rattle.std.proofs.Math.Seq.{drop-append_seam, drop-cons}
@@ -79,16 +78,6 @@ module _ (heights left old new : List ℕ) (height : ℕ) (popped : heights ≡ 
   pub heights_closed : AreHeights (reverse left) (reverse new)
   heights_closed = subst (AreHeights (reverse left)) (sym shorter) first.1
 
--- The test of one local.
-pub local_tested : (x : ℕ) (locals : List ℕ) (i d : ℕ) (test : Bool) → i < length locals → nat_eq x (get_or locals (length locals - 1 - i) d) ≡ test →
-    is_member x (drop i (reverse locals)) ≡ is_member x (reverse locals) → (test || is_member x (drop (i + 1) (reverse locals))) ≡ is_member x (reverse locals)
-local_tested x locals i d test p t h =
-    let n = length-reverse locals in
-    ap (λ k. test || is_member x (drop k (reverse locals))) (add-one i) ∙
-    ap (λ b. b || is_member x (drop (suc i) (reverse locals))) (sym t) ∙
-    ap (λ y. nat_eq x y || is_member x (drop (suc i) (reverse locals))) (sym (get_or-reverse locals i d p)) ∙
-    ap (is_member x) (sym (drop-cons (reverse locals) i d (omega (arith, p, n)))) ∙ h
-
 pub nil : {A : Type 0} (xs : List A) → length xs ≡ 0 → xs ≡ []
 nil [] e = refl
 nil (x ∷ xs) e = absurd (omega (arith, e))
@@ -97,13 +86,6 @@ nil (x ∷ xs) e = absurd (omega (arith, e))
 pub some_heights : (heights set first : List ℕ) (others : List (List ℕ)) → set_lists (reverse heights) set ≡ first ∷ others → heights ≡ [] → ⊥
 some_heights heights set first others e n = absurd (cc (sym (ap (λ h. set_lists (reverse h) set) n) ∙ e))
 
-pub if_ok : {X E A : Type 0} (r : Result X E) (a b c : A) → c ≡ (if is_ok r then a else b) → is_err r ≡ false → c ≡ a
-if_ok (Ok x) a b c h e = h
-if_ok (Err x) a b c h e = absurd (cc e)
-
-pub other_local : (x y : ℕ) → (x ≡ y → ⊥) → nat_eq x y ≡ false
-other_local x y n = go (nat_eq x y) refl
-  where
-    go : (b : Bool) → nat_eq x y ≡ b → b ≡ false
-    go true e = absurd (n (eqb-true x y e))
-    go false e = refl
+pub on_ok : {X E : Type 0} (r : Result X E) (P : Type 0) → OnOk r P → is_err r ≡ false → P
+on_ok (Ok x) P h e = h
+on_ok (Err x) P h e = absurd (cc e)

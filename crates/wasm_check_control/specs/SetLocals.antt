@@ -1,6 +1,6 @@
 -- The locals that operators set, for each control frame, the innermost first. The locals that were set
 -- last are first. WebAssembly Core Specification 3.0: Appendix, Validation Algorithm.
-use Rattle.std.specs.Prelude.{◌≡◌, ℕ, ◌-◌, ◌≤◌, List, [], ◌∷◌, length, drop, Option}
+use Rattle.std.specs.Prelude.{◌≡◌, ℕ, ◌-◌, ◌<◌, ◌≤◌, List, [], ◌∷◌, length, drop, get_or, Option}
 use Rattle.std.specs.Option.{option_map}
 use Rattle.wasm_typing.specs.Checking.{state}
 use Rattle.wasm_typing.specs.Steps.{Frame, with_now}
@@ -42,3 +42,8 @@ with_set (f ∷ outer) sets = with_now f (state f.now.operands f.now.unreachable
 -- The next frames, if there are any, with these locals set in them.
 abbrev pub next_with : List (List ℕ) → Option (List Frame) → Option (List Frame)
 next_with sets next = option_map (λ frames. with_set frames sets) next
+
+-- Each local of the list has a place: its first in the list. Places of other locals mean nothing.
+abbrev pub ArePlaced : List ℕ → List ℕ → Type 0
+ArePlaced locals places = (i : ℕ) → i < length locals →
+    (get_or locals i 0 < length places) × (get_or places (get_or locals i 0) 0 ≤ i) × (get_or locals (get_or places (get_or locals i 0) 0) 0 ≡ get_or locals i 0)

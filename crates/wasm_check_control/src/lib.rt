@@ -5,6 +5,7 @@
 mod context;
 mod control;
 mod frame;
+mod local_stack;
 mod matching;
 mod operands;
 mod peeks;

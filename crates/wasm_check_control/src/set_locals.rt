@@ -1,27 +1,16 @@
-ghost use Rattle.std.specs.Prelude.{◌≡◌, [], ◌∷◌, OnOk, OnErr, reverse, if◌then◌else◌};
+ghost use Rattle.std.specs.Prelude.{◌≡◌, [], ◌∷◌, OnOk, OnErr, if◌then◌else◌};
 ghost use Rattle.wasm_typing.specs.Rules.{is_member};
 ghost use Rattle.wasm_check_control.specs.SetLocals.{set_now, set_outside, set_also};
 
+use crate::local_stack::LocalStack;
 use std::alloc::{AllocError, Global};
 use std::marker::Model;
-
-/// Returns whether a list contains a local. Starts at the end.
-fn has_local(locals: &[u32], local: u32) -> bool
-    ensures { result ≡ is_member local (reverse locals.now) }
-{
-    for i in 0..locals.len() {
-        if local == locals[locals.len() - 1 - i] {
-            return true;
-        }
-    }
-    false
-}
 
 /// The locals that operators set, for each control frame. Specification: Appendix, Validation
 /// Algorithm.
 #[derive(Drop)]
 pub struct SetLocals {
-    locals: Vec<u32>,
+    locals: LocalStack,
     heights: Vec<usize>,
 }
 
@@ -31,9 +20,9 @@ impl Model for SetLocals {
 
     ghost Value = { List (List ℕ) };
 
-    ghost view = { λ s. set_lists (reverse s.heights.items) (reverse s.locals.items) };
+    ghost view = { λ s. set_lists (reverse s.heights.items) (reverse s.locals) };
 
-    ghost invariant = { λ s. AreHeights (reverse s.heights.items) (reverse s.locals.items) };
+    ghost invariant = { λ s. AreHeights (reverse s.heights.items) (reverse s.locals) };
 }
 
 impl SetLocals {
@@ -42,17 +31,16 @@ impl SetLocals {
         ensures { result ≡ [] }
     {
         SetLocals {
-            locals: Vec::new(alloc),
+            locals: LocalStack::new(alloc),
             heights: Vec::new(alloc),
         }
     }
 
-    /// Returns whether a local is set in the innermost frame. Takes time linear in the number of
-    /// locals that are set in it.
+    /// Returns whether a local is set in the innermost frame.
     pub fn contains(&self, local: u32) -> bool
         ensures { result ≡ is_member local (set_now self.now) }
     {
-        has_local(self.locals.as_slice(), local)
+        self.locals.contains(local)
     }
 
     /// Sets a local in the innermost frame.

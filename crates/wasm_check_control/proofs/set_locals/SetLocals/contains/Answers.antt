@@ -6,5 +6,4 @@ use Rattle.wasm_check_control.proofs.set_locals.SetLocals.contains.Goals as goal
 
 pub returns : goal.returns
 returns c =
-    c.has_local.ensures ∙ ap (λ xs. is_member c.args.local (reverse xs)) c.as_slice.ensures.value ∙
-    ap (is_member c.args.local) (sym (now_is (reverse c.self.inside.heights.items) (reverse c.self.inside.locals.items) c.self.invariant) ∙ ap set_now c.self.view_is)
+    c.contains.ensures ∙ ap (is_member c.args.local) (sym (now_is (reverse c.self.inside.heights.items) (reverse c.self.inside.locals) c.self.invariant) ∙ ap set_now c.self.view_is)
