@@ -5,10 +5,11 @@
     tools/validations.py PROGRAM PEER --engines DIR --smith N MODULE..
                                                           also N modules of `wasm-tools smith`, with all proposals
     tools/validations.py .. --changes N                   also N copies of each module (10)
+    tools/validations.py .. --every-byte                  also N copies of each module for each of its bytes after the preamble
 
 PROGRAM is wasm_validate, here with the features that wasmparser has by default. `PEER --default verdict FILE..` prints
 wasmparser's verdicts, `FILE ok` or `FILE OFFSET MESSAGE`. DIR/root has the programs of wasm-tools. A copy differs from its
-module in one byte of the code section.
+module in one byte, with --every-byte anywhere, else of the code section.
 
 Of each file, both must accept it, or both must reject it at the same offset. Files that differ are printed, with both
 messages, and counted by wasmparser's message.
@@ -28,6 +29,7 @@ from shared.arguments import read
 BATCH = 100
 SECONDS = 300
 CODE = 10
+PREAMBLE = 8
 CHANGES = 10
 SMITH = ["--max-memories=2", "--max-tables=3", "--gc-enabled=true", "--exceptions-enabled=true", "--simd-enabled=true"]
 SMITH += ["--relaxed-simd-enabled=true", "--tail-call-enabled=true", "--memory64-enabled=true", "--threads-enabled=true"]
@@ -46,7 +48,7 @@ def smith(engines, count, folder):
 
 def code_of(module):
     """Returns where the contents of the code section start and end; None without one."""
-    at = 8
+    at = PREAMBLE
     while at < len(module):
         size, start = leb128.read(module, at + 1)
         if module[at] == CODE:
@@ -55,14 +57,20 @@ def code_of(module):
     return None
 
 
-def copies(module, count, seed):
-    """Returns copies of a module, each with another byte in its code section."""
+def places(module, count, chosen, every_byte):
+    """Returns the offsets of the bytes that differ."""
+    if every_byte:
+        return [at for at in range(PREAMBLE, len(module)) for _ in range(count)]
     place = code_of(module)
     if place is None or place[0] == place[1]:
-        return
+        return []
+    return [chosen.randrange(*place) for _ in range(count)]
+
+
+def copies(module, count, seed, every_byte):
+    """Returns copies of a module, each with another byte."""
     chosen = random.Random(seed)
-    for _ in range(count):
-        at = chosen.randrange(*place)
+    for at in places(module, count, chosen, every_byte):
         yield module[:at] + bytes([module[at] ^ chosen.randrange(1, 256)]) + module[at + 1 :]
 
 
@@ -94,7 +102,7 @@ def text(verdict):
 
 
 def main():
-    wanted = read(__doc__, "--engines DIR", "--smith N", "--changes N", "PROGRAM", "PEER", "MODULE..")
+    wanted = read(__doc__, "--engines DIR", "--smith N", "--changes N", "--every-byte", "PROGRAM", "PEER", "MODULE..")
     changes = CHANGES if wanted.changes is None else wanted.changes
     files, differ, reasons, accepted = 0, 0, Counter(), 0
     with tempfile.TemporaryDirectory() as made:
@@ -106,7 +114,7 @@ def main():
                 names = []
                 for number, path in enumerate(paths[first : first + BATCH], first):
                     module = path.read_bytes()
-                    for copy, contents in enumerate([module, *copies(module, changes, number)]):
+                    for copy, contents in enumerate([module, *copies(module, changes, number, wanted.every_byte)]):
                         names.append(f"{path.stem}-{copy}.wasm")
                         (Path(folder) / names[-1]).write_bytes(contents)
                 ours = verdicts_of_program(wanted.program, folder, names)

@@ -37,3 +37,12 @@ module _ {X : Type 0} (adds : Adding X) (refuses : Refusing X) (g : WasmFeatures
 pub reads_payload : (p : Payload) (c : Components) (r : Result Components PayloadError) → IfOk r (λ d. AddsPayload p c d) → IfErr r (λ e. FailsPayload p c e) → ReadsPayload p c r
 reads_payload p c (Ok d) added refused = added
 reads_payload p c (Err e) added refused = refused
+
+-- What follows from what a call says of its result.
+pub ok_also : {A E : Type 0} (P Q : A → Type 0) (r : Result A E) → ((a : A) → P a → Q a) → IfOk r P → IfOk r Q
+ok_also P Q (Ok a) f p = f a p
+ok_also P Q (Err e) f p = tt
+
+pub err_also : {A E : Type 0} (P Q : E → Type 0) (r : Result A E) → ((e : E) → P e → Q e) → IfErr r P → IfErr r Q
+err_also P Q (Ok a) f p = tt
+err_also P Q (Err e) f p = f e p

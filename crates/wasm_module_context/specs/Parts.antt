@@ -1,8 +1,9 @@
 -- What the items of each section add to the context of a module.
 -- WebAssembly Core Specification 3.0: Validation, Modules.
-use Rattle.std.specs.Prelude.{◌≡◌, ℕ, ◌++◌, true, false, length, Option, Some, None, ◌⊎◌}
+use Rattle.std.specs.Prelude.{◌≡◌, ℕ, ◌++◌, Bool, true, false, if◌then◌else◌, length, Option, Some, None, ◌⊎◌}
 use Rattle.wasm_below.specs.declared.types.AbstractHeapType.TheVariants as abstract
 use Rattle.wasm_below.specs.declared.types.HeapType.TheVariants as heap
+use Rattle.wasm_below.specs.declared.types.ValType.{ValType}
 use Rattle.wasm_below.specs.declared.types.ValType.TheVariants as value
 use Rattle.wasm_below.specs.Reference.{Reference}
 use Rattle.wasm_below.specs.Source.{Reader}
@@ -13,6 +14,11 @@ use Rattle.wasm_externals.specs.declared.memory_type.MemoryType.{MemoryType}
 use Rattle.wasm_externals.specs.declared.tag_type.TagType.{TagType}
 use Rattle.wasm_grammars.specs.Grammar.{Grammar, done, bind}
 use Rattle.wasm_grammars.specs.Parts.{u32}
+use Rattle.wasm_sections.specs.Items.{Counted}
+use Rattle.wasm_segments.specs.Segments.{data_segment}
+use Rattle.wasm_segments.specs.declared.data.Data.{Data}
+use Rattle.wasm_segments.specs.declared.data.DataKind.{DataKind}
+use Rattle.wasm_segments.specs.declared.data.DataKind.TheVariants as data_kind
 use Rattle.wasm_segments.specs.declared.element.Element.{Element}
 use Rattle.wasm_segments.specs.declared.element.ElementItems.{ElementItems}
 use Rattle.wasm_segments.specs.declared.element.ElementItems.TheVariants as items
@@ -24,19 +30,23 @@ use Rattle.wasm_segments.specs.declared.table.TableInit.{TableInit}
 use Rattle.wasm_segments.specs.declared.table.TableInit.TheVariants as init
 use Rattle.wasm_subtypes.specs.Composites.{AreValid}
 use Rattle.wasm_subtypes.specs.Errors.{Blames}
-use Rattle.wasm_subtypes.specs.Types.{IsFirstEqual, AllExtend, Added, placed}
+use Rattle.wasm_subtypes.specs.Types.{IsFirstEqual, AllExtend, Added, placed, order_of}
 use Rattle.wasm_subtypes.specs.declared.error.TypeError.{TypeError}
 use Rattle.wasm_types.specs.Types.{types_of}
 use Rattle.wasm_types.specs.declared.recursive.RecGroup.{RecGroup}
 use Rattle.wasm_constants.specs.Constants.{const_expr}
+use Rattle.wasm_typing.specs.Types.{value_type}
+use Rattle.wasm_typing.specs.Matching.{matches}
+use Rattle.wasm_check_control.specs.Environment as checked
+use Rattle.wasm_context.specs.Environment.{environment_of}
 use Rattle.wasm_context.specs.declared.error.ContextError.{ContextError}
 use Rattle.wasm_context.specs.declared.error.ContextError.TheVariants as context_error
 use Rattle.wasm_context.specs.Components.{Components, with_types, with_function, with_table, with_memory, with_global, with_tag, with_element, with_declared}
-use Rattle.wasm_context.specs.Faults.{BlamesTypes, function_fault, table_fault, memory_fault, global_fault, tag_fault, element_fault, external_fault, import_fault, with_import, with_export}
+use Rattle.wasm_context.specs.Faults.{BlamesTypes, function_fault, table_fault, memory_fault, global_fault, tag_fault, element_fault, data_fault, external_fault, import_fault, with_import, with_export}
 use Rattle.wasm_module_context.specs.declared.error.PayloadError.{PayloadError}
 use Rattle.wasm_module_context.specs.declared.error.PayloadError.TheVariants as error
 use Rattle.wasm_module_context.specs.declared.function_index.FunctionIndex.{FunctionIndex}
-use Rattle.wasm_module_context.specs.Constants.{AddsConstant, FailsConstant}
+use Rattle.wasm_module_context.specs.Constants.{IsConstant, ExplainsConstant, AddsConstant, FailsConstant}
 use Rattle.wasm_module_context.specs.Items.{AddsItems, FailsItems}
 use Rattle.wasm_module_context.specs.References.{DeclaresReferences, FailsReferences}
 
@@ -113,14 +123,41 @@ abbrev pub type_of_items : ElementItems Reader → Reference
 type_of_items (items.Functions s) = record { nullable = false; heap_type = heap.Abstract false abstract.Func }
 type_of_items (items.Expressions t s) = t
 
--- The references of the offset in the table.
-abbrev pub DeclaresOffset : ElementKind Reader → Components → Components → Type 0
-DeclaresOffset (element.Active table r) c d = DeclaresReferences r c d
-DeclaresOffset _ c d = d ≡ c
+-- The table of an active segment: table 0 if no index is written.
+abbrev pub index_of : Option ℕ → ℕ
+index_of None = 0
+index_of (Some x) = x
 
-abbrev pub FailsOffset : ElementKind Reader → Components → PayloadError → Type 0
-FailsOffset (element.Active table r) c e = FailsReferences r c e
-FailsOffset _ c e = ⊥
+-- The type of addresses in a memory, or of indices in a table.
+abbrev pub address_type : Bool → ValType
+address_type is_64 = if is_64 then value.I64 else value.I32
+
+-- Elements of this type may be elements of a table.
+abbrev pub fits : Components → Reference → checked.Table → Bool
+fits c t table = matches (order_of c.types) (value_type (value.Ref t)) (value_type (value.Ref table.element))
+
+abbrev pub table_at : Components → ℕ → Option checked.Table
+table_at c x = (environment_of c).tables x
+
+-- The segment's elements may be elements of the table, and the offset is a constant expression of the
+-- type of indices.
+abbrev pub AddsInTable : Option checked.Table → Reader → Reference → Components → Components → Type 0
+AddsInTable None r t c d = ⊥
+AddsInTable (Some table) r t c d = (fits c t table ≡ true) × AddsConstant (address_type table.is_64) r c d
+
+-- There is no table with the index `x`, or its elements have another type, or the offset is in error.
+abbrev pub FailsInTable : Option checked.Table → ℕ → Reader → Reference → Components → ℕ → PayloadError → Type 0
+FailsInTable None x r t c at e = e ≡ error.Context (context_error.Unknown kind.Table x) at
+FailsInTable (Some table) x r t c at e = ((fits c t table ≡ false) × (e ≡ error.ElementType at t table.element)) ⊎ ((fits c t table ≡ true) × FailsConstant (address_type table.is_64) r c e)
+
+-- The table and the offset of an active segment.
+abbrev pub AddsOffset : ElementKind Reader → Reference → Components → Components → Type 0
+AddsOffset (element.Active x r) t c d = AddsInTable (table_at c (index_of x)) r t c d
+AddsOffset _ t c d = d ≡ c
+
+abbrev pub FailsOffset : ElementKind Reader → Reference → Components → ℕ → PayloadError → Type 0
+FailsOffset (element.Active x r) t c at e = FailsInTable (table_at c (index_of x)) (index_of x) r t c at e
+FailsOffset _ t c at e = ⊥
 
 -- The references of the elements. Expressions have the type of the segment.
 abbrev pub DeclaresElements : ElementItems Reader → Components → Components → Type 0
@@ -131,12 +168,48 @@ abbrev pub FailsElements : ElementItems Reader → Components → PayloadError �
 FailsElements (items.Functions s) c e = FailsItems AddsFunctionIndex (λ x c at e. FailsAt (external_fault c kind.Func x.0) at e) (λ features. function_index) s.count s.reader c e
 FailsElements (items.Expressions t s) c e = FailsItems (AddsConstant (value.Ref t)) (λ r c at e. FailsConstant (value.Ref t) r c e) const_expr s.count s.reader c e
 
--- An element segment: its type, then the references of the offset and of the elements.
+-- An element segment: its type, then the offset, then the elements.
 abbrev pub AddsElement : Element Reader → Components → Components → Type 0
 AddsElement s c d = (element_fault c (type_of_items s.items) ≡ None) ×
-    ((m : Components) × DeclaresOffset s.kind (with_element c (type_of_items s.items)) m × DeclaresElements s.items m d)
+    ((m : Components) × AddsOffset s.kind (type_of_items s.items) (with_element c (type_of_items s.items)) m × DeclaresElements s.items m d)
 
 abbrev pub FailsElement : Element Reader → Components → ℕ → PayloadError → Type 0
 FailsElement s c at e = FailsAt (element_fault c (type_of_items s.items)) at e ⊎ ((element_fault c (type_of_items s.items) ≡ None) ×
-    (FailsOffset s.kind (with_element c (type_of_items s.items)) e ⊎
-    ((m : Components) × DeclaresOffset s.kind (with_element c (type_of_items s.items)) m × FailsElements s.items m e)))
+    (FailsOffset s.kind (type_of_items s.items) (with_element c (type_of_items s.items)) at e ⊎
+    ((m : Components) × AddsOffset s.kind (type_of_items s.items) (with_element c (type_of_items s.items)) m × FailsElements s.items m e)))
+
+-- The memory exists, and the offset is a constant expression of the type of its addresses. It declares
+-- no functions: no such expression refers to one.
+abbrev pub AddsInMemory : Option Bool → Reader → Components → Components → Type 0
+AddsInMemory None r c d = ⊥
+AddsInMemory (Some is_64) r c d = IsConstant c (address_type is_64) r × (d ≡ c)
+
+-- There is no memory with the index `x`, or the offset is in error.
+abbrev pub FailsInMemory : Option Bool → ℕ → Reader → Components → ℕ → PayloadError → Type 0
+FailsInMemory None x r c at e = e ≡ error.Context (context_error.Unknown kind.Memory x) at
+FailsInMemory (Some is_64) x r c at e = ExplainsConstant c (address_type is_64) r e
+
+-- The memory and the offset of an active segment.
+abbrev pub AddsPlace : DataKind Reader → Components → Components → Type 0
+AddsPlace data_kind.Passive c d = d ≡ c
+AddsPlace (data_kind.Active x r) c d = AddsInMemory ((environment_of c).memories x) r c d
+
+abbrev pub FailsPlace : DataKind Reader → Components → ℕ → PayloadError → Type 0
+FailsPlace data_kind.Passive c at e = ⊥
+FailsPlace (data_kind.Active x r) c at e = FailsInMemory ((environment_of c).memories x) x r c at e
+
+abbrev pub AddsData : Data Reader → Components → Components → Type 0
+AddsData s c d = AddsPlace s.kind c d
+
+abbrev pub FailsData : Data Reader → Components → ℕ → PayloadError → Type 0
+FailsData s c at e = FailsPlace s.kind c at e
+
+-- Data segments, of which there may not be too many: without a data count section, no limit was checked
+-- before.
+abbrev pub AddsDataSection : Counted → Components → Components → Type 0
+AddsDataSection s c d = (data_fault s.count ≡ None) × AddsItems AddsData (λ features. data_segment (const_expr features)) s.count s.reader c d
+
+-- There are too many at the start of the section; or one of them cannot be added.
+abbrev pub FailsDataSection : Counted → Components → PayloadError → Type 0
+FailsDataSection s c e = FailsAt (data_fault s.count) s.reader.start e ⊎ ((data_fault s.count ≡ None) ×
+    FailsItems AddsData FailsData (λ features. data_segment (const_expr features)) s.count s.reader c e)

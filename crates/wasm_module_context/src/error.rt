@@ -1,4 +1,4 @@
-use wasm_below::Error;
+use wasm_below::{Error, RefType};
 use wasm_check::CheckError;
 use wasm_context::ContextError;
 
@@ -13,4 +13,13 @@ pub enum PayloadError {
     Constant(CheckError),
     /// The table at this offset has no initial value, and its element type has no default.
     NoInitialValue(u64),
+    /// Elements of the active element segment at this offset have a type that does not match the
+    /// element type of the table.
+    ElementType {
+        offset: u64,
+        found: RefType,
+        expected: RefType,
+    },
+    /// A section has this id, which no section has. The offset of its contents.
+    UnknownSection(u8, u64),
 }

@@ -4,6 +4,7 @@
 #![tactic(auto)]
 
 mod constants;
+mod data;
 mod elements;
 mod error;
 mod expressions;

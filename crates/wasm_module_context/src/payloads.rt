@@ -1,5 +1,6 @@
 ghost use Rattle.wasm_module_context.specs.Payloads.{ReadsPayload};
 
+use crate::data::add_data_section;
 use crate::error::PayloadError;
 use crate::items::add_items;
 use std::alloc::Global as Allocator;
@@ -9,8 +10,8 @@ use wasm_payloads::Payload;
 
 /// Adds a payload of a module to its context. Specification: Validation, Modules.
 ///
-/// Payloads that come with or after the code, and custom sections, add nothing. Fails with the error
-/// of the first item that cannot be read or added.
+/// Bodies and custom sections add nothing. Fails with the error of the first item that cannot be read
+/// or added, or of a section with an unknown id.
 pub fn add_payload<'a>(
     alloc: Allocator,
     context: Context,
@@ -39,13 +40,16 @@ pub fn add_payload<'a>(
                 Err(e) => Err(PayloadError::Context(e, range.start)),
             }
         }
+        Payload::UnknownSection { id, contents } => Err(PayloadError::UnknownSection(
+            id,
+            contents.original_position(),
+        )),
+        Payload::DataSection(items) => add_data_section(alloc, context, items),
         Payload::Version { .. }
         | Payload::StartSection { .. }
         | Payload::CodeSectionStart { .. }
         | Payload::CodeSectionEntry(_)
-        | Payload::DataSection(_)
         | Payload::CustomSection(_)
-        | Payload::UnknownSection { .. }
         | Payload::End(_) => Ok(context),
     }
 }

@@ -41,6 +41,12 @@ fn print_error<R: Print>(rt: &R, error: PayloadError) -> io::Result<()> {
         PayloadError::NoInitialValue(offset) => {
             println!(rt; "error at 0x{offset:x}: NoInitialValue")
         }
+        PayloadError::UnknownSection(id, offset) => {
+            println!(rt; "error at 0x{offset:x}: UnknownSection({id})")
+        }
+        PayloadError::ElementType { offset, .. } => {
+            println!(rt; "error at 0x{offset:x}: ElementType")
+        }
         PayloadError::Context(error, offset) => println!(rt; "error at 0x{offset:x}: {error:?}"),
     }
 }

@@ -276,6 +276,17 @@ fn report_section(rt: &HostRuntime, file: &str, error: PayloadError) -> u8 {
             offset,
             "type mismatch: non-defaultable element type must have initialization expression",
         ),
+        PayloadError::UnknownSection(id, offset) => print_outside(
+            rt,
+            file,
+            offset,
+            Reason::Index("malformed section id: ", id as u32, ""),
+        ),
+        PayloadError::ElementType {
+            offset,
+            found,
+            expected,
+        } => print_outside(rt, file, offset, Reason::Elements(found, expected)),
         PayloadError::Context(error, offset) => match error {
             ContextError::OutOfMemory | ContextError::Type(TypeError::OutOfMemory) => {
                 print_memory(rt, file)

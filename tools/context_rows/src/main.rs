@@ -174,8 +174,15 @@ impl Sections {
 fn error(e: &BinaryReaderError) -> String {
     let m = e.message();
     let number = m.split(|c: char| !c.is_ascii_digit()).find(|w| !w.is_empty()).unwrap_or("");
-    if m.starts_with("tables count exceeds") {
-        return "error: Tables".into();
+    if let Some((what, _)) = m.split_once(" count exceeds") {
+        return match what {
+            "tables" => "error: Tables".into(),
+            "data segments" => "error: DataSegments".into(),
+            _ => m.into(),
+        };
+    }
+    if m.ends_with("too many data segments") {
+        return "error: DataSegments".into();
     }
     let name = if m.starts_with("unknown type") {
         format!("UnknownType({number})")
@@ -185,6 +192,24 @@ fn error(e: &BinaryReaderError) -> String {
         "TagResults".into()
     } else if m.contains("non-defaultable element type") {
         "NoInitialValue".into()
+    } else if m.starts_with("invalid start function type") {
+        "StartType".into()
+    } else if m.starts_with("malformed section id") {
+        format!("UnknownSection({number})")
+    } else if m.starts_with("duplicate export name") {
+        "DuplicateExport".into()
+    } else if m.starts_with("shared composite types require") {
+        "Unsupported(SharedType)".into()
+    } else if m.starts_with("shared reference types require") {
+        "Unsupported(SharedReference)".into()
+    } else if m.starts_with("shared tables require") {
+        "Unsupported(SharedTable)".into()
+    } else if m.starts_with("shared globals require") {
+        "Unsupported(SharedGlobal)".into()
+    } else if m.starts_with("cannot define continuation types") {
+        "Unsupported(ContinuationType)".into()
+    } else if m.starts_with("continuation refs not supported") {
+        "Unsupported(ContinuationReference)".into()
     } else if m.contains("invalid element type") {
         "ElementType".into()
     } else if m.starts_with("type mismatch") {
@@ -218,10 +243,14 @@ fn print(bytes: &[u8]) -> Result<()> {
     let mut resources = None;
     for payload in Parser::new(0).parse_all(bytes) {
         let payload = payload?;
-        let constants = matches!(payload, Payload::GlobalSection(_));
+        let constants = matches!(payload, Payload::GlobalSection(_) | Payload::DataSection(_));
         let valid = match validator.payload(&payload) {
             // An operator of a constant expression has no type.
             Err(e) if constants && e.message().starts_with("unknown global") => {
+                println!("error at 0x{:x}: Untyped", e.offset());
+                return Ok(());
+            }
+            Err(e) if constants && e.message().starts_with("undeclared function") => {
                 println!("error at 0x{:x}: Untyped", e.offset());
                 return Ok(());
             }
