@@ -4,7 +4,6 @@
 #![tactic(auto)]
 
 mod arguments;
-mod reason;
 mod reports;
 
 use crate::arguments::{Options, Request, read_request};
