@@ -1,7 +1,7 @@
 //! Function bodies and their locals.
 
 use crate::native::ValueKind;
-use crate::types::val_type;
+use crate::value_types::val_type;
 use crate::{BinaryReader, FromReader, OperatorsReader, Result, SectionLimited, ValType};
 use std::ops::Range;
 

@@ -1,7 +1,7 @@
 //! Types that are read from bytes.
 
 use crate::native::ValueKind;
-use crate::types::{heap_type, ref_type, val_type};
+use crate::value_types::{heap_type, ref_type, val_type};
 use crate::{
     BinaryReader, Catch, Error, Handle, HeapType, RefType, Result, ResumeTable, TryTable, ValType,
 };

@@ -1,7 +1,7 @@
 //! Immediates of operators, except types and lists.
 
 use crate::native::{PlainOperator, PlainValue};
-use crate::types::{ValType, val_type};
+use crate::value_types::{ValType, val_type};
 
 /// The type of a block.
 #[derive(Clone, Copy, Debug, PartialEq, Eq, Hash)]

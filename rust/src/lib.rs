@@ -61,7 +61,7 @@ mod section;
 mod segments;
 mod shapes;
 mod text;
-mod types;
+mod value_types;
 mod visit;
 mod visitor;
 
@@ -112,7 +112,7 @@ pub use segments::{
     Global, GlobalSectionReader, Table, TableInit, TableSectionReader,
 };
 pub use text::{operator_text, operator_text_name};
-pub use types::{AbstractHeapType, HeapType, RefType, ValType};
+pub use value_types::{AbstractHeapType, HeapType, RefType, ValType};
 pub use visitor::{EachVisit, VisitAny, VisitOperator, VisitSimdOperator};
 
 #[doc(inline)]

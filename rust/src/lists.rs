@@ -1,7 +1,7 @@
 //! Lists that operators have. The library reads their members.
 
 use crate::native::{self, PlainHandler, PlainOperator};
-use crate::types::val_type;
+use crate::value_types::val_type;
 use crate::{BinaryReader, BlockType, Result, ValType, WasmFeatures};
 use std::fmt;
 use std::marker::PhantomData;

@@ -3,7 +3,7 @@
 use crate::immediates::{BlockType, Ieee32, Ieee64, MemArg, Ordering, V128};
 use crate::lists::{self, BrTable, ResumeTable, Source, TryTable};
 use crate::native::PlainOperator;
-use crate::types::{HeapType, RefType, ValType, heap_type, ref_type, val_type};
+use crate::value_types::{HeapType, RefType, ValType, heap_type, ref_type, val_type};
 
 /// An operator with its immediates. The comment of each is its name in the text format.
 #[derive(Clone, Debug, PartialEq, Eq)]

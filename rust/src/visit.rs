@@ -3,7 +3,7 @@
 use crate::immediates::{Ieee32, Ieee64, V128};
 use crate::lists::{self, BrTable, Source};
 use crate::native::PlainOperator;
-use crate::types::{heap_type, ref_type, val_type};
+use crate::value_types::{heap_type, ref_type, val_type};
 use crate::visitor::{VisitOperator, VisitSimdOperator};
 
 /// Calls the method of an operator that is not a SIMD operator.
