@@ -68,6 +68,45 @@ pub fn parse_all<'a>(alloc: Global, reader: BinaryReader<'a>) -> Parser<'a>
     }
 }
 
+impl<'a> Parser<'a> {
+    /// Returns the parser of which [`Parser::into_parts`] returned these parts.
+    pub fn from_parts(
+        alloc: Global,
+        reader: BinaryReader<'a>,
+        state: ParserState,
+        order: SectionOrder,
+        counts: SectionCounts,
+    ) -> Parser<'a>
+        ensures { result ≡ record { reader = reader.entry; state = state; order = order; counts = counts } }
+    {
+        Parser {
+            alloc,
+            reader,
+            state,
+            order,
+            counts,
+        }
+    }
+
+    /// Returns the reader before the next payload, what is read next, and the order and the counts of
+    /// the sections so far.
+    pub fn into_parts(self) -> (BinaryReader<'a>, ParserState, SectionOrder, SectionCounts)
+        ensures reader { result.0 ≡ self.entry.reader }
+        ensures state { result.1 ≡ self.entry.state }
+        ensures order { result.2 ≡ self.entry.order }
+        ensures counts { result.3 ≡ self.entry.counts }
+    {
+        let Parser {
+            alloc: _,
+            reader,
+            state,
+            order,
+            counts,
+        } = self;
+        (reader, state, order, counts)
+    }
+}
+
 fn malformed(what: Malformed, offset: u64) -> Error
     ensures { IsMalformed what result offset }
 {
