@@ -9,11 +9,11 @@ use Rattle.wasm_write_grammars.proofs.Owing.{Owes, Only, owes, wrote}
 use Rattle.wasm_write_grammars.proofs.WrittenMembers.{more_parts}
 
 -- A list whose members may allocate has the encodings of one whose members do not.
-to_more : {X : Type 0} (n : ℕ) (g : Grammar X) (xs : List X) (at : ℕ) (text : List ℕ) (v : List X) → Encodes (listed n g xs) at text v → Encodes (more n (thing g) xs) at text v
+pub to_more : {X : Type 0} (n : ℕ) (g : Grammar X) (xs : List X) (at : ℕ) (text : List ℕ) (v : List X) → Encodes (listed n g xs) at text v → Encodes (more n (thing g) xs) at text v
 to_more zero g xs at text v p = p
 to_more (suc n) g xs at text v (first, rest, x, e, p, q) = (first, rest, x, e, p, to_more n g (xs ++ x ∷ []) (at + length first) rest v q)
 
-of_more : {X : Type 0} (n : ℕ) (g : Grammar X) (xs : List X) (at : ℕ) (text : List ℕ) (v : List X) → Encodes (more n (thing g) xs) at text v → Encodes (listed n g xs) at text v
+pub of_more : {X : Type 0} (n : ℕ) (g : Grammar X) (xs : List X) (at : ℕ) (text : List ℕ) (v : List X) → Encodes (more n (thing g) xs) at text v → Encodes (listed n g xs) at text v
 of_more zero g xs at text v p = p
 of_more (suc n) g xs at text v (first, rest, x, e, p, q) = (first, rest, x, e, p, of_more n g (xs ++ x ∷ []) (at + length first) rest v q)
 

@@ -11,3 +11,8 @@ pub mod FlagBytes
 pub mod ExternalSteps
 pub mod LimitSteps
 pub mod ImportSteps
+pub mod TableSteps
+pub mod DataSteps
+pub mod ElementSteps
+pub mod NameSteps
+pub mod ElementForms

@@ -3,3 +3,9 @@ pub mod TypeReasons
 pub mod ItemReasons
 pub mod Flags
 pub mod ExternalReasons
+pub mod SegmentReasons
+pub mod SegmentFlags
+pub mod ListedElements
+pub mod ElementReasons
+pub mod NameReasons
+pub mod ElementLists

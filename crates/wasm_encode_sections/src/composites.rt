@@ -1,3 +1,4 @@
+ghost use Rattle.wasm_types.specs.Types.{inner_type, composite_type};
 ghost use Rattle.wasm_encode_sections.specs.TypeReasons.{InnerReason, CompositeReason};
 
 use crate::write::Write;
@@ -5,7 +6,9 @@ use wasm_below::{Message, WasmFeatures};
 use wasm_types::{CompositeInnerType, CompositeType};
 use wasm_write_grammars::append_byte;
 
-impl<'a> Write<'a> for CompositeInnerType {
+impl Write for CompositeInnerType {
+    ghost grammar = { λ features. inner_type };
+
     ghost reason = { λ features. InnerReason };
 
     fn append_to(&self, features: WasmFeatures, out: &mut Vec<u8>) -> Result<(), Message> {
@@ -35,7 +38,9 @@ impl<'a> Write<'a> for CompositeInnerType {
 }
 
 /// A shared type follows the byte 0x65.
-impl<'a> Write<'a> for CompositeType {
+impl Write for CompositeType {
+    ghost grammar = { λ features. composite_type };
+
     ghost reason = { λ features. CompositeReason };
 
     fn append_to(&self, features: WasmFeatures, out: &mut Vec<u8>) -> Result<(), Message> {

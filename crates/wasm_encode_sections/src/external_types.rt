@@ -1,3 +1,5 @@
+ghost use Rattle.wasm_externals.specs.Globals.{global_type, tag_type};
+ghost use Rattle.wasm_externals.specs.Externals.{external_kind};
 ghost use Rattle.wasm_write_grammars.specs.Writing.{NoReason};
 
 use crate::flags::flag_byte;
@@ -6,7 +8,9 @@ use wasm_below::{Message, WasmFeatures};
 use wasm_externals::{ExternalKind, GlobalType, TagType};
 use wasm_write_grammars::{append_byte, append_u32};
 
-impl<'a> Write<'a> for ExternalKind {
+impl Write for ExternalKind {
+    ghost grammar = { λ features. external_kind };
+
     ghost reason = { λ features. NoReason };
 
     fn append_to(&self, _features: WasmFeatures, out: &mut Vec<u8>) -> Result<(), Message> {
@@ -20,7 +24,9 @@ impl<'a> Write<'a> for ExternalKind {
     }
 }
 
-impl<'a> Write<'a> for GlobalType {
+impl Write for GlobalType {
+    ghost grammar = { λ features. global_type };
+
     ghost reason = { λ features. NoReason };
 
     fn append_to(&self, features: WasmFeatures, out: &mut Vec<u8>) -> Result<(), Message> {
@@ -30,7 +36,9 @@ impl<'a> Write<'a> for GlobalType {
     }
 }
 
-impl<'a> Write<'a> for TagType {
+impl Write for TagType {
+    ghost grammar = { λ features. tag_type };
+
     ghost reason = { λ features. NoReason };
 
     fn append_to(&self, _features: WasmFeatures, out: &mut Vec<u8>) -> Result<(), Message> {

@@ -1,4 +1,4 @@
-ghost use Rattle.wasm_types.specs.Types.{mutability};
+ghost use Rattle.wasm_types.specs.Types.{mutability, storage_type, field_type, array_type, struct_type};
 ghost use Rattle.wasm_write_grammars.specs.Writing.{AppendsBy, NoReason};
 ghost use Rattle.wasm_encode_sections.specs.TypeReasons.{StructReason};
 
@@ -10,7 +10,9 @@ use wasm_write_grammars::append_byte;
 
 const MAX_STRUCT_FIELDS: usize = 10000;
 
-impl<'a> Write<'a> for StorageType {
+impl Write for StorageType {
+    ghost grammar = { λ features. storage_type };
+
     ghost reason = { λ features. NoReason };
 
     fn append_to(&self, features: WasmFeatures, out: &mut Vec<u8>) -> Result<(), Message> {
@@ -31,7 +33,9 @@ fn append_mutability(out: &mut Vec<u8>, mutable: bool) -> Result<(), Message>
     append_byte(out, 0)
 }
 
-impl<'a> Write<'a> for FieldType {
+impl Write for FieldType {
+    ghost grammar = { λ features. field_type };
+
     ghost reason = { λ features. NoReason };
 
     fn append_to(&self, features: WasmFeatures, out: &mut Vec<u8>) -> Result<(), Message> {
@@ -41,7 +45,9 @@ impl<'a> Write<'a> for FieldType {
     }
 }
 
-impl<'a> Write<'a> for ArrayType {
+impl Write for ArrayType {
+    ghost grammar = { λ features. array_type };
+
     ghost reason = { λ features. NoReason };
 
     fn append_to(&self, features: WasmFeatures, out: &mut Vec<u8>) -> Result<(), Message> {
@@ -50,7 +56,9 @@ impl<'a> Write<'a> for ArrayType {
     }
 }
 
-impl<'a> Write<'a> for StructType {
+impl Write for StructType {
+    ghost grammar = { λ features. struct_type };
+
     ghost reason = { λ features. StructReason };
 
     fn append_to(&self, features: WasmFeatures, out: &mut Vec<u8>) -> Result<(), Message> {

@@ -1,3 +1,4 @@
+ghost use Rattle.wasm_types.specs.Types.{func_type, cont_type};
 ghost use Rattle.wasm_encode_sections.specs.TypeReasons.{FuncReason, ContReason};
 
 use crate::lists::append_list;
@@ -12,7 +13,9 @@ const MAX_RESULTS: usize = 1000;
 
 const MAX_TYPE_INDEX: u32 = 1048575;
 
-impl<'a> Write<'a> for FuncType {
+impl Write for FuncType {
+    ghost grammar = { λ features. func_type };
+
     ghost reason = { λ features. FuncReason };
 
     fn append_to(&self, features: WasmFeatures, out: &mut Vec<u8>) -> Result<(), Message> {
@@ -34,7 +37,9 @@ impl<'a> Write<'a> for FuncType {
     }
 }
 
-impl<'a> Write<'a> for ContType {
+impl Write for ContType {
+    ghost grammar = { λ features. cont_type };
+
     ghost reason = { λ features. ContReason };
 
     fn append_to(&self, _features: WasmFeatures, out: &mut Vec<u8>) -> Result<(), Message> {

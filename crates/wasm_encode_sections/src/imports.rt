@@ -1,4 +1,4 @@
-ghost use Rattle.wasm_externals.specs.Externals.{external_kind};
+ghost use Rattle.wasm_externals.specs.Externals.{external_kind, type_ref, import};
 ghost use Rattle.wasm_encode_sections.specs.ExternalReasons.{RefReason, ImportReason};
 ghost use Rattle.wasm_write_grammars.specs.Writing.{AppendsBy, NoReason};
 
@@ -14,7 +14,9 @@ fn append_kind(out: &mut Vec<u8>, features: WasmFeatures, kind: ExternalKind) ->
     kind.append_to(features, out)
 }
 
-impl<'a> Write<'a> for TypeRef {
+impl Write for TypeRef {
+    ghost grammar = { type_ref };
+
     ghost reason = { RefReason };
 
     fn append_to(&self, features: WasmFeatures, out: &mut Vec<u8>) -> Result<(), Message> {
@@ -48,7 +50,9 @@ impl<'a> Write<'a> for TypeRef {
     }
 }
 
-impl<'a> Write<'a> for Import<'a> {
+impl<'a> Write for Import<'a> {
+    ghost grammar = { import };
+
     ghost reason = { ImportReason };
 
     fn append_to(&self, features: WasmFeatures, out: &mut Vec<u8>) -> Result<(), Message> {

@@ -5,6 +5,8 @@
 #![tactic(auto)]
 
 mod composites;
+mod data;
+mod elements;
 mod external_types;
 mod fields;
 mod flags;
@@ -12,11 +14,15 @@ mod functions;
 mod imports;
 mod limits;
 mod lists;
+mod names;
 mod parts;
 mod recursive;
+mod tables;
 mod texts;
 mod value_types;
 mod write;
 
+pub use elements::{ListedElement, ListedItems, listed_elements};
 pub use lists::{append_items, append_list};
+pub use names::ListedNaming;
 pub use write::{Write, write_value};

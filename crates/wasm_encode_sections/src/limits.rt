@@ -1,6 +1,6 @@
 ghost use Rattle.std.specs.Prelude.{◌≡◌, is_some};
 ghost use Rattle.wasm_externals.specs.Flags.{has_flag};
-ghost use Rattle.wasm_externals.specs.Limits.{address, maximum, page_size};
+ghost use Rattle.wasm_externals.specs.Limits.{address, maximum, page_size, table_type, memory_type};
 ghost use Rattle.wasm_encode_sections.specs.ExternalReasons.{AddressReason, MaximumReason, PageReason, TableReason, MemoryReason};
 ghost use Rattle.wasm_write_grammars.specs.Writing.{AppendsBy};
 
@@ -61,7 +61,9 @@ fn append_page_size(out: &mut Vec<u8>, flags: u8, log2: Option<u32>) -> Result<(
     }
 }
 
-impl<'a> Write<'a> for TableType {
+impl Write for TableType {
+    ghost grammar = { table_type };
+
     ghost reason = { TableReason };
 
     fn append_to(&self, features: WasmFeatures, out: &mut Vec<u8>) -> Result<(), Message> {
@@ -74,7 +76,9 @@ impl<'a> Write<'a> for TableType {
     }
 }
 
-impl<'a> Write<'a> for MemoryType {
+impl Write for MemoryType {
+    ghost grammar = { memory_type };
+
     ghost reason = { MemoryReason };
 
     fn append_to(&self, features: WasmFeatures, out: &mut Vec<u8>) -> Result<(), Message> {

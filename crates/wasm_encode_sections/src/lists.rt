@@ -10,7 +10,7 @@ use wasm_below::{Message, NumberName, SizeName, WasmFeatures};
 use wasm_write_grammars::{append_size, append_u32};
 
 /// Appends each member.
-fn append_each<'a, T: Write<'a>>(
+fn append_each<T: Write>(
     out: &mut Vec<u8>,
     features: WasmFeatures,
     members: &[T],
@@ -28,7 +28,7 @@ fn append_each<'a, T: Write<'a>>(
 ///
 /// Fails with `SizeOutOfBounds` if there are more than `limit`, or like the first member that fails.
 /// Then bytes may have been appended.
-pub fn append_list<'a, T: Write<'a>>(
+pub fn append_list<T: Write>(
     out: &mut Vec<u8>,
     features: WasmFeatures,
     limit: usize,
@@ -48,7 +48,7 @@ pub fn append_list<'a, T: Write<'a>>(
 ///
 /// Fails with `IntegerTooLarge` for 2^32 items or more, or like the first item that fails. Then bytes
 /// may have been appended.
-pub fn append_items<'a, T: Write<'a>>(
+pub fn append_items<T: Write>(
     out: &mut Vec<u8>,
     features: WasmFeatures,
     members: &[T],

@@ -1,5 +1,5 @@
 ghost use Rattle.std.specs.Prelude.{◌≡◌};
-ghost use Rattle.wasm_types.specs.Types.{supertype};
+ghost use Rattle.wasm_types.specs.Types.{supertype, sub_type, rec_group};
 ghost use Rattle.wasm_write_grammars.specs.Writing.{AppendsBy};
 ghost use Rattle.wasm_encode_sections.specs.Subtypes.{is_plain, sub_byte};
 ghost use Rattle.wasm_encode_sections.specs.TypeReasons.{SuperReason, SubReason, GroupReason};
@@ -53,7 +53,9 @@ fn sub_byte(is_final: bool) -> u8
 }
 
 /// A final type without a supertype is written as its composite type alone.
-impl<'a> Write<'a> for SubType {
+impl Write for SubType {
+    ghost grammar = { λ features. sub_type };
+
     ghost reason = { λ features. SubReason };
 
     fn append_to(&self, features: WasmFeatures, out: &mut Vec<u8>) -> Result<(), Message> {
@@ -68,7 +70,9 @@ impl<'a> Write<'a> for SubType {
     }
 }
 
-impl<'a> Write<'a> for RecGroup {
+impl Write for RecGroup {
+    ghost grammar = { λ features. rec_group };
+
     ghost reason = { λ features. GroupReason };
 
     fn append_to(&self, features: WasmFeatures, out: &mut Vec<u8>) -> Result<(), Message> {

@@ -1,3 +1,5 @@
+ghost use Rattle.wasm_externals.specs.Externals.{export};
+ghost use Rattle.wasm_externals.specs.Texts.{text};
 ghost use Rattle.wasm_encode_sections.specs.ExternalReasons.{TextReason, ExportReason};
 
 use crate::write::Write;
@@ -7,7 +9,9 @@ use wasm_write_grammars::{append_bytes, append_u32};
 
 const MAX_TEXT_SIZE: usize = 100_000;
 
-impl<'a> Write<'a> for Text<'a> {
+impl<'a> Write for Text<'a> {
+    ghost grammar = { λ features. text };
+
     ghost reason = { λ features. TextReason };
 
     fn append_to(&self, _features: WasmFeatures, out: &mut Vec<u8>) -> Result<(), Message> {
@@ -21,7 +25,9 @@ impl<'a> Write<'a> for Text<'a> {
     }
 }
 
-impl<'a> Write<'a> for Export<'a> {
+impl<'a> Write for Export<'a> {
+    ghost grammar = { λ features. export };
+
     ghost reason = { λ features. ExportReason };
 
     fn append_to(&self, features: WasmFeatures, out: &mut Vec<u8>) -> Result<(), Message> {

@@ -1,12 +1,15 @@
 ghost use Rattle.wasm_below.specs.declared.features.WasmFeatures.{WasmFeatures};
 ghost use Rattle.wasm_below.specs.declared.message.Message.{Message};
+ghost use Rattle.wasm_grammars.specs.Grammar.{Grammar};
 ghost use Rattle.wasm_write_grammars.specs.Writing.{AppendsBy, WritesBy};
 
 use wasm_below::{Message, WasmFeatures};
-use wasm_grammars::Read;
 
-/// A type that is written by the grammar that reads it.
-pub trait Write<'a>: Read<'a> {
+/// A type that is written by a grammar, which may depend on the features. If the type implements
+/// `Read`, it is the same grammar.
+pub trait Write: Sized {
+    ghost grammar: { WasmFeatures → Grammar Self };
+
     // Why a value has no encoding under the features, and the message of the error.
     ghost reason: { WasmFeatures → Self → Message → Type 0 };
 
@@ -14,11 +17,11 @@ pub trait Write<'a>: Read<'a> {
     ///
     /// On `Err`, a part of the encoding may have been appended; `write_value` removes it.
     fn append_to(&self, features: WasmFeatures, out: &mut Vec<u8>) -> Result<(), Message>
-        ensures { AppendsBy (Self.grammar features) (reason features) self.now result out.old.items out.new.items };
+        ensures { AppendsBy (grammar features) (reason features) self.now result out.old.items out.new.items };
 }
 
 /// Appends the shortest encoding of a value under the features. On `Err`, nothing is appended.
-pub fn write_value<'a, T: Write<'a>>(
+pub fn write_value<T: Write>(
     value: &T,
     features: WasmFeatures,
     out: &mut Vec<u8>,

@@ -17,6 +17,7 @@ mod subtypes;
 mod tables;
 mod types;
 mod written;
+mod written_names;
 
 fn main(rt: HostRuntime) -> io::Result<ExitCode> {
     let table = match io::read_to_string(rt.alloc(), rt.reader()) {

@@ -9,12 +9,12 @@ use Rattle.wasm_encode_sections.proofs.lists.append_each.Goals as goal
 
 pub loop-member-init : goal.loop-member-init
 loop-member-init g c =
-    let item = thing (g.T.Read.grammar c.args.features) in
+    let item = thing (g.T.Write.grammar c.args.features) in
     members_begin item (length c.args.members.now) (owes (more (length c.args.members.now) item []) c.args.members.now c.args.out.now.items)
 
 pub returns-in_err-append_to : goal.returns-in_err-append_to
 returns-in_err-append_to g c =
-    let item = thing (g.T.Read.grammar c.args.features) in
+    let item = thing (g.T.Write.grammar c.args.features) in
     let xs = c.args.members.now in
     let i = c.loop-member.member-index in
     let x = c.member-item.result in
@@ -28,7 +28,7 @@ returns-in_err-append_to g c =
 
 pub loop-member-preserved : goal.loop-member-preserved
 loop-member-preserved g c =
-    let item = thing (g.T.Read.grammar c.args.features) in
+    let item = thing (g.T.Write.grammar c.args.features) in
     let xs = c.args.members.now in
     let i = c.loop-member.member-index in
     let next : take (i + 1) xs ≡ take i xs ++ c.member-item.result ∷ [] = search (rules, take_more) in
@@ -36,7 +36,7 @@ loop-member-preserved g c =
 
 pub returns : goal.returns
 returns g c =
-    let item = thing (g.T.Read.grammar c.args.features) in
+    let item = thing (g.T.Write.grammar c.args.features) in
     let xs = c.args.members.now in
     let i = c.loop-member.member-index in
     let all : i ≡ length xs = omega arith in
