@@ -191,7 +191,63 @@ enum wasm_refused {
   WASM_REFUSED_COUNTS_DIFFER = 109, /* of bodies and functions */
   WASM_REFUSED_NO_FUNCTION = 110, /* the module defines none with the index */
   WASM_REFUSED_NO_BODY = 111, /* all bodies were read */
-  WASM_REFUSED_NOT_WRITABLE = 112 /* no bytes encode a value with these fields */
+  WASM_REFUSED_NOT_WRITABLE = 112, /* no bytes encode a value with these fields */
+  WASM_REFUSED_NO_ITEM = 114 /* all parts of a module, or all items of a list, were read */
+};
+
+/* The parts of a module. Up to 127 it is the id of a section; an id that is not listed has no meaning. */
+enum wasm_payload_kind {
+  WASM_PAYLOAD_CUSTOM_SECTION = 0, /* name: its name; items: its data */
+  WASM_PAYLOAD_TYPE_SECTION = 1, /* items: groups of types */
+  WASM_PAYLOAD_IMPORT_SECTION = 2, /* items: imports */
+  WASM_PAYLOAD_FUNCTION_SECTION = 3, /* items: indices of types */
+  WASM_PAYLOAD_TABLE_SECTION = 4, /* items: tables */
+  WASM_PAYLOAD_MEMORY_SECTION = 5, /* items: memories */
+  WASM_PAYLOAD_GLOBAL_SECTION = 6, /* items: globals */
+  WASM_PAYLOAD_EXPORT_SECTION = 7, /* items: exports */
+  WASM_PAYLOAD_START_SECTION = 8, /* number: the index of the function */
+  WASM_PAYLOAD_ELEMENT_SECTION = 9, /* items: element segments */
+  WASM_PAYLOAD_CODE_SECTION = 10, /* number: how many bodies there are, which are the next parts */
+  WASM_PAYLOAD_DATA_SECTION = 11, /* items: data segments */
+  WASM_PAYLOAD_DATA_COUNT_SECTION = 12, /* number: how many data segments there are */
+  WASM_PAYLOAD_TAG_SECTION = 13, /* items: tags */
+  WASM_PAYLOAD_VERSION = 256, /* the preamble; number: the version, 1 */
+  WASM_PAYLOAD_BODY = 257, /* a function body, without its size */
+  WASM_PAYLOAD_END = 258 /* the end of the module */
+};
+
+/* The subsections of the custom section `name`, by what they name. Locals, labels and fields are named in maps of maps. */
+enum wasm_names_kind {
+  WASM_NAMES_MODULE = 0,
+  WASM_NAMES_FUNCTIONS = 1,
+  WASM_NAMES_LOCALS = 2,
+  WASM_NAMES_LABELS = 3,
+  WASM_NAMES_TYPES = 4,
+  WASM_NAMES_TABLES = 5,
+  WASM_NAMES_MEMORIES = 6,
+  WASM_NAMES_GLOBALS = 7,
+  WASM_NAMES_ELEMENTS = 8,
+  WASM_NAMES_DATA = 9,
+  WASM_NAMES_FIELDS = 10,
+  WASM_NAMES_TAGS = 11
+};
+
+/* What a module imports or exports. */
+enum wasm_external_kind {
+  WASM_EXTERNAL_FUNC = 0,
+  WASM_EXTERNAL_TABLE = 1,
+  WASM_EXTERNAL_MEMORY = 2,
+  WASM_EXTERNAL_GLOBAL = 3,
+  WASM_EXTERNAL_TAG = 4
+};
+
+/* May be combined with |. */
+enum wasm_external_flag {
+  WASM_EXTERNAL_MAXIMUM = 1, /* a table or memory has a maximum */
+  WASM_EXTERNAL_SHARED = 2, /* between threads */
+  WASM_EXTERNAL_64 = 4, /* indices of a table or addresses of a memory are of type i64 */
+  WASM_EXTERNAL_PAGE_SIZE = 8, /* a memory has a page size */
+  WASM_EXTERNAL_MUTABLE = 16 /* a global is mutable */
 };
 
 /* The opcode, or the subopcode plus 65536 times the prefix byte. TypedSelect has the shape SELECT_MANY if it has no
@@ -936,6 +992,87 @@ typedef struct wasm_body {
   uint32_t type_index;
 } wasm_body;
 
+/* Some bytes of a module: 16 bytes without padding. */
+typedef struct wasm_range {
+  uint64_t offset; /* of the first byte in the module */
+  uint64_t length; /* in bytes */
+} wasm_range;
+
+/* The items of a list that are left: 24 bytes without padding. A call that reads an item advances it. It may be copied. */
+typedef struct wasm_items {
+  uint64_t offset; /* of the next item in the module */
+  uint64_t length; /* the number of bytes left */
+  uint32_t count; /* the number of items left */
+  uint32_t features; /* by which they are read */
+} wasm_items;
+
+/* A place between the parts of a module: 40 bytes without padding. Before the first part, all fields are 0 but
+ * `features`; wasm_next_payload advances it. It may be copied. */
+typedef struct wasm_parser {
+  uint64_t position; /* the number of bytes read */
+  uint32_t features;
+  uint32_t bodies; /* the number of bodies left */
+  uint32_t size; /* their size in bytes */
+  uint32_t function_count; /* what was read of the counts that must agree */
+  uint32_t body_count;
+  uint32_t segment_count;
+  uint32_t data_count;
+  uint8_t state; /* next is: 0 the preamble, 1 a section, 2 a body, 3 nothing */
+  uint8_t last; /* the place of the last section in the order of sections */
+  uint8_t counted; /* which counts were read: 1, 2, 4, 8 in the order above */
+  uint8_t reserved; /* 0 */
+} wasm_parser;
+
+/* A part of a module: 64 bytes without padding. `enum wasm_payload_kind` says which fields have a meaning; the others
+ * are 0. */
+typedef struct wasm_payload {
+  wasm_range range; /* the contents of a section, or the bytes of another part */
+  wasm_range name; /* of a custom section, in UTF-8 */
+  wasm_items items; /* of a section: the calls that read items take a pointer to it, or to a copy */
+  uint32_t kind; /* enum wasm_payload_kind */
+  uint32_t number;
+} wasm_payload;
+
+/* The type of a function, table, memory, global or tag: 40 bytes without padding. Fields without a meaning are 0. */
+typedef struct wasm_external {
+  uint64_t initial; /* the number of elements of a table, or of pages of a memory, at the start */
+  uint64_t maximum; /* their greatest number, with the flag */
+  wasm_type ty; /* of a table's elements, or of a global's value */
+  uint32_t kind; /* enum wasm_external_kind */
+  uint32_t index; /* of a function or tag: the index of its type */
+  uint32_t flags; /* enum wasm_external_flag */
+  uint32_t page_size_log2; /* the logarithm to base 2 of the page size in bytes, with the flag */
+} wasm_external;
+
+/* An import: 72 bytes without padding. The names are UTF-8. */
+typedef struct wasm_import {
+  wasm_range module;
+  wasm_range name;
+  wasm_external ty;
+} wasm_import;
+
+/* An export: 24 bytes without padding. */
+typedef struct wasm_export {
+  wasm_range name; /* in UTF-8 */
+  uint32_t kind; /* enum wasm_external_kind */
+  uint32_t index; /* of what is exported */
+} wasm_export;
+
+/* A subsection of the custom section `name`: 48 bytes without padding. */
+typedef struct wasm_names {
+  wasm_range range; /* WASM_NAMES_MODULE: the name; a kind that is not listed: the contents; else no bytes */
+  wasm_items items; /* the names of a map */
+  uint32_t kind; /* enum wasm_names_kind */
+  uint32_t reserved; /* 0 */
+} wasm_names;
+
+/* A name of a map of names: 24 bytes without padding. */
+typedef struct wasm_naming {
+  wasm_range name; /* in UTF-8 */
+  uint32_t index; /* of what is named */
+  uint32_t reserved; /* 0 */
+} wasm_naming;
+
 /* Returns the version of the library, which is WASM_OPERATORS_VERSION in its header. */
 uint32_t wasm_operators_version(void);
 
@@ -1094,6 +1231,43 @@ uint32_t wasm_next_body(const uint8_t *bytes, size_t bytes_length, wasm_bodies *
  * May allocate. */
 uint32_t wasm_function_name(const uint8_t *bytes, size_t bytes_length, uint32_t index, uint8_t *name,
                             size_t name_length, size_t *length, wasm_refusal *refusal);
+
+/* Reads the next part of the module `bytes`: its preamble, then each section, each body after the start of a code
+ * section, and its end. Checks the preamble, the sizes of sections and bodies, the order of sections, and the counts of
+ * functions, bodies and data segments, which must agree; not the items. Does not allocate.
+ *
+ * Fails with WASM_REFUSED_NO_ITEM after the end, with WASM_REFUSED_NOT_A_READER if `parser` cannot be a place in these
+ * bytes or has an unknown feature, and like wasmparser's Parser, mostly with WASM_REFUSED_MALFORMED or
+ * WASM_REFUSED_END_OF_DATA. */
+uint32_t wasm_next_payload(const uint8_t *bytes, size_t bytes_length, wasm_parser *parser, wasm_payload *payload,
+                           wasm_refusal *refusal);
+
+/* Reads the next import of an import section, whose `items` wasm_next_payload has set. `bytes` are the module, as for all
+ * calls with `items`. Does not allocate.
+ *
+ * Fails with WASM_REFUSED_NO_ITEM after the last item, with WASM_REFUSED_DATA_AFTER_SECTION if data is left after it,
+ * with WASM_REFUSED_NOT_A_READER if `items` cannot be in these bytes or have an unknown feature, and with the error of the
+ * item. */
+uint32_t wasm_next_import(const uint8_t *bytes, size_t bytes_length, wasm_items *items, wasm_import *import,
+                          wasm_refusal *refusal);
+
+/* Reads the next export of an export section, like wasm_next_import. */
+uint32_t wasm_next_export(const uint8_t *bytes, size_t bytes_length, wasm_items *items, wasm_export *exported,
+                          wasm_refusal *refusal);
+
+/* Reads the next index of a list, like wasm_next_import: in the function section, the index of a function's type. */
+uint32_t wasm_next_index(const uint8_t *bytes, size_t bytes_length, wasm_items *items, uint32_t *index,
+                         wasm_refusal *refusal);
+
+/* Reads the next subsection of the custom section `name`, whose data are `items`. Does not allocate. Fails with
+ * WASM_REFUSED_NO_ITEM after the last subsection, with the error of the subsection, and with WASM_REFUSED_NOT_A_READER
+ * like wasm_next_import. */
+uint32_t wasm_next_names(const uint8_t *bytes, size_t bytes_length, wasm_items *items, wasm_names *names,
+                         wasm_refusal *refusal);
+
+/* Reads the next name of a map, such as the names of functions, like wasm_next_import. */
+uint32_t wasm_next_name(const uint8_t *bytes, size_t bytes_length, wasm_items *items, wasm_naming *naming,
+                        wasm_refusal *refusal);
 
 /* Returns the proposal that added an operator, or -1 if no operator has its number. */
 static inline int wasm_operator_proposal(const wasm_operator *op) {
@@ -1825,6 +1999,8 @@ static inline const char *wasm_c_error_text(uint32_t number) {
       return "all bodies were read";
     case WASM_REFUSED_NOT_WRITABLE:
       return "no bytes encode a value with these fields";
+    case WASM_REFUSED_NO_ITEM:
+      return "all parts or items were read";
     default:
       return NULL;
   }

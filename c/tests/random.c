@@ -206,6 +206,70 @@ static void try_locals(const uint8_t *bytes, size_t length) {
   require(memcmp(out + reader.position, bytes, operators) == 0 && reader.position + operators == written, "wasm_encode_body");
 }
 
+static int is_within(wasm_range range, size_t length) { return range.offset <= length && range.length <= length - range.offset; }
+
+/* Reads the items of a list as imports, exports, indices, names or subsections. */
+static void try_items(const uint8_t *bytes, size_t length, wasm_items items) {
+  uint64_t what = below(5);
+  uint32_t refused = 0;
+  if (below(8) == 0) fill(&items, sizeof items);
+  for (int i = 0; i < 9 && refused == 0; i++) {
+    wasm_items before = items;
+    wasm_import import;
+    wasm_export exported;
+    wasm_naming naming;
+    wasm_names names;
+    uint32_t index;
+    wasm_refusal refusal;
+    int within = 1;
+    switch (what) {
+      case 0:
+        refused = wasm_next_import(bytes, length, &items, &import, &refusal);
+        if (refused == 0) within = is_within(import.module, length) && is_within(import.name, length);
+        break;
+      case 1:
+        refused = wasm_next_export(bytes, length, &items, &exported, &refusal);
+        if (refused == 0) within = is_within(exported.name, length);
+        break;
+      case 2:
+        refused = wasm_next_index(bytes, length, &items, &index, &refusal);
+        break;
+      case 3:
+        refused = wasm_next_name(bytes, length, &items, &naming, &refusal);
+        if (refused == 0) within = is_within(naming.name, length);
+        break;
+      default:
+        refused = wasm_next_names(bytes, length, &items, &names, &refusal);
+        if (refused == 0) within = is_within(names.range, length);
+    }
+    require(refused == 0 ? within && items.offset > before.offset : memcmp(&before, &items, sizeof items) == 0, "an item");
+  }
+}
+
+static void try_parts(const uint8_t *bytes, size_t length) {
+  wasm_parser parser, before;
+  wasm_payload part, kept;
+  wasm_refusal refusal;
+  memset(&parser, 0, sizeof parser);
+  if (below(4) == 0) {
+    fill(&parser, sizeof parser);
+    parser.position = below(length + 2);
+  }
+  parser.features = (uint32_t)below(WASM_FEATURES_ALL + 2);
+  fill(&part, sizeof part);
+  uint32_t refused = 0;
+  for (int i = 0; i < 9 && refused == 0; i++) {
+    before = parser;
+    kept = part;
+    refused = wasm_next_payload(bytes, length, &parser, &part, &refusal);
+    int same = memcmp(&before, &parser, sizeof parser) == 0 && memcmp(&kept, &part, sizeof part) == 0;
+    /* (the data may lack the end of a code section) */
+    int whole = part.kind == WASM_PAYLOAD_CODE_SECTION || is_within(part.range, length);
+    require(refused == 0 ? whole && is_within(part.name, length) : same, "wasm_next_payload");
+    if (refused == 0) try_items(bytes, length, part.items);
+  }
+}
+
 int main(int argc, char **argv) {
   if (argc < 3) {
     fprintf(stderr, "usage: random CALLS MODULE..\n");
@@ -225,6 +289,7 @@ int main(int argc, char **argv) {
     try_reader(bytes, length);
     try_encoding(bytes, length);
     try_locals(bytes, length);
+    try_parts(bytes, length);
   }
   printf("%lu times each call on random bytes\n", calls);
   return 0;

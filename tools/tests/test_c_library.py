@@ -13,11 +13,12 @@ def words(text):
 
 
 class Exports(unittest.TestCase):
-    library = exports.LIBRARY.read_text(encoding="utf-8")
+    sources = exports.sources()
+    library = "".join(sources.values())
     written = (TOP / exports.EXPORTS).read_text(encoding="utf-8")
 
     def test_they_are_the_functions_of_the_library(self):
-        self.assertEqual(words(self.written), words(exports.exports_of(self.library)))
+        self.assertEqual(words(self.written), words(exports.exports_of(self.sources)))
 
     def test_each_calls_its_function(self):
         _, *parts = self.written.split('#[unsafe(no_mangle)]\npub extern "C" fn ')
@@ -26,7 +27,12 @@ class Exports(unittest.TestCase):
             name, parameters = part.split(")")[0].split("(")
             arguments = [it.split(":")[0].strip() for it in parameters.split(",") if it.strip()]
             body = part.split("\n{\n")[1].split("\n}\n")[0]
-            self.assertEqual(words(body), words(f"wasm_c::{name}({', '.join(arguments)})"), name)
+            crate = next(crate for crate, text in self.sources.items() if f"pub fn {name}(" in text)
+            self.assertEqual(words(body), words(f"{crate}::{name}({', '.join(arguments)})"), name)
+
+    def test_imports_from_one_module_are_one(self):
+        texts = ["ghost use A.B.{x, y};\n", "ghost use A.B.{y, z};\nghost use A.C.{x};\n"]
+        self.assertEqual(exports.ghosts_of(texts), "ghost use A.B.{x, y, z};\nghost use A.C.{x};\n")
 
     def test_the_header_declares_them(self):
         header = (TOP / "c/include/wasm_operators.h").read_text(encoding="utf-8")

@@ -7,7 +7,7 @@ from shared.crates import TOP
 
 HEADER = re.sub(r"/\*.*?\*/", "", (TOP / "c/include/wasm_operators.h").read_text(encoding="utf-8"), flags=re.S)
 NATIVE = re.sub(r"//.*", "", (TOP / "rust/src/native.rs").read_text(encoding="utf-8"))
-FILES = [path for name in ("wasm_view", "wasm_encode_view", "wasm_c", "wasm_module") for path in TOP.glob(f"crates/{name}/src/**/*.rt")]
+FILES = [path for name in ("wasm_view", "wasm_encode_view", "wasm_c", "wasm_c_sections", "wasm_module") for path in TOP.glob(f"crates/{name}/src/**/*.rt")]
 RATTLE = "\n".join(path.read_text(encoding="utf-8") for path in FILES)
 INTEGERS = {f"uint{width}_t": f"u{width}" for width in (8, 16, 32, 64)} | {"size_t": "usize"}
 # The structs of the header, with their names in Rust.
@@ -16,12 +16,28 @@ STRUCTS = {
     "wasm_handler": "PlainHandler", "wasm_value": "PlainValue", "wasm_bodies": "PlainBodies", "wasm_body": "PlainBody",
     "wasm_locals": "PlainLocals",
 }
+# The structs of wasm_c_sections. The cargo crate has a parser in Rust.
+STRUCTS_OF_C = {
+    name: "".join(part.capitalize() for part in name.split("_"))
+    for name in (
+        "wasm_range",
+        "wasm_items",
+        "wasm_parser",
+        "wasm_payload",
+        "wasm_external",
+        "wasm_import",
+        "wasm_export",
+        "wasm_names",
+        "wasm_naming",
+    )
+}
+ALL = STRUCTS | STRUCTS_OF_C
 
 
 def in_rust(text):
     """Returns a type of C in Rust."""
     is_const, name, star = re.fullmatch(r"(const )?(\w+) ?(\*)?", text).groups()
-    kind = INTEGERS.get(name) or STRUCTS[name]
+    kind = INTEGERS.get(name) or ALL[name]
     return f"*{'const' if is_const else 'mut'} {kind}" if star else kind
 
 
@@ -42,7 +58,7 @@ def fields_of_c(name):
     found = re.findall(r"(\w+) (\w+)(?:\[(\d+)\])?;", body)
     out = []
     for kind, field, count in found:
-        if kind in STRUCTS:
+        if kind in ALL:
             out += within(field, fields_of_c(kind))
         else:
             out.append((field, f"[{INTEGERS[kind]}; {count}]" if count else INTEGERS[kind]))
@@ -71,14 +87,15 @@ def calls_of_rust():
 
 class Layouts(unittest.TestCase):
     def test_structs(self):
-        self.assertEqual(set(STRUCTS), set(re.findall(r"typedef struct (\w+)", HEADER)))
-        for name, rust in STRUCTS.items():
+        self.assertEqual(set(ALL), set(re.findall(r"typedef struct (\w+)", HEADER)))
+        for name in ALL:
             fields = fields_of_c(name)
-            self.assertEqual(fields, fields_of_rust(NATIVE, rust), name)
+            if name in STRUCTS:
+                self.assertEqual(fields, fields_of_rust(NATIVE, STRUCTS[name]), name)
             self.assertEqual(fields, fields_of_rust(RATTLE, in_rattle(name)), name)
 
     def test_no_padding(self):
-        for name in STRUCTS:
+        for name in ALL:
             at = 0
             for field, kind in fields_of_c(name):
                 width, count = re.fullmatch(r"\[?u(\d+)(?:; (\d+)\])?", kind).groups()
@@ -91,5 +108,6 @@ class Layouts(unittest.TestCase):
         self.assertEqual(set(in_rust) - set(in_c), set())
         for name, call in in_rust.items():
             self.assertEqual(call, in_c[name], name)
-        # (the crate knows the names of operators)
-        self.assertEqual(set(in_c) - set(in_rust), {"wasm_operator_name"})
+        # (the crate knows the names of operators, and has a parser in Rust)
+        of_sections = {name for name, (kinds, _) in in_c.items() if any(struct in kind for kind in kinds for struct in ("WasmItems", "WasmParser"))}
+        self.assertEqual(set(in_c) - set(in_rust), {"wasm_operator_name"} | of_sections)

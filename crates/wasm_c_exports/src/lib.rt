@@ -1,7 +1,7 @@
-//! The calls of `wasm_c`, exported to C. Each export calls the function of `wasm_c` of the same name, with the
-//! same arguments.
+//! The calls of `wasm_c` and `wasm_c_sections`, exported to C. Each export calls the function of the same
+//! name, with the same arguments.
 //!
-//! Written by tools/exports.py from crates/wasm_c/src/lib.rt.
+//! Written by tools/exports.py from `src/lib.rt` of these crates.
 #![tactic(auto)]
 
 ghost use Rattle.std.specs.Prelude.{◌≡◌, ◌<◌, ◌≤◌, ◌+◌, ◌^◌, ◌/◌, length, Some, List, ℕ};
@@ -29,11 +29,19 @@ ghost use Rattle.wasm_c.specs.Steps.{ReturnsNext, ReturnsNextPlain, ReadsBatch, 
 ghost use Rattle.wasm_operators.specs.below.MessageText.{message_text};
 ghost use Rattle.wasm_c.specs.Texts.{text_of_refusal, ReturnsText};
 ghost use Rattle.wasm_c.specs.Values.{ReturnsValue};
+ghost use Rattle.wasm_c_sections.specs.Externals.{placed_import, placed_export};
+ghost use Rattle.wasm_c_sections.specs.Items.{ReturnsItem};
+ghost use Rattle.wasm_c_sections.specs.Names.{placed_naming, ReturnsNames};
+ghost use Rattle.wasm_c_sections.specs.Payloads.{ReturnsPayload};
+ghost use Rattle.wasm_grammars.specs.Parts.{u32};
 
 use std::alloc::Global;
 use wasm_c::{
     WasmBodies, WasmBody, WasmHandler, WasmLocals, WasmOperator, WasmReader, WasmRefusal, WasmType,
     WasmValue,
+};
+use wasm_c_sections::{
+    WasmExport, WasmImport, WasmItems, WasmNames, WasmNaming, WasmParser, WasmPayload,
 };
 
 /// `wasm_c::wasm_operators_version` for C.
@@ -437,4 +445,96 @@ pub extern "C" fn wasm_function_name(
     ensures name { ReturnsName refusal.new bytes.now index length.old length.new name.old name.new }
 {
     wasm_c::wasm_function_name(alloc, bytes, index, name, length, refusal)
+}
+
+/// `wasm_c_sections::wasm_next_payload` for C.
+#[unsafe(no_mangle)]
+pub extern "C" fn wasm_next_payload(
+    alloc: Global,
+    bytes: &[u8],
+    parser: &mut WasmParser,
+    payload: &mut WasmPayload,
+    refusal: &mut WasmRefusal,
+) -> u32
+    ensures outcome { result ≡ refusal.new.number }
+    ensures next { ReturnsPayload refusal.new bytes.now parser.old parser.new payload.old payload.new }
+{
+    wasm_c_sections::wasm_next_payload(alloc, bytes, parser, payload, refusal)
+}
+
+/// `wasm_c_sections::wasm_next_import` for C.
+#[unsafe(no_mangle)]
+pub extern "C" fn wasm_next_import(
+    alloc: Global,
+    bytes: &[u8],
+    items: &mut WasmItems,
+    import: &mut WasmImport,
+    refusal: &mut WasmRefusal,
+) -> u32
+    ensures outcome { result ≡ refusal.new.number }
+    ensures next { ReturnsItem placed_import refusal.new bytes.now items.old items.new import.old import.new }
+{
+    wasm_c_sections::wasm_next_import(alloc, bytes, items, import, refusal)
+}
+
+/// `wasm_c_sections::wasm_next_export` for C.
+#[unsafe(no_mangle)]
+pub extern "C" fn wasm_next_export(
+    alloc: Global,
+    bytes: &[u8],
+    items: &mut WasmItems,
+    export: &mut WasmExport,
+    refusal: &mut WasmRefusal,
+) -> u32
+    ensures outcome { result ≡ refusal.new.number }
+    ensures next { ReturnsItem (λ features. placed_export)
+        refusal.new bytes.now items.old items.new export.old export.new }
+{
+    wasm_c_sections::wasm_next_export(alloc, bytes, items, export, refusal)
+}
+
+/// `wasm_c_sections::wasm_next_index` for C.
+#[unsafe(no_mangle)]
+pub extern "C" fn wasm_next_index(
+    alloc: Global,
+    bytes: &[u8],
+    items: &mut WasmItems,
+    index: &mut u32,
+    refusal: &mut WasmRefusal,
+) -> u32
+    ensures outcome { result ≡ refusal.new.number }
+    ensures next { ReturnsItem (λ features. u32) refusal.new bytes.now items.old items.new index.old index.new }
+{
+    wasm_c_sections::wasm_next_index(alloc, bytes, items, index, refusal)
+}
+
+/// `wasm_c_sections::wasm_next_names` for C.
+#[unsafe(no_mangle)]
+pub extern "C" fn wasm_next_names(
+    alloc: Global,
+    bytes: &[u8],
+    items: &mut WasmItems,
+    names: &mut WasmNames,
+    refusal: &mut WasmRefusal,
+) -> u32
+    ensures outcome { result ≡ refusal.new.number }
+    ensures next { ReturnsNames refusal.new bytes.now items.old items.new names.old names.new }
+{
+    wasm_c_sections::wasm_next_names(alloc, bytes, items, names, refusal)
+}
+
+/// `wasm_c_sections::wasm_next_name` for C.
+#[unsafe(no_mangle)]
+pub extern "C" fn wasm_next_name(
+    alloc: Global,
+    bytes: &[u8],
+    items: &mut WasmItems,
+    naming: &mut WasmNaming,
+    refusal: &mut WasmRefusal,
+) -> u32
+    ensures outcome { result ≡ refusal.new.number }
+    ensures next { ReturnsItem (λ features. placed_naming)
+        refusal.new bytes.now items.old items.new naming.old naming.new }
+{
+    wasm_c_sections::wasm_next_name(alloc, bytes, items, naming, refusal)
 }
