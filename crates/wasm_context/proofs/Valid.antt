@@ -22,7 +22,8 @@ use Rattle.wasm_context.specs.declared.error.ContextError.TheVariants as error
 use Rattle.wasm_context.specs.declared.function.Function.{Function}
 use Rattle.wasm_context.specs.Components.{Components, with_types}
 use Rattle.wasm_context.specs.Environment.{as_function, expanded, function_at}
-use Rattle.wasm_context.specs.Faults.{or_else, index_fault, heap_fault, value_fault, use_fault, results_fault, tag_use_fault}
+use Rattle.wasm_context.specs.Faults.{or_else, index_fault, heap_index_fault, unsupported_fault, heap_fault, value_fault, use_fault, results_fault, tag_use_fault}
+use Rattle.wasm_context.specs.Unsupported.{unsupported_heap}
 use Rattle.wasm_context.specs.Validity.{Each, IsFunction, IsTag, IsWellFormed}
 
 each_and : {A : Type 0} (P : A → Type 0) (xs : List A) (x : A) → Each P xs → P x → Each P (xs ++ x ∷ [])
@@ -53,10 +54,13 @@ in_range n x false p e = absurd (cc e)
 index_within : (n x : ℕ) → index_fault n x ≡ None → x < n
 index_within n x e = in_range n x (nat_lt x n) refl e
 
+heap_index_within : (n : ℕ) (h : HeapType) → heap_index_fault n h ≡ None → HeapWithin n h
+heap_index_within n (heap_type.Abstract s t) e = tt
+heap_index_within n (heap_type.Concrete x) e = index_within n x e
+heap_index_within n (heap_type.Exact x) e = index_within n x e
+
 pub heap_within : (n : ℕ) (h : HeapType) → heap_fault n h ≡ None → HeapWithin n h
-heap_within n (heap_type.Abstract s t) e = tt
-heap_within n (heap_type.Concrete x) e = index_within n x e
-heap_within n (heap_type.Exact x) e = index_within n x e
+heap_within n h e = heap_index_within n h (first_none (unsupported_fault (unsupported_heap h)) (heap_index_fault n h) e)
 
 pub value_within : (n : ℕ) (v : ValType) → value_fault n v ≡ None → ValueWithin n v
 value_within n (value.Ref r) e = heap_within n r.heap_type e

@@ -22,8 +22,14 @@ use Rattle.wasm_context.specs.declared.error.ContextError.{ContextError}
 use Rattle.wasm_context.specs.declared.error.ContextError.TheVariants as error
 use Rattle.wasm_context.specs.declared.error.Counted.{Counted}
 use Rattle.wasm_context.specs.declared.error.Counted.TheVariants as counted
-use Rattle.wasm_context.specs.Components.{Components, with_function, with_table, with_memory, with_global, with_tag, with_declared}
-use Rattle.wasm_context.specs.Environment.{expanded}
+use Rattle.wasm_context.specs.Components.{Components, with_function, with_table, with_memory, with_global, with_tag, with_declared, with_name}
+use Rattle.wasm_context.specs.Names.{has_name}
+use Rattle.wasm_context.specs.Environment.{expanded, environment_of}
+use Rattle.wasm_context.specs.Unsupported.{unsupported_heap, unsupported_type, first_unsupported}
+use Rattle.wasm_context.specs.declared.unsupported.Unsupported.{Unsupported}
+use Rattle.wasm_context.specs.declared.unsupported.Unsupported.TheVariants as unsupported
+use Rattle.wasm_types.specs.declared.recursive.SubType.{SubType}
+use Rattle.wasm_typing.specs.Types.{Stack, FunctionType}
 
 abbrev pub or_else : Option ContextError → Option ContextError → Option ContextError
 or_else (Some e) other = Some e
@@ -38,6 +44,7 @@ most counted.Globals = 1000000
 most counted.Tags = 1000000
 most counted.ElementSegments = 100000
 most counted.DataSegments = 100000
+most counted.Exports = 1000000
 
 -- There may not be one more.
 abbrev pub limit_fault : ℕ → Counted → Option ContextError
@@ -47,10 +54,18 @@ abbrev pub index_fault : ℕ → ℕ → Option ContextError
 index_fault n x = if nat_lt x n then None else Some (error.UnknownType x)
 
 -- The heap type has a type index that is not below `n`.
+abbrev pub heap_index_fault : ℕ → HeapType → Option ContextError
+heap_index_fault n (heap_type.Abstract shared t) = None
+heap_index_fault n (heap_type.Concrete x) = index_fault n x
+heap_index_fault n (heap_type.Exact x) = index_fault n x
+
+abbrev pub unsupported_fault : Option Unsupported → Option ContextError
+unsupported_fault None = None
+unsupported_fault (Some what) = Some (error.Unsupported what)
+
+-- The heap type is not supported, or its type index is not below `n`.
 abbrev pub heap_fault : ℕ → HeapType → Option ContextError
-heap_fault n (heap_type.Abstract shared t) = None
-heap_fault n (heap_type.Concrete x) = index_fault n x
-heap_fault n (heap_type.Exact x) = index_fault n x
+heap_fault n h = or_else (unsupported_fault (unsupported_heap h)) (heap_index_fault n h)
 
 abbrev pub value_fault : ℕ → ValType → Option ContextError
 value_fault n (value.Ref r) = heap_fault n r.heap_type
@@ -70,6 +85,10 @@ results_fault (t ∷ ts) = Some error.TagResults
 abbrev pub tag_use_fault : ℕ → Option CompositeInnerType → Option ContextError
 tag_use_fault x (Some (inner.Func f)) = results_fault f.results
 tag_use_fault x t = use_fault x t
+
+-- A group of types has a part that is not supported.
+abbrev pub group_fault : List SubType → Option ContextError
+group_fault types = unsupported_fault (first_unsupported unsupported_type types)
 
 -- A function of this type cannot be added.
 abbrev pub function_fault : Components → ℕ → Option ContextError
@@ -120,9 +139,14 @@ abbrev pub most_elements : Bool → ℕ
 most_elements true = 18446744073709551615
 most_elements false = 4294967295
 
+-- Something that is shared between threads.
+abbrev pub sharing_fault : Bool → Unsupported → Option ContextError
+sharing_fault shared what = if shared then Some (error.Unsupported what) else None
+
 -- The limits of a table type are not valid. Validation, Types, Table Types.
 abbrev pub table_limits_fault : TableType → Option ContextError
-table_limits_fault t = or_else (minimum_fault t.initial t.maximum) (size_fault (most_elements t.table64) (largest t.initial t.maximum) (error.TableSize (most_elements t.table64)))
+table_limits_fault t = or_else (minimum_fault t.initial t.maximum) (or_else (sharing_fault t.shared unsupported.SharedTable)
+    (size_fault (most_elements t.table64) (largest t.initial t.maximum) (error.TableSize (most_elements t.table64))))
 
 -- A table of this type cannot be added.
 abbrev pub table_fault : Components → TableType → Option ContextError
@@ -134,7 +158,7 @@ memory_fault c t = or_else (limit_fault (length c.memories) counted.Memories) (m
 
 -- A global of this type cannot be added.
 abbrev pub global_fault : Components → GlobalType → Option ContextError
-global_fault c t = or_else (limit_fault (length c.globals) counted.Globals) (value_fault (length c.types) t.content_type)
+global_fault c t = or_else (limit_fault (length c.globals) counted.Globals) (or_else (value_fault (length c.types) t.content_type) (sharing_fault t.shared unsupported.SharedGlobal))
 
 -- A tag of this type cannot be added.
 abbrev pub tag_fault : Components → TagType → Option ContextError
@@ -160,6 +184,27 @@ count_of c kind.Tag = length c.tags
 abbrev pub external_fault : Components → ExternalKind → ℕ → Option ContextError
 external_fault c k x = if nat_lt x (count_of c k) then None else Some (error.Unknown k x)
 
+-- An export before has this name. Validation, Modules: all export names are different.
+abbrev pub name_fault : Components → List ℕ → Option ContextError
+name_fault c name = if has_name c.exports name then Some error.DuplicateExport else None
+
+-- There are too many exports, or nothing to export with this index, or an export before has this name.
+abbrev pub export_fault : Components → ExternalKind → ℕ → List ℕ → Option ContextError
+export_fault c k x name = or_else (limit_fault (length c.exports) counted.Exports) (or_else (external_fault c k x) (name_fault c name))
+
+-- The type of a start function has no parameters and no results.
+abbrev pub start_type_fault : Stack → Stack → Option ContextError
+start_type_fault [] [] = None
+start_type_fault _ _ = Some error.StartType
+
+abbrev pub start_use_fault : ℕ → Option FunctionType → Option ContextError
+start_use_fault x None = Some (error.Unknown kind.Func x)
+start_use_fault x (Some t) = start_type_fault t.takes t.leaves
+
+-- The function with this index is no start function. Validation, Modules, Start Function.
+abbrev pub start_fault : Components → ℕ → Option ContextError
+start_fault c x = start_use_fault x ((environment_of c).functions x)
+
 -- What is imported cannot be added.
 abbrev pub import_fault : Components → TypeRef → Option ContextError
 import_fault c (external.Func x) = function_fault c x
@@ -177,9 +222,13 @@ with_import c (external.Global t) = with_global c t
 with_import c (external.Tag t) = with_tag c t
 
 -- An export declares the function that it exports.
-abbrev pub with_export : Components → ExternalKind → ℕ → Components
-with_export c kind.Func x = with_declared c x
-with_export c _ x = c
+abbrev pub with_exported : Components → ExternalKind → ℕ → Components
+with_exported c kind.Func x = with_declared c x
+with_exported c _ x = c
+
+-- One more export.
+abbrev pub with_export : Components → ExternalKind → ℕ → List ℕ → Components
+with_export c k x name = with_name (with_exported c k x) name
 
 -- If nothing is wrong, the components become `more`. On an error they are unchanged.
 abbrev pub Changes : Option ContextError → Components → Result Unit ContextError → Components → Components → Type 0
@@ -191,8 +240,9 @@ abbrev pub Adds : Option ContextError → Components → Result Unit ContextErro
 Adds fault more (Ok u) old new = Changes fault more (Ok u) old new
 Adds fault more (Err e) old new = ((new ≡ old) × (e ≡ error.OutOfMemory)) ⊎ Changes fault more (Err e) old new
 
--- An error of a group of types, with its cause.
-abbrev pub BlamesTypes : ContextError → (TypeError → Type 0) → Type 0
-BlamesTypes error.OutOfMemory cause = Unit {0}
-BlamesTypes (error.Type e) cause = cause e
-BlamesTypes _ cause = ⊥
+-- An error of a group of types, with its cause: a part is not supported; else the types do not fit.
+abbrev pub BlamesTypes : ContextError → Option ContextError → (TypeError → Type 0) → Type 0
+BlamesTypes error.OutOfMemory fault cause = Unit {0}
+BlamesTypes (error.Type e) fault cause = (fault ≡ None) × cause e
+BlamesTypes (error.Unsupported what) fault cause = fault ≡ Some (error.Unsupported what)
+BlamesTypes _ fault cause = ⊥

@@ -1,5 +1,5 @@
 //! Adding the parts of a module to its context.
-ghost use Rattle.std.specs.Prelude.{◌≡◌, ℕ, ◌++◌, ◌∷◌, [], length, OnOk, IfOk, IfErr};
+ghost use Rattle.std.specs.Prelude.{◌≡◌, ℕ, ◌++◌, ◌∷◌, [], length, None, OnOk, IfOk, IfErr};
 ghost use Rattle.wasm_types.specs.Types.{types_of};
 ghost use Rattle.wasm_externals.specs.declared.external.ExternalKind.TheVariants as kind;
 ghost use Rattle.wasm_subtypes.specs.Errors.{Blames};
@@ -7,22 +7,35 @@ ghost use Rattle.wasm_subtypes.specs.Types.{IsFirstEqual, AllExtend, Added, plac
 ghost use Rattle.wasm_subtypes.specs.Composites.{AreValid};
 ghost use Rattle.wasm_context.specs.declared.error.ContextError.TheVariants as context_error;
 ghost use Rattle.wasm_context.specs.Components.{with_types, with_function, with_table, with_memory, with_global, with_tag, with_element, with_data_segments, with_declared};
-ghost use Rattle.wasm_context.specs.Faults.{Adds, Changes, BlamesTypes, function_fault, table_fault, memory_fault, global_fault, tag_fault, element_fault, data_fault, external_fault, import_fault, with_import, with_export};
+ghost use Rattle.wasm_context.specs.Faults.{Adds, Changes, BlamesTypes, group_fault, start_fault, function_fault, table_fault, memory_fault, global_fault, tag_fault, element_fault, data_fault, external_fault, export_fault, count_of, import_fault, with_import, with_export};
 
 use crate::context::Context;
 use crate::error::{ContextError, Counted};
 use crate::faults::{
-    heap_fault, limit_fault, memory_type_fault, or_else, table_limits_fault, tag_use_fault,
-    use_fault, value_fault,
+    group_fault, heap_fault, limit_fault, memory_type_fault, or_else, sharing_fault,
+    table_limits_fault, tag_use_fault, use_fault, value_fault,
 };
 use crate::function::Function;
+use crate::unsupported::Unsupported;
 use std::alloc::Global;
 use wasm_below::RefType;
+use wasm_check_control::ModuleContext;
 use wasm_externals::{ExternalKind, GlobalType, MemoryType, TableType, TagType, TypeRef};
 use wasm_subtypes::TypeError;
 use wasm_types::RecGroup;
 
 const MAX_DATA_SEGMENTS: u32 = 100_000;
+
+/// Returns an error if a module may not have so many data segments.
+pub fn data_fault(count: u32) -> Option<ContextError>
+    ensures { result ≡ data_fault count }
+{
+    if count > MAX_DATA_SEGMENTS {
+        Some(ContextError::TooMany(Counted::DataSegments))
+    } else {
+        None
+    }
+}
 
 /// Adds an item at the end.
 fn push<T: Drop>(items: &mut Vec<T>, item: T) -> Result<(), ContextError>
@@ -39,13 +52,17 @@ fn push<T: Drop>(items: &mut Vec<T>, item: T) -> Result<(), ContextError>
 impl Context {
     /// Adds a group of the type section. Specification: Validation, Types, Recursive Types.
     ///
-    /// Fails with `Type`, with the errors of `Types::add`.
+    /// Fails with `Unsupported`; with `Type`, with the errors of `Types::add`.
     pub fn add_group(self, alloc: Global, group: RecGroup) -> Result<Context, ContextError>
         ensures added { IfOk result (λ new. (new ≡ with_types self new.types) × Added self.types (types_of group) new.types) }
         ensures valid { IfOk result (λ new. AreValid new.types (length self.types)) }
-        ensures blames { IfErr result (λ e. BlamesTypes e (λ t. (start : ℕ) → IsFirstEqual self.types (types_of group) start →
+        ensures supported { IfOk result (λ new. group_fault (types_of group) ≡ None) }
+        ensures blames { IfErr result (λ e. BlamesTypes e (group_fault (types_of group)) (λ t. (start : ℕ) → IsFirstEqual self.types (types_of group) start →
             Blames t (AllExtend self.types (length self.types) start (types_of group)) (AreValid (self.types ++ placed (length self.types) start (types_of group)) (length self.types)))) }
     {
+        if let Some(e) = group_fault(group.types()) {
+            return Err(e);
+        }
         let Context {
             types,
             functions,
@@ -55,6 +72,7 @@ impl Context {
             tags,
             elements,
             data_segments,
+            exports,
         } = self;
         match types.add(alloc, group) {
             Ok(types) => Ok(Context {
@@ -66,6 +84,7 @@ impl Context {
                 tags,
                 elements,
                 data_segments,
+                exports,
             }),
             Err(TypeError::OutOfMemory) => Err(ContextError::OutOfMemory),
             Err(e) => Err(ContextError::Type(e)),
@@ -92,7 +111,7 @@ impl Context {
     /// Adds a table. Specification: Validation, Modules, Tables.
     ///
     /// Fails with `TooMany` if there are 100; with `UnknownType`; with `MinimumAboveMaximum`; with
-    /// `TableSize` if indices are of type i32 and a size is above 2^32 - 1.
+    /// `Unsupported`; with `TableSize` if indices are of type i32 and a size is above 2^32 - 1.
     pub fn add_table(&mut self, ty: TableType) -> Result<(), ContextError>
         ensures { Adds (table_fault self.old ty) (with_table self.old ty) result self.old self.new }
     {
@@ -124,17 +143,21 @@ impl Context {
         ensures { result ≡ global_fault self.now ty }
     {
         let full = limit_fault(self.globals.len(), Counted::Globals);
-        or_else(full, value_fault(self.types.len(), ty.content_type))
+        let shared = sharing_fault(ty.shared, Unsupported::SharedGlobal);
+        let value = value_fault(self.types.len(), ty.content_type);
+        or_else(full, or_else(value, shared))
     }
 
     /// Adds a global. Specification: Validation, Modules, Globals.
     ///
-    /// Fails with `TooMany` if there are 1,000,000; with `UnknownType`.
+    /// Fails with `TooMany` if there are 1,000,000; with `UnknownType`; with `Unsupported`.
     pub fn add_global(&mut self, ty: GlobalType) -> Result<(), ContextError>
         ensures { Adds (global_fault self.old ty) (with_global self.old ty) result self.old self.new }
     {
         let full = limit_fault(self.globals.len(), Counted::Globals);
-        if let Some(e) = or_else(full, value_fault(self.types.len(), ty.content_type)) {
+        let shared = sharing_fault(ty.shared, Unsupported::SharedGlobal);
+        let value = value_fault(self.types.len(), ty.content_type);
+        if let Some(e) = or_else(full, or_else(value, shared)) {
             return Err(e);
         }
         push(&mut self.globals, ty)
@@ -157,7 +180,7 @@ impl Context {
     /// Adds an element segment with elements of a type. Specification: Validation, Modules, Element
     /// Segments.
     ///
-    /// Fails with `TooMany` if there are 100,000; with `UnknownType`.
+    /// Fails with `TooMany` if there are 100,000; with `Unsupported`; with `UnknownType`.
     pub fn add_element(&mut self, ty: RefType) -> Result<(), ContextError>
         ensures { Adds (element_fault self.old ty) (with_element self.old ty) result self.old self.new }
     {
@@ -174,8 +197,8 @@ impl Context {
     pub fn set_data_segments(&mut self, count: u32) -> Result<(), ContextError>
         ensures { Changes (data_fault count) (with_data_segments self.old count) result self.old self.new }
     {
-        if count > MAX_DATA_SEGMENTS {
-            return Err(ContextError::TooMany(Counted::DataSegments));
+        if let Some(e) = data_fault(count) {
+            return Err(e);
         }
         self.data_segments = count;
         Ok(())
@@ -202,6 +225,24 @@ impl Context {
         }
     }
 
+    /// Returns what is wrong with a start function, if anything is: `Unknown` if there is no function
+    /// with this index, `StartType` if it has parameters or results. Specification: Validation,
+    /// Modules, Start Function.
+    pub fn start_fault(&self, function_index: u32) -> Option<ContextError>
+        ensures { result ≡ start_fault self.now function_index }
+    {
+        match self.function_type(function_index) {
+            Some(ty) => {
+                if ty.params.is_empty() && ty.results.is_empty() {
+                    None
+                } else {
+                    Some(ContextError::StartType)
+                }
+            }
+            None => Some(ContextError::Unknown(ExternalKind::Func, function_index)),
+        }
+    }
+
     /// Adds what an import imports. Specification: Validation, Modules, Imports.
     ///
     /// Fails like `add_function`, `add_table`, `add_memory`, `add_global` or `add_tag`.
@@ -217,23 +258,47 @@ impl Context {
         }
     }
 
-    /// Declares the function that an export exports. Specification: Validation, Modules, Exports.
-    ///
-    /// Fails with `Unknown` if there is nothing of this kind with this index.
-    pub fn add_export(&mut self, kind: ExternalKind, index: u32) -> Result<(), ContextError>
-        ensures { Changes (external_fault self.old kind index) (with_export self.old kind index) result self.old self.new }
+    /// Returns the number of things of a kind.
+    fn count(&self, kind: ExternalKind) -> usize
+        ensures { result ≡ count_of self.now kind }
     {
-        let count = match kind {
-            ExternalKind::Func => return self.declare(index),
+        match kind {
+            ExternalKind::Func => self.functions.len(),
             ExternalKind::Table => self.tables.len(),
             ExternalKind::Memory => self.memories.len(),
             ExternalKind::Global => self.globals.len(),
             ExternalKind::Tag => self.tags.len(),
-        };
-        if (index as usize) < count {
-            Ok(())
-        } else {
-            Err(ContextError::Unknown(kind, index))
+        }
+    }
+
+    /// Adds the name of an export, and declares the function that it exports. Specification:
+    /// Validation, Modules, Exports.
+    ///
+    /// Fails with `TooMany` if there are 1,000,000; with `Unknown` if there is nothing of this kind
+    /// with this index; with `DuplicateExport`.
+    pub fn add_export(
+        &mut self,
+        alloc: Global,
+        kind: ExternalKind,
+        index: u32,
+        name: &str,
+    ) -> Result<(), ContextError>
+        ensures { Adds (export_fault self.old kind index name.now) (with_export self.old kind index name.now) result self.old self.new }
+    {
+        if let Some(e) = limit_fault(self.exports.len(), Counted::Exports) {
+            return Err(e);
+        }
+        if (index as usize) >= self.count(kind) {
+            return Err(ContextError::Unknown(kind, index));
+        }
+        if self.exports.contains(name) {
+            return Err(ContextError::DuplicateExport);
+        }
+        self.exports.insert(alloc, name)?;
+        match kind {
+            ExternalKind::Func => self.declare(index),
+            ExternalKind::Table | ExternalKind::Memory | ExternalKind::Global | ExternalKind::Tag =>
+                Ok(()),
         }
     }
 }

@@ -3,6 +3,7 @@ ghost use Rattle.wasm_context.specs.Components.{of_types};
 ghost use Rattle.wasm_context.specs.Validity.{IsWellFormed};
 
 use crate::function::Function;
+use crate::names::Names;
 use std::alloc::Global;
 use std::marker::Model;
 use wasm_below::{RefType, ValType};
@@ -26,6 +27,8 @@ pub struct Context {
     pub(crate) elements: Vec<RefType>,
     /// The number of data segments.
     pub(crate) data_segments: u32,
+    /// The names of exports.
+    pub(crate) exports: Names,
 }
 
 impl Model for Context {
@@ -43,6 +46,7 @@ impl Model for Context {
       tags = c.tags.items;
       elements = c.elements.items;
       data_segments = c.data_segments;
+      exports = c.exports;
     } };
 
     ghost invariant = { λ c. IsWellFormed record {
@@ -54,6 +58,7 @@ impl Model for Context {
       tags = c.tags.items;
       elements = c.elements.items;
       data_segments = c.data_segments;
+      exports = c.exports;
     } };
 }
 
@@ -71,6 +76,7 @@ impl Context {
             tags: Vec::new(alloc),
             elements: Vec::new(alloc),
             data_segments: 0,
+            exports: Names::new(alloc),
         }
     }
 

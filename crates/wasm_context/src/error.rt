@@ -1,3 +1,4 @@
+use crate::unsupported::Unsupported;
 use wasm_externals::ExternalKind;
 use wasm_subtypes::TypeError;
 
@@ -11,6 +12,7 @@ pub enum Counted {
     Tags,
     ElementSegments,
     DataSegments,
+    Exports,
 }
 
 /// Why something cannot be added to a context.
@@ -37,6 +39,12 @@ pub enum ContextError {
     SharedWithoutMaximum,
     /// A table may have this many elements.
     TableSize(u64),
+    /// The start function has parameters or results.
+    StartType,
+    /// An export before has the same name.
+    DuplicateExport,
+    /// A type has a part that is not supported.
+    Unsupported(Unsupported),
     /// There is nothing of this kind with this index.
     Unknown(ExternalKind, u32),
 }

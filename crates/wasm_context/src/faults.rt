@@ -1,14 +1,15 @@
 //! What is wrong with a part of a module.
 ghost use Rattle.std.specs.Prelude.{◌≡◌};
 ghost use Rattle.wasm_context.specs.Environment.{expanded};
-ghost use Rattle.wasm_context.specs.Faults.{most, limit_fault, index_fault, heap_fault, value_fault, use_fault, tag_use_fault, or_else};
+ghost use Rattle.wasm_context.specs.Faults.{most, limit_fault, index_fault, heap_index_fault, unsupported_fault, heap_fault, group_fault, sharing_fault, value_fault, use_fault, tag_use_fault, or_else};
 ghost use Rattle.wasm_context.specs.Faults.{minimum_fault, largest, size_fault, page_size_fault, page_bytes, most_pages, shared_fault, memory_type_fault, most_elements, table_limits_fault};
 
 use crate::error::{ContextError, Counted};
+use crate::unsupported::{Part, Unsupported, first_unsupported};
 use wasm_below::{HeapType, ValType};
 use wasm_externals::{MemoryType, TableType};
 use wasm_subtypes::Types;
-use wasm_types::CompositeInnerType;
+use wasm_types::{CompositeInnerType, SubType};
 
 fn most(what: Counted) -> usize
     ensures { result ≡ most what }
@@ -16,7 +17,7 @@ fn most(what: Counted) -> usize
     match what {
         Counted::Tables | Counted::Memories => 100,
         Counted::ElementSegments | Counted::DataSegments => 100_000,
-        Counted::Functions | Counted::Globals | Counted::Tags => 1_000_000,
+        Counted::Functions | Counted::Globals | Counted::Tags | Counted::Exports => 1_000_000,
     }
 }
 
@@ -41,12 +42,46 @@ fn index_fault(count: usize, index: u32) -> Option<ContextError>
     }
 }
 
-pub fn heap_fault(count: usize, ty: HeapType) -> Option<ContextError>
-    ensures { result ≡ heap_fault count ty }
+fn heap_index_fault(count: usize, ty: HeapType) -> Option<ContextError>
+    ensures { result ≡ heap_index_fault count ty }
 {
     match ty {
         HeapType::Abstract { .. } => None,
         HeapType::Concrete(index) | HeapType::Exact(index) => index_fault(count, index),
+    }
+}
+
+fn unsupported_fault(part: Option<Unsupported>) -> Option<ContextError>
+    ensures { result ≡ unsupported_fault part }
+{
+    match part {
+        Some(what) => Some(ContextError::Unsupported(what)),
+        None => None,
+    }
+}
+
+pub fn heap_fault(count: usize, ty: HeapType) -> Option<ContextError>
+    ensures { result ≡ heap_fault count ty }
+{
+    let unsupported = unsupported_fault(ty.unsupported());
+    or_else(unsupported, heap_index_fault(count, ty))
+}
+
+/// Returns an error if a group of types has a part that is not supported.
+pub fn group_fault(types: &[SubType]) -> Option<ContextError>
+    ensures { result ≡ group_fault types.now }
+{
+    unsupported_fault(first_unsupported(types))
+}
+
+/// Returns an error if something is shared between threads.
+pub fn sharing_fault(shared: bool, what: Unsupported) -> Option<ContextError>
+    ensures { result ≡ sharing_fault shared what }
+{
+    if shared {
+        Some(ContextError::Unsupported(what))
+    } else {
+        None
     }
 }
 
@@ -214,5 +249,7 @@ pub fn table_limits_fault(ty: TableType) -> Option<ContextError>
     let most = most_elements(ty.table64);
     let beyond = ContextError::TableSize(most);
     let size = size_fault(most, largest(ty.initial, ty.maximum), beyond);
-    or_else(minimum_fault(ty.initial, ty.maximum), size)
+    let shared = sharing_fault(ty.shared, Unsupported::SharedTable);
+    let sizes = or_else(shared, size);
+    or_else(minimum_fault(ty.initial, ty.maximum), sizes)
 }

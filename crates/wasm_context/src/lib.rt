@@ -9,7 +9,11 @@ mod context;
 mod error;
 mod faults;
 mod function;
+mod names;
+mod unsupported;
 
+pub use adding::data_fault;
 pub use context::Context;
 pub use error::{ContextError, Counted};
 pub use function::Function;
+pub use unsupported::Unsupported;

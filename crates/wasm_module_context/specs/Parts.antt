@@ -42,13 +42,12 @@ use Rattle.wasm_context.specs.Environment.{environment_of}
 use Rattle.wasm_context.specs.declared.error.ContextError.{ContextError}
 use Rattle.wasm_context.specs.declared.error.ContextError.TheVariants as context_error
 use Rattle.wasm_context.specs.Components.{Components, with_types, with_function, with_table, with_memory, with_global, with_tag, with_element, with_declared}
-use Rattle.wasm_context.specs.Faults.{BlamesTypes, function_fault, table_fault, memory_fault, global_fault, tag_fault, element_fault, data_fault, external_fault, import_fault, with_import, with_export}
+use Rattle.wasm_context.specs.Faults.{BlamesTypes, function_fault, table_fault, memory_fault, global_fault, tag_fault, element_fault, data_fault, group_fault, external_fault, export_fault, import_fault, with_import, with_export}
 use Rattle.wasm_module_context.specs.declared.error.PayloadError.{PayloadError}
 use Rattle.wasm_module_context.specs.declared.error.PayloadError.TheVariants as error
 use Rattle.wasm_module_context.specs.declared.function_index.FunctionIndex.{FunctionIndex}
 use Rattle.wasm_module_context.specs.Constants.{IsConstant, ExplainsConstant, AddsConstant, FailsConstant}
 use Rattle.wasm_module_context.specs.Items.{AddsItems, FailsItems}
-use Rattle.wasm_module_context.specs.References.{DeclaresReferences, FailsReferences}
 
 -- Nothing is wrong, and the components become these.
 abbrev pub Becomes : Option ContextError → Components → Components → Type 0
@@ -60,7 +59,7 @@ FailsAt fault at (error.Context e offset) = (offset ≡ at) × ((e ≡ context_e
 FailsAt fault at _ = ⊥
 
 abbrev pub AddsGroup : RecGroup → Components → Components → Type 0
-AddsGroup group c d = (d ≡ with_types c d.types) × Added c.types (types_of group) d.types × AreValid d.types (length c.types)
+AddsGroup group c d = (group_fault (types_of group) ≡ None) × (d ≡ with_types c d.types) × Added c.types (types_of group) d.types × AreValid d.types (length c.types)
 
 -- The cause of an error of a group of types.
 abbrev pub BlamesGroup : RecGroup → Components → TypeError → Type 0
@@ -68,7 +67,7 @@ BlamesGroup group c t = (start : ℕ) → IsFirstEqual c.types (types_of group) 
     Blames t (AllExtend c.types (length c.types) start (types_of group)) (AreValid (c.types ++ placed (length c.types) start (types_of group)) (length c.types))
 
 abbrev pub FailsGroup : RecGroup → Components → ℕ → PayloadError → Type 0
-FailsGroup group c at (error.Context e offset) = (offset ≡ at) × BlamesTypes e (BlamesGroup group c)
+FailsGroup group c at (error.Context e offset) = (offset ≡ at) × BlamesTypes e (group_fault (types_of group)) (BlamesGroup group c)
 FailsGroup group c at _ = ⊥
 
 -- The index of a function that is declared.
@@ -89,7 +88,7 @@ abbrev pub AddsTag : TagType → Components → Components → Type 0
 AddsTag t c d = Becomes (tag_fault c t) (with_tag c t) d
 
 abbrev pub AddsExport : Export → Components → Components → Type 0
-AddsExport e c d = Becomes (external_fault c e.kind e.index) (with_export c e.kind e.index) d
+AddsExport e c d = Becomes (export_fault c e.kind e.index e.name) (with_export c e.kind e.index e.name) d
 
 abbrev pub AddsFunctionIndex : FunctionIndex → Components → Components → Type 0
 AddsFunctionIndex x c d = Becomes (external_fault c kind.Func x.0) (with_declared c x.0) d

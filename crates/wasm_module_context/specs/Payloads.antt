@@ -12,15 +12,15 @@ use Rattle.wasm_constants.specs.Constants.{const_expr}
 use Rattle.wasm_payloads.specs.declared.payload.Payload.{Payload}
 use Rattle.wasm_payloads.specs.declared.payload.Payload.TheVariants as payload
 use Rattle.wasm_context.specs.Components.{Components, with_data_segments}
-use Rattle.wasm_context.specs.Faults.{function_fault, memory_fault, tag_fault, external_fault, import_fault, data_fault}
+use Rattle.wasm_context.specs.Faults.{function_fault, memory_fault, tag_fault, export_fault, import_fault, start_fault, data_fault}
 use Rattle.wasm_below.specs.Source.{offset_of}
 use Rattle.wasm_module_context.specs.declared.error.PayloadError.{PayloadError}
 use Rattle.wasm_module_context.specs.declared.error.PayloadError.TheVariants as error
 use Rattle.wasm_module_context.specs.Items.{AddsItems, FailsItems}
 use Rattle.wasm_module_context.specs.Parts.{Becomes, FailsAt, AddsGroup, FailsGroup, AddsImport, AddsFunction, AddsMemory, AddsTag, AddsExport, AddsTable, FailsTable, AddsGlobal, FailsGlobal, AddsElement, FailsElement, AddsDataSection, FailsDataSection}
 
--- The components after a payload. Data segments are checked, and add nothing; nor do the start function,
--- the code and custom sections. There are no other sections.
+-- The components after a payload. The start function and data segments are checked, and add nothing;
+-- nor do the code and custom sections. There are no other sections.
 abbrev pub AddsPayload : Payload → Components → Components → Type 0
 AddsPayload (payload.TypeSection s) c d = AddsItems AddsGroup (λ features. rec_group) s.count s.reader c d
 AddsPayload (payload.ImportSection s) c d = AddsItems AddsImport import s.count s.reader c d
@@ -31,6 +31,7 @@ AddsPayload (payload.TagSection s) c d = AddsItems AddsTag (λ features. tag_typ
 AddsPayload (payload.GlobalSection s) c d = AddsItems AddsGlobal (λ features. global features (const_expr features)) s.count s.reader c d
 AddsPayload (payload.ExportSection s) c d = AddsItems AddsExport (λ features. export) s.count s.reader c d
 AddsPayload (payload.ElementSection s) c d = AddsItems AddsElement (λ features. element features (const_expr features)) s.count s.reader c d
+AddsPayload (payload.StartSection x range) c d = Becomes (start_fault c x) c d
 AddsPayload (payload.DataSection s) c d = AddsDataSection s c d
 AddsPayload (payload.DataCountSection n range) c d = Becomes (data_fault n) (with_data_segments c n) d
 AddsPayload (payload.UnknownSection id contents) c d = ⊥
@@ -45,8 +46,9 @@ FailsPayload (payload.TableSection s) c e = FailsItems AddsTable FailsTable (λ 
 FailsPayload (payload.MemorySection s) c e = FailsItems AddsMemory (λ t c at e. FailsAt (memory_fault c t) at e) memory_type s.count s.reader c e
 FailsPayload (payload.TagSection s) c e = FailsItems AddsTag (λ t c at e. FailsAt (tag_fault c t) at e) (λ features. tag_type) s.count s.reader c e
 FailsPayload (payload.GlobalSection s) c e = FailsItems AddsGlobal FailsGlobal (λ features. global features (const_expr features)) s.count s.reader c e
-FailsPayload (payload.ExportSection s) c e = FailsItems AddsExport (λ x c at e. FailsAt (external_fault c x.kind x.index) at e) (λ features. export) s.count s.reader c e
+FailsPayload (payload.ExportSection s) c e = FailsItems AddsExport (λ x c at e. FailsAt (export_fault c x.kind x.index x.name) at e) (λ features. export) s.count s.reader c e
 FailsPayload (payload.ElementSection s) c e = FailsItems AddsElement FailsElement (λ features. element features (const_expr features)) s.count s.reader c e
+FailsPayload (payload.StartSection x range) c e = FailsAt (start_fault c x) range.start e
 FailsPayload (payload.DataSection s) c e = FailsDataSection s c e
 FailsPayload (payload.DataCountSection n range) c e = FailsAt (data_fault n) range.start e
 FailsPayload (payload.UnknownSection id contents) c e = e ≡ error.UnknownSection id (offset_of contents)

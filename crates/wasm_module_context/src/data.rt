@@ -1,6 +1,5 @@
 //! Data segments.
-ghost use Rattle.std.specs.Prelude.{◌≡◌, IfOk, IfErr};
-ghost use Rattle.wasm_context.specs.Faults.{data_fault};
+ghost use Rattle.std.specs.Prelude.{IfOk, IfErr};
 ghost use Rattle.wasm_module_context.specs.Parts.{AddsPlace, FailsPlace, AddsData, FailsData, AddsDataSection, FailsDataSection};
 
 use crate::constants::{address_type, check_value};
@@ -9,7 +8,7 @@ use crate::items::{AddToContext, add_items};
 use std::alloc::Global;
 use wasm_check_control::ModuleContext;
 use wasm_constants::{Data, DataKind};
-use wasm_context::{Context, ContextError, Counted};
+use wasm_context::{Context, ContextError, data_fault};
 use wasm_externals::ExternalKind;
 use wasm_payloads::UnreadItems;
 
@@ -50,19 +49,6 @@ impl<'a> AddToContext<'a> for Data<'a> {
     fn add_to(self, alloc: Global, context: Context, offset: u64) -> Result<Context, PayloadError> {
         let wasm_segments::Data { kind, data: _ } = self;
         add_place(alloc, context, kind, offset)
-    }
-}
-
-const MAX_DATA_SEGMENTS: u32 = 100_000;
-
-/// Returns an error if a module may not have so many data segments.
-fn data_fault(count: u32) -> Option<ContextError>
-    ensures { result ≡ data_fault count }
-{
-    if count > MAX_DATA_SEGMENTS {
-        Some(ContextError::TooMany(Counted::DataSegments))
-    } else {
-        None
     }
 }
 

@@ -1,6 +1,6 @@
 //! The items of the sections.
 ghost use Rattle.std.specs.Prelude.{IfOk, IfErr};
-ghost use Rattle.wasm_context.specs.Faults.{function_fault, memory_fault, tag_fault, external_fault, import_fault};
+ghost use Rattle.wasm_context.specs.Faults.{function_fault, memory_fault, tag_fault, export_fault, import_fault};
 ghost use Rattle.wasm_module_context.specs.Parts.{FailsAt, AddsGroup, FailsGroup, AddsImport, AddsFunction, AddsMemory, AddsTag, AddsExport, AddsTable, FailsTable, AddsGlobal, FailsGlobal};
 
 use crate::constants::add_constant;
@@ -111,16 +111,16 @@ impl<'a> AddToContext<'a> for TagType {
 impl<'a> AddToContext<'a> for Export<'a> {
     ghost adds = { AddsExport };
 
-    ghost refuses = { λ x c at e. FailsAt (external_fault c x.kind x.index) at e };
+    ghost refuses = { λ x c at e. FailsAt (export_fault c x.kind x.index x.name) at e };
 
     fn add_to(
         self,
-        _alloc: Allocator,
+        alloc: Allocator,
         context: Context,
         offset: u64,
     ) -> Result<Context, PayloadError> {
         let mut context = context;
-        match context.add_export(self.kind, self.index) {
+        match context.add_export(alloc, self.kind, self.index, self.name.as_str()) {
             Ok(()) => Ok(context),
             Err(e) => Err(PayloadError::Context(e, offset)),
         }

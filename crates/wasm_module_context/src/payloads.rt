@@ -11,7 +11,7 @@ use wasm_payloads::Payload;
 /// Adds a payload of a module to its context. Specification: Validation, Modules.
 ///
 /// Bodies and custom sections add nothing. Fails with the error of the first item that cannot be read
-/// or added, or of a section with an unknown id.
+/// or added, of the start function, or of a section with an unknown id.
 pub fn add_payload<'a>(
     alloc: Allocator,
     context: Context,
@@ -40,13 +40,16 @@ pub fn add_payload<'a>(
                 Err(e) => Err(PayloadError::Context(e, range.start)),
             }
         }
+        Payload::StartSection { func, range } => match context.start_fault(func) {
+            Some(e) => Err(PayloadError::Context(e, range.start)),
+            None => Ok(context),
+        },
         Payload::UnknownSection { id, contents } => Err(PayloadError::UnknownSection(
             id,
             contents.original_position(),
         )),
         Payload::DataSection(items) => add_data_section(alloc, context, items),
         Payload::Version { .. }
-        | Payload::StartSection { .. }
         | Payload::CodeSectionStart { .. }
         | Payload::CodeSectionEntry(_)
         | Payload::CustomSection(_)

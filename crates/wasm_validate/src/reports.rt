@@ -1,7 +1,12 @@
 use std::alloc::Global;
 use std::fmt;
+use wasm_context::ContextError;
 use wasm_escapes::write_escaped;
+use wasm_externals::Text;
+use wasm_grammars::Read;
 use wasm_module::function_name;
+use wasm_module_context::PayloadError;
+use wasm_operators::BinaryReader;
 use wasm_programs::{OUTSIDE, REFUSED};
 use wasm_validation::Fault;
 use wasm_validation_texts::{FaultKind, function_of, kind_of, message_of};
@@ -58,6 +63,29 @@ fn print_error(rt: &HostRuntime, file: &str, bytes: &[u8], offset: u64, fault: &
     REFUSED
 }
 
+/// Returns the name of the export at an offset, without control characters.
+fn export_name(alloc: Global, bytes: &[u8], offset: u64) -> String {
+    let mut shown = String::new(alloc);
+    if let Some(rest) = bytes.get(offset as usize..) {
+        let mut reader = BinaryReader::new(rest, 0);
+        if let Ok(name) = Text::read_from(alloc, &mut reader) {
+            let _ = write_escaped(alloc, &mut shown, name.as_str().as_bytes());
+        }
+    }
+    shown
+}
+
+/// Prints that an export before has the same name, and returns the exit status.
+fn report_duplicate(rt: &HostRuntime, file: &str, bytes: &[u8], offset: u64) -> u8 {
+    let name = export_name(rt.alloc(), bytes, offset);
+    let place = Place {
+        offset,
+        function: None,
+    };
+    let _ = eprintln!(rt; "{file}: {place}: duplicate export name `{name}` already defined");
+    REFUSED
+}
+
 /// Prints that allocation failed, and returns the exit status.
 fn print_memory(rt: &HostRuntime, file: &str) -> u8 {
     let _ = eprintln!(rt; "{PROGRAM}: {file}: out of memory");
@@ -66,6 +94,9 @@ fn print_memory(rt: &HostRuntime, file: &str) -> u8 {
 
 /// Prints why a module is rejected, and returns the exit status.
 pub fn report(rt: &HostRuntime, file: &str, bytes: &[u8], fault: Fault<'_>) -> u8 {
+    if let Fault::Section(PayloadError::Context(ContextError::DuplicateExport, offset)) = &fault {
+        return report_duplicate(rt, file, bytes, *offset);
+    }
     match kind_of(&fault) {
         FaultKind::Memory => print_memory(rt, file),
         FaultKind::Malformed(error) => print_error(rt, file, bytes, error.offset(), &fault),

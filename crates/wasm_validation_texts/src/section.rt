@@ -1,5 +1,5 @@
 use std::fmt;
-use wasm_context::{ContextError, Counted};
+use wasm_context::{ContextError, Counted, Unsupported};
 use wasm_externals::ExternalKind;
 use wasm_subtypes::TypeError;
 
@@ -17,6 +17,7 @@ fn plural(what: Counted) -> &'static str {
         Counted::Tags => "tags",
         Counted::ElementSegments => "element segments",
         Counted::DataSegments => "data segments",
+        Counted::Exports => "exports",
     }
 }
 
@@ -27,6 +28,30 @@ fn kind_name(kind: ExternalKind) -> &'static str {
         ExternalKind::Memory => "memory",
         ExternalKind::Global => "global",
         ExternalKind::Tag => "tag",
+    }
+}
+
+fn unsupported(part: Unsupported) -> &'static str {
+    match part {
+        Unsupported::SharedType => {
+            "shared composite types require the shared-everything-threads proposal"
+        }
+        Unsupported::SharedReference => {
+            "shared reference types require the shared-everything-threads proposal"
+        }
+        Unsupported::SharedTable => {
+            "shared tables require the shared-everything-threads proposal"
+        }
+        Unsupported::SharedGlobal => {
+            "shared globals require the shared-everything-threads proposal"
+        }
+        Unsupported::ExactReference => "exact references require the custom descriptors proposal",
+        Unsupported::ContinuationType => {
+            "cannot define continuation types when stack switching is disabled"
+        }
+        Unsupported::ContinuationReference => {
+            "continuation refs not supported without the stack switching feature"
+        }
     }
 }
 
@@ -72,6 +97,9 @@ impl fmt::Display for Refusal {
                 f,
                 "table size must be at most {most} elements"
             ),
+            ContextError::StartType => f.write_str("invalid start function type"),
+            ContextError::DuplicateExport => f.write_str("duplicate export name"),
+            ContextError::Unsupported(part) => f.write_str(unsupported(part)),
             ContextError::Unknown(kind, index) => {
                 let kind = kind_name(kind);
                 write!(f, "unknown {kind} {index}: {kind} index out of bounds")

@@ -10,4 +10,4 @@ returns-in-Some-clause-refused c =
     let x = index_of c.in-Active.table_index in
     let table = sym (ap (option_map table_of) c.in-Some.is) ∙ c.table_type.ensures ∙ ap (table_at c.args.context) c.index_of-index.ensures in
     err_also _ _ c.add_in_table.result (λ e fails. subst (λ k. FailsOffset k c.args.ty c.args.context c.args.offset e) (sym c.in-Active.is)
-        (subst (λ t. FailsInTable t x c.in-Active.offset_expr c.args.ty c.args.context c.args.offset e) table fails)) (c.add_in_table.ensures.refused x)
+    (subst (λ t. FailsInTable t x c.in-Active.offset_expr c.args.ty c.args.context c.args.offset e) table fails)) (c.add_in_table.ensures.refused x)

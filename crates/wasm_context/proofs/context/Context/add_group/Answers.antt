@@ -15,5 +15,6 @@ invariant_of-result c =
       tags = c.self.inside.tags.items;
       elements = c.self.inside.elements.items;
       data_segments = c.self.inside.data_segments;
+      exports = c.self.inside.exports;
     } in
     subst (λ types. IsWellFormed (with_types old types)) (sym c.in-Ok.ensures.added.all) (types_later old _ c.self.invariant)
