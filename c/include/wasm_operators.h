@@ -29,6 +29,9 @@ extern "C" {
 #define WASM_LONGEST_NAME 29
 #define WASM_LONGEST_TEXT_NAME 35
 
+/* The index of no function: wasm_validate_module sets it. */
+#define WASM_NO_FUNCTION UINT64_MAX
+
 /* May be combined with |. */
 enum wasm_feature {
   WASM_FEATURE_MULTI_MEMORY = 1,
@@ -192,6 +195,7 @@ enum wasm_refused {
   WASM_REFUSED_NO_FUNCTION = 110, /* the module defines none with the index */
   WASM_REFUSED_NO_BODY = 111, /* all bodies were read */
   WASM_REFUSED_NOT_WRITABLE = 112, /* no bytes encode a value with these fields */
+  WASM_REFUSED_INVALID = 113, /* the module is not valid */
   WASM_REFUSED_NO_ITEM = 114 /* all parts of a module, or all items of a list, were read */
 };
 
@@ -1269,6 +1273,15 @@ uint32_t wasm_next_names(const uint8_t *bytes, size_t bytes_length, wasm_items *
 uint32_t wasm_next_name(const uint8_t *bytes, size_t bytes_length, wasm_items *items, wasm_naming *naming,
                         wasm_refusal *refusal);
 
+/* Checks the module `bytes`, and returns 0 if it is valid. docs/VALIDATION.md says what is checked. Otherwise `*refusal`
+ * is its first error, in the order of the bytes: an error of the bytes, as other calls return it, or
+ * WASM_REFUSED_INVALID. `*function` is the index of the function whose body has the error, else WASM_NO_FUNCTION.
+ *
+ * As much of a message as fits is written to `message`. `*length` is its whole length in bytes: 0 without an error, for
+ * WASM_REFUSED_UNKNOWN_FEATURES, and if allocation fails. May allocate. */
+uint32_t wasm_validate_module(const uint8_t *bytes, size_t bytes_length, uint32_t features, uint64_t *function,
+                              uint8_t *message, size_t message_length, size_t *length, wasm_refusal *refusal);
+
 /* Returns the proposal that added an operator, or -1 if no operator has its number. */
 static inline int wasm_operator_proposal(const wasm_operator *op) {
   switch (op->opcode) {
@@ -1999,6 +2012,8 @@ static inline const char *wasm_c_error_text(uint32_t number) {
       return "all bodies were read";
     case WASM_REFUSED_NOT_WRITABLE:
       return "no bytes encode a value with these fields";
+    case WASM_REFUSED_INVALID:
+      return "the module is not valid";
     case WASM_REFUSED_NO_ITEM:
       return "all parts or items were read";
     default:

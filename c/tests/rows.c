@@ -302,6 +302,34 @@ static void look_at_section(const char *declarations, const char *hex, const cha
   free(operators);
 }
 
+/* Compares the verdict of a module; also with an array for half of the message, and with unknown features. */
+static void look_at_validation(const char *hex, const char *expected) {
+  size_t length, needed = 7, again = 7, none = 7;
+  uint8_t *bytes = bytes_of(hex, &length);
+  uint8_t message[256] = {0}, part[256] = {0};
+  uint64_t function = 7, no_function = 7;
+  wasm_refusal refusal, same;
+  text found = {"", 0}, wanted = {"", 0};
+  uint32_t refused = wasm_validate_module(bytes, length, WASM_FEATURES_ALL, &function, message, sizeof message, &needed, &refusal);
+  if (refused == 0) {
+    add(&found, "ok");
+  } else if (function == WASM_NO_FUNCTION) {
+    add(&found, "0x%" PRIx64 " - %.*s", refusal.offset, (int)needed, (const char *)message);
+  } else {
+    add(&found, "0x%" PRIx64 " %" PRIu64 " %.*s", refusal.offset, function, (int)needed, (const char *)message);
+  }
+  uint8_t text_of_refusal[256];
+  size_t text_length = wasm_refusal_text(&refusal, text_of_refusal, sizeof text_of_refusal);
+  int is_same = refused == 0 || refused == WASM_REFUSED_INVALID || (text_length == needed && memcmp(text_of_refusal, message, needed) == 0);
+  wasm_validate_module(bytes, length, WASM_FEATURES_ALL, &function, part, needed / 2, &again, &same);
+  int is_part = again == needed && same.number == refused && memcmp(part, message, needed / 2) == 0 && part[needed / 2] == 0;
+  refused = wasm_validate_module(bytes, length, WASM_FEATURES_ALL + 1, &no_function, message, sizeof message, &none, &refusal);
+  add(&found, " %d %d %" PRIu32 " %d", is_same, is_part, refused, no_function == WASM_NO_FUNCTION && none == 0);
+  add(&wanted, "%s 1 1 100 1", expected);
+  compare("wasm_validate_module", &found, wanted.bytes);
+  free(bytes);
+}
+
 static void look_at(char *line) {
   char *cells[CELLS] = {NULL};
   size_t count = 0;
@@ -325,6 +353,8 @@ static void look_at(char *line) {
     look_at_encoding(cells[1], strtoull(cells[2], NULL, 10), cells[3]);
   } else if (strcmp(cells[0], "code") == 0 && count == 4) {
     look_at_section(cells[1], cells[2], cells[3]);
+  } else if (strcmp(cells[0], "validate") == 0 && count == 3) {
+    look_at_validation(cells[1], cells[2]);
   } else if (strcmp(cells[0], "list") != 0) {
     printf("a row of an unknown sort: %s\n", cells[0]);
     differ++;

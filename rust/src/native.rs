@@ -411,6 +411,17 @@ unsafe extern "C" {
         length: *mut usize,
         refusal: *mut Refusal,
     ) -> u32;
+    #[cfg(feature = "validate")]
+    fn wasm_validate_module(
+        bytes: *const u8,
+        bytes_length: usize,
+        features: u32,
+        function: *mut u64,
+        message: *mut u8,
+        message_length: usize,
+        length: *mut usize,
+        refusal: *mut Refusal,
+    ) -> u32;
     fn wasm_refusal_text(refusal: *const Refusal, text: *mut u8, text_length: usize) -> usize;
 }
 
@@ -903,6 +914,33 @@ pub fn function_name(bytes: &[u8], index: u32) -> Result<String, Refusal> {
             )
         }
     })
+}
+
+/// Checks a module. Returns the error and its message.
+#[cfg(feature = "validate")]
+pub fn validate_module(bytes: &[u8], features: u32) -> Result<(), (Refusal, String)> {
+    check_version();
+    let mut message = [0; LONGEST_TEXT_OF_ERROR];
+    let (mut function, mut length) = (0, 0);
+    let mut refusal = Refusal::default();
+    // SAFETY: see the head.
+    let number = unsafe {
+        wasm_validate_module(
+            bytes.as_ptr(),
+            bytes.len(),
+            features,
+            &mut function,
+            message.as_mut_ptr(),
+            message.len(),
+            &mut length,
+            &mut refusal,
+        )
+    };
+    if number == 0 {
+        return Ok(());
+    }
+    let written = &message[..length.min(message.len())];
+    Err((refusal, String::from_utf8_lossy(written).into_owned()))
 }
 
 /// The first length that a text of an operator gets.

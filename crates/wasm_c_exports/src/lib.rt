@@ -1,4 +1,4 @@
-//! The calls of `wasm_c` and `wasm_c_sections`, exported to C. Each export calls the function of the same
+//! The calls of `wasm_c`, `wasm_c_sections` and `wasm_c_validation`, exported to C. Each export calls the function of the same
 //! name, with the same arguments.
 //!
 //! Written by tools/exports.py from `src/lib.rt` of these crates.
@@ -34,6 +34,8 @@ ghost use Rattle.wasm_c_sections.specs.Items.{ReturnsItem};
 ghost use Rattle.wasm_c_sections.specs.Names.{placed_naming, ReturnsNames};
 ghost use Rattle.wasm_c_sections.specs.Payloads.{ReturnsPayload};
 ghost use Rattle.wasm_grammars.specs.Parts.{u32};
+ghost use Rattle.wasm_validation.specs.Functions.{AreTyped};
+ghost use Rattle.wasm_c_validation.specs.Verdicts.{no_function, ReturnsVerdict};
 
 use std::alloc::Global;
 use wasm_c::{
@@ -537,4 +539,26 @@ pub extern "C" fn wasm_next_name(
         refusal.new bytes.now items.old items.new naming.old naming.new }
 {
     wasm_c_sections::wasm_next_name(alloc, bytes, items, naming, refusal)
+}
+
+/// `wasm_c_validation::wasm_validate_module` for C.
+#[unsafe(no_mangle)]
+pub extern "C" fn wasm_validate_module(
+    alloc: Global,
+    bytes: &[u8],
+    features: u32,
+    function: &mut u64,
+    message: &mut [u8],
+    length: &mut usize,
+    refusal: &mut WasmRefusal,
+) -> u32
+    ensures outcome { result ≡ refusal.new.number }
+    ensures valid { result ≡ 0 → AreTyped (reader_of (features_of features) 0 bytes.now) }
+    ensures verdict { features < 64
+        → ReturnsVerdict refusal.new (reader_of (features_of features) 0 bytes.now) function.new }
+    ensures unknown { 64 ≤ features → (refusal.new ≡ misuse 100 0) × (function.new ≡ no_function) }
+{
+    wasm_c_validation::wasm_validate_module(
+        alloc, bytes, features, function, message, length, refusal,
+    )
 }
