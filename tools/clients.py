@@ -44,7 +44,7 @@ CAUSES = {
     "operators": "operators of 0.263",
     "fence": "the ordering of `atomic.fence` of 0.263",
     "exact": "exact references of 0.263",
-    "validator": "this crate has no `Validator`",
+    "validator": "`Validator` checks whole modules only",
 }
 OURS = f'package = "wasm-operators", path = "{TOP / "rust"}"'
 SIDES = ("wasmparser", "wasm-operators")

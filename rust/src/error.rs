@@ -93,6 +93,15 @@ impl Error {
         Error::with_number(message.into(), offset, 0)
     }
 
+    /// Creates the error of a module that is not valid. The message may be missing, after an allocation failure.
+    #[cfg(feature = "validate")]
+    pub(crate) fn of_module(refusal: Refusal, message: String) -> Error {
+        if message.is_empty() {
+            return Error::from(refusal);
+        }
+        Error::with_number(message, refusal.offset, refusal.number)
+    }
+
     /// Names what a size counts, if this is the error of a size above its limit.
     pub(crate) fn of_size(mut self, desc: &str) -> Error {
         if self.inner.number == SIZE_OUT_OF_BOUNDS {
@@ -198,6 +207,7 @@ fn text_of(refusal: &Refusal) -> String {
         108 => format!("invalid kind of a type: 0x{value:x}"),
         109 => String::from("the numbers of functions and bodies differ"),
         110 => String::from("the module does not define a function with this index"),
+        113 => String::from("the module is not valid"),
         _ => native::refusal_text(refusal),
     }
 }

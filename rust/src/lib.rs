@@ -16,15 +16,13 @@
 //! # Ok::<(), wasm_operators::Error>(())
 //! ```
 //!
-//! [`Parser`] reads whole modules, with the names of `wasmparser` 0.239.
+//! [`Parser`] reads whole modules, with the names of `wasmparser` 0.239, and [`validate`] checks them.
 //!
 //! The library is proved; this crate converts its C structs, finds sections and their items, and is tested. `API.md`
 //! lists what proves each item.
 
 #![deny(missing_docs, unsafe_code)]
 
-#[cfg(feature = "validate")]
-compile_error!("wasm-operators has no validator: turn the feature `validate` off");
 #[cfg(feature = "component-model")]
 compile_error!("wasm-operators does not read components: turn the feature `component-model` off");
 
@@ -61,6 +59,10 @@ mod section;
 mod segments;
 mod shapes;
 mod text;
+#[cfg(feature = "validate")]
+pub mod types;
+#[cfg(feature = "validate")]
+mod validator;
 mod value_types;
 mod visit;
 mod visitor;
@@ -112,6 +114,8 @@ pub use segments::{
     Global, GlobalSectionReader, Table, TableInit, TableSectionReader,
 };
 pub use text::{operator_text, operator_text_name};
+#[cfg(feature = "validate")]
+pub use validator::{Validator, validate};
 pub use value_types::{AbstractHeapType, HeapType, RefType, ValType};
 pub use visitor::{EachVisit, VisitAny, VisitOperator, VisitSimdOperator};
 
