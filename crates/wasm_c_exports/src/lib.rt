@@ -34,7 +34,7 @@ ghost use Rattle.wasm_c_sections.specs.Items.{ReturnsItem};
 ghost use Rattle.wasm_c_sections.specs.Names.{placed_naming, ReturnsNames};
 ghost use Rattle.wasm_c_sections.specs.Payloads.{ReturnsPayload};
 ghost use Rattle.wasm_grammars.specs.Parts.{u32};
-ghost use Rattle.wasm_validation.specs.Functions.{AreTyped};
+ghost use Rattle.wasm_validation.specs.Valid.{IsValidModule};
 ghost use Rattle.wasm_c_validation.specs.Verdicts.{no_function, ReturnsVerdict};
 
 use std::alloc::Global;
@@ -553,7 +553,7 @@ pub extern "C" fn wasm_validate_module(
     refusal: &mut WasmRefusal,
 ) -> u32
     ensures outcome { result ≡ refusal.new.number }
-    ensures valid { result ≡ 0 → AreTyped (reader_of (features_of features) 0 bytes.now) }
+    ensures valid { result ≡ 0 → IsValidModule (reader_of (features_of features) 0 bytes.now) }
     ensures verdict { features < 64
         → ReturnsVerdict refusal.new (reader_of (features_of features) 0 bytes.now) function.new }
     ensures unknown { 64 ≤ features → (refusal.new ≡ misuse 100 0) × (function.new ≡ no_function) }

@@ -4,7 +4,8 @@ use Rattle.wasm_below.specs.Source.{Reader}
 use Rattle.wasm_c.specs.declared.refusal.WasmRefusal.{WasmRefusal}
 use Rattle.wasm_c.specs.Refused.{misuse, no_refusal, refusal_of}
 use Rattle.wasm_validation.specs.declared.fault.Fault.{Fault}
-use Rattle.wasm_validation.specs.Functions.{AreTyped, Stops}
+use Rattle.wasm_validation.specs.Valid.{IsValidModule}
+use Rattle.wasm_validation.specs.Faults.{IsExhausted, IsFirstFault}
 use Rattle.wasm_validation_texts.specs.declared.kind.FaultKind.{FaultKind}
 use Rattle.wasm_validation_texts.specs.declared.kind.FaultKind.TheVariants as kind
 use Rattle.wasm_validation_texts.specs.Kinds.{kind_of, function_of}
@@ -24,13 +25,14 @@ refusal_of_kind kind.Memory = misuse 3 0
 refusal_of_kind (kind.Malformed e) = refusal_of e
 refusal_of_kind (kind.Invalid offset) = misuse 113 offset
 
--- The function bodies are typed, and there is no error.
+-- The module is valid, and there is no error.
 abbrev pub Accepts : WasmRefusal → Reader → ℕ → Type 0
-Accepts r bytes function = (r ≡ no_refusal (length bytes.buffer)) × (function ≡ no_function) × AreTyped bytes
+Accepts r bytes function = (r ≡ no_refusal (length bytes.buffer)) × (function ≡ no_function) × IsValidModule bytes
 
--- The error is that of the first payload that can't be read or checked.
+-- The error is that of the first payload that cannot be read or is not valid. The module is not valid,
+-- unless allocation failed or there are too many types.
 abbrev pub Rejects : WasmRefusal → Reader → ℕ → Type 0
-Rejects r bytes function = (f : Fault) × Stops bytes f × (r ≡ refusal_of_kind (kind_of f)) × (function ≡ function_number (function_of f))
+Rejects r bytes function = (f : Fault) × IsFirstFault bytes f × ((IsExhausted f → ⊥) → IsValidModule bytes → ⊥) × (r ≡ refusal_of_kind (kind_of f)) × (function ≡ function_number (function_of f))
 
 -- `wasm_validate_module` accepts a module or rejects it. The message is not determined.
 abbrev pub ReturnsVerdict : WasmRefusal → Reader → ℕ → Type 0

@@ -7,7 +7,7 @@ ghost use Rattle.std.specs.Prelude.{◌≡◌, ◌<◌, ◌≤◌, ◌^◌};
 ghost use Rattle.wasm_operators.specs.below.Features.{features_of};
 ghost use Rattle.wasm_operators.specs.below.Source.{reader_of};
 ghost use Rattle.wasm_c.specs.Refused.{misuse};
-ghost use Rattle.wasm_validation.specs.Functions.{AreTyped};
+ghost use Rattle.wasm_validation.specs.Valid.{IsValidModule};
 ghost use Rattle.wasm_c_validation.specs.Verdicts.{no_function, ReturnsVerdict};
 
 mod verdict;
@@ -30,7 +30,7 @@ pub fn wasm_validate_module(
     refusal: &mut WasmRefusal,
 ) -> u32
     ensures outcome { result ≡ refusal.new.number }
-    ensures valid { result ≡ 0 → AreTyped (reader_of (features_of features) 0 bytes.now) }
+    ensures valid { result ≡ 0 → IsValidModule (reader_of (features_of features) 0 bytes.now) }
     ensures verdict { features < 64 → ReturnsVerdict refusal.new (reader_of (features_of features) 0 bytes.now) function.new }
     ensures unknown { 64 ≤ features → (refusal.new ≡ misuse 100 0) × (function.new ≡ no_function) }
 {

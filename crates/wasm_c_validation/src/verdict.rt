@@ -7,7 +7,7 @@ ghost use Rattle.wasm_c_validation.specs.Verdicts.{function_number, refusal_of_k
 use std::alloc::Global;
 use wasm_below::{BinaryReader, WasmFeatures};
 use wasm_c::WasmRefusal;
-use wasm_validation::{Fault, check_functions};
+use wasm_validation::{Fault, validate_module};
 use wasm_validation_texts::{FaultKind, function_of, kind_of, message_of};
 
 // The numbers of errors, as in `c/include/wasm_operators.h`.
@@ -74,7 +74,7 @@ pub fn validate(
     requires { known ≡ features_of features }
     ensures { ReturnsVerdict result (reader_of (features_of features) 0 bytes.now) function.new }
 {
-    match check_functions(alloc, BinaryReader::new_features(bytes, 0, known)) {
+    match validate_module(alloc, BinaryReader::new_features(bytes, 0, known)) {
         Ok(()) => {
             *function = NO_FUNCTION;
             *length = 0;

@@ -56,7 +56,7 @@ references_or_fail r c d e known declares (inl f) = absurd f
 pub one_constant : (t : ValType) (r : Reader) (c d e : Components) → AddsConstant t r c d → AddsConstant t r c e → d ≡ e
 one_constant t r c d e (a, _) (b, _) = one_references r c d e a b
 
-typed_or_explained : (c : Components) (t : ValType) (r : Reader) (e : PayloadError) → (IsExhausted e → ⊥) → IsConstant c t r → ExplainsConstant c t r e → ⊥
+pub typed_or_explained : (c : Components) (t : ValType) (r : Reader) (e : PayloadError) → (IsExhausted e → ⊥) → IsConstant c t r → ExplainsConstant c t r e → ⊥
 typed_or_explained c t r (error.Constant e) known typed (none, _) = none known typed
 typed_or_explained c t r e known typed f = absurd f
 

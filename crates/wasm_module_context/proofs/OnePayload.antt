@@ -11,13 +11,13 @@ use Rattle.wasm_constants.specs.Constants.{const_expr}
 use Rattle.wasm_payloads.specs.declared.payload.Payload.{Payload}
 use Rattle.wasm_payloads.specs.declared.payload.Payload.TheVariants as payload
 use Rattle.wasm_context.specs.Components.{Components}
-use Rattle.wasm_context.specs.Faults.{function_fault, memory_fault, tag_fault, external_fault, import_fault, data_fault}
+use Rattle.wasm_context.specs.Faults.{function_fault, memory_fault, tag_fault, export_fault, import_fault, start_fault, data_fault}
 use Rattle.wasm_module_context.specs.declared.error.PayloadError.{PayloadError}
 use Rattle.wasm_module_context.specs.Exhaustion.{IsExhausted}
 use Rattle.wasm_module_context.specs.Parts.{FailsAt, AddsGroup, FailsGroup, AddsImport, AddsFunction, AddsMemory, AddsTag, AddsExport, AddsTable, FailsTable, AddsGlobal, FailsGlobal, AddsElement, FailsElement}
 use Rattle.wasm_module_context.specs.Payloads.{AddsPayload, FailsPayload}
 use Rattle.wasm_module_context.proofs.OneContext.{AddsOnce, items_once, items_or_error, becomes_once, fine_or_fails}
-use Rattle.wasm_module_context.proofs.OneItem.{one_group, group_or_fails, one_table, table_or_fails, one_global, global_or_fails, one_element, element_or_fails}
+use Rattle.wasm_module_context.proofs.OneItem.{one_group, group_or_fails, one_table, table_or_fails, one_global, global_or_fails, one_element, element_or_fails, one_data_section, data_section_or_fails}
 
 one_import : AddsOnce AddsImport
 one_import i c d e a b = becomes_once a b
@@ -44,6 +44,9 @@ one_after (payload.TagSection s) c d e a b = items_once AddsTag (λ features. ta
 one_after (payload.GlobalSection s) c d e a b = items_once AddsGlobal (λ features. global features (const_expr features)) one_global s.count s.reader c d e a b
 one_after (payload.ExportSection s) c d e a b = items_once AddsExport (λ features. export) one_export s.count s.reader c d e a b
 one_after (payload.ElementSection s) c d e a b = items_once AddsElement (λ features. element features (const_expr features)) one_element s.count s.reader c d e a b
+one_after (payload.StartSection x range) c d e a b = becomes_once a b
+one_after (payload.DataSection s) c d e a b = one_data_section s c d e a b
+one_after (payload.UnknownSection id contents) c d e a b = absurd a
 one_after (payload.DataCountSection n range) c d e a b = becomes_once a b
 one_after p c d e a b = a ∙ sym b
 
@@ -61,9 +64,12 @@ added_or_fails (payload.TagSection s) c d e known a f = items_or_error AddsTag (
     (λ t c d at e known a f. fine_or_fails (tag_fault c t) at e known a.0 f) s.count s.reader c d e known a f
 added_or_fails (payload.GlobalSection s) c d e known a f =
     items_or_error AddsGlobal (λ features. global features (const_expr features)) one_global FailsGlobal global_or_fails s.count s.reader c d e known a f
-added_or_fails (payload.ExportSection s) c d e known a f = items_or_error AddsExport (λ features. export) one_export (λ x c at e. FailsAt (external_fault c x.kind x.index) at e)
-    (λ x c d at e known a f. fine_or_fails (external_fault c x.kind x.index) at e known a.0 f) s.count s.reader c d e known a f
+added_or_fails (payload.ExportSection s) c d e known a f = items_or_error AddsExport (λ features. export) one_export (λ x c at e. FailsAt (export_fault c x.kind x.index x.name) at e)
+    (λ x c d at e known a f. fine_or_fails (export_fault c x.kind x.index x.name) at e known a.0 f) s.count s.reader c d e known a f
 added_or_fails (payload.ElementSection s) c d e known a f =
     items_or_error AddsElement (λ features. element features (const_expr features)) one_element FailsElement element_or_fails s.count s.reader c d e known a f
+added_or_fails (payload.StartSection x range) c d e known a f = fine_or_fails (start_fault c x) range.start e known a.0 f
+added_or_fails (payload.DataSection s) c d e known a f = data_section_or_fails s c d e known a f
+added_or_fails (payload.UnknownSection id contents) c d e known a f = absurd a
 added_or_fails (payload.DataCountSection n range) c d e known a f = fine_or_fails (data_fault n) range.start e known a.0 f
 added_or_fails p c d e known a f = absurd f

@@ -1,6 +1,6 @@
-//! Validates the function bodies of WebAssembly modules.
+//! Validates WebAssembly modules.
 //!
-//! The main theorem is the contract of `check_functions` of `wasm_validation`.
+//! The main theorem is the contract of `validate_module` of `wasm_validation`.
 #![tactic(auto)]
 
 mod arguments;
@@ -13,12 +13,11 @@ use wasm_operators::BinaryReader;
 use wasm_programs::{
     Mistake, complain_input, complain_mistake, print_text, read_module, shown_path, words_of,
 };
-use wasm_validation::check_functions;
+use wasm_validation::validate_module;
 
 const HELP: &str = "Usage: wasm_validate [OPTION].. FILE..
 
-Validates the function bodies of WebAssembly modules. Reads standard input for a FILE that is `-`.
-Other sections are read, and their types and counts are used; whether they are valid is not checked.
+Validates WebAssembly modules. Reads standard input for a FILE that is `-`.
 
       --features WORD  all (the default), none, or names separated by commas: multi_memory,
                        memory64, call_indirect_overlong, legacy_exceptions,
@@ -34,7 +33,7 @@ the largest. It is 141 if the output is a closed pipe.
 
 const VERSION: &str = "wasm_validate 0.1.0, follows wasmparser 0.263.0\n";
 
-/// Validates the functions of a file. Returns the exit status, after a message unless it is 0.
+/// Validates the module in a file. Returns the exit status, after a message unless it is 0.
 fn validate(rt: &HostRuntime, options: &Options, path: &str) -> u8 {
     let shown = shown_path(path);
     let bytes = match read_module(rt, path) {
@@ -42,7 +41,7 @@ fn validate(rt: &HostRuntime, options: &Options, path: &str) -> u8 {
         Err(error) => return complain_input(rt, PROGRAM, shown, error),
     };
     let reader = BinaryReader::new_features(bytes.as_slice(), 0, options.features);
-    match check_functions(rt.alloc(), reader) {
+    match validate_module(rt.alloc(), reader) {
         Ok(()) => 0,
         Err(fault) => report(rt, shown, bytes.as_slice(), fault),
     }

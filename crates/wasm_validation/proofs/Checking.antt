@@ -1,66 +1,48 @@
 -- Payloads checked one by one.
-use Rattle.std.proofs.Common.{◌≡◌, [], ◌∷◌, inl, inr, refl}
+use Rattle.std.proofs.Common.{◌≡◌, ℕ, [], ◌∷◌, Result, Ok, Err, OnOk, IfErr, inl, inr, refl}
 use Rattle.wasm_below.specs.declared.error.Error.{Error}
 use Rattle.wasm_below.specs.Source.{Reader}
 use Rattle.wasm_sections.specs.Items.{Counted}
 use Rattle.wasm_payloads.specs.declared.payload.Payload.{Payload}
 use Rattle.wasm_payloads.specs.declared.payload.Payload.TheVariants as payload
-use Rattle.wasm_payloads.specs.Parsing.{Parsing, Gives, FailsAt}
+use Rattle.wasm_payloads.specs.Parsing.{Parsing, starts, Gives, FailsAt}
 use Rattle.wasm_module_context.specs.Payloads.{AddsPayload}
 use Rattle.wasm_validation.specs.declared.fault.Fault.{Fault}
 use Rattle.wasm_validation.specs.declared.fault.Fault.TheVariants as fault
-use Rattle.wasm_validation.specs.Functions.{Stage, Checks, ChecksAll, FailsToAdd, Refuses, StopsLater}
+use Rattle.wasm_validation.specs.Valid.{Stage, first, IsValid, IsValidFrom, IsValidModule}
+use Rattle.wasm_validation.specs.Faults.{IsExhausted, FailsToAdd, Refuses, StopsLater, IsFirstFault}
+use Rattle.wasm_validation.proofs.Excluding.{valid_or_first}
 
--- A payload that is neither a function section nor a body adds what it adds to the context.
-pub other_checks : (p : Payload) (s t : Stage) → ((x : Counted) → p ≡ payload.FunctionSection x → ⊥) → ((x : Reader) → p ≡ payload.CodeSectionEntry x → ⊥) →
-    AddsPayload p s.context t.context → t.next ≡ s.next → Checks p s t
-other_checks (payload.Version a a2 a3) s t f b adds next = (adds, next)
-other_checks (payload.TypeSection a) s t f b adds next = (adds, next)
-other_checks (payload.ImportSection a) s t f b adds next = (adds, next)
-other_checks (payload.FunctionSection a) s t f b adds next = absurd (f a refl)
-other_checks (payload.TableSection a) s t f b adds next = (adds, next)
-other_checks (payload.MemorySection a) s t f b adds next = (adds, next)
-other_checks (payload.TagSection a) s t f b adds next = (adds, next)
-other_checks (payload.GlobalSection a) s t f b adds next = (adds, next)
-other_checks (payload.ExportSection a) s t f b adds next = (adds, next)
-other_checks (payload.StartSection a a2) s t f b adds next = (adds, next)
-other_checks (payload.ElementSection a) s t f b adds next = (adds, next)
-other_checks (payload.DataCountSection a a2) s t f b adds next = (adds, next)
-other_checks (payload.DataSection a) s t f b adds next = (adds, next)
-other_checks (payload.CodeSectionStart a a2 a3 a4) s t f b adds next = (adds, next)
-other_checks (payload.CodeSectionEntry a) s t f b adds next = absurd (b a refl)
-other_checks (payload.CustomSection a) s t f b adds next = (adds, next)
-other_checks (payload.UnknownSection a a2) s t f b adds next = (adds, next)
-other_checks (payload.End a) s t f b adds next = (adds, next)
+-- Another payload adds what it adds to the context.
+pub other_valid : (p : Payload) (s t : Stage) → ((x : Counted) → p ≡ payload.FunctionSection x → ⊥) → ((x : Reader) → p ≡ payload.CodeSectionEntry x → ⊥) →
+    ((n : ℕ) (x : Reader) → p ≡ payload.UnknownSection n x → ⊥) → AddsPayload p s.context t.context → t.next ≡ s.next → IsValid p s t
+other_valid (payload.FunctionSection a) s t f b u adds next = absurd (f a refl)
+other_valid (payload.CodeSectionEntry a) s t f b u adds next = absurd (b a refl)
+other_valid (payload.UnknownSection a a2) s t f b u adds next = absurd (u a a2 refl)
+other_valid p s t f b u adds next = (adds, next)
 
-pub other_refuses : (p : Payload) (s : Stage) (e : Fault) → ((x : Reader) → p ≡ payload.CodeSectionEntry x → ⊥) → FailsToAdd p s.context e → Refuses p s e
-other_refuses (payload.Version a a2 a3) s e b fails = fails
-other_refuses (payload.TypeSection a) s e b fails = fails
-other_refuses (payload.ImportSection a) s e b fails = fails
-other_refuses (payload.FunctionSection a) s e b fails = fails
-other_refuses (payload.TableSection a) s e b fails = fails
-other_refuses (payload.MemorySection a) s e b fails = fails
-other_refuses (payload.TagSection a) s e b fails = fails
-other_refuses (payload.GlobalSection a) s e b fails = fails
-other_refuses (payload.ExportSection a) s e b fails = fails
-other_refuses (payload.StartSection a a2) s e b fails = fails
-other_refuses (payload.ElementSection a) s e b fails = fails
-other_refuses (payload.DataCountSection a a2) s e b fails = fails
-other_refuses (payload.DataSection a) s e b fails = fails
-other_refuses (payload.CodeSectionStart a a2 a3 a4) s e b fails = fails
-other_refuses (payload.CodeSectionEntry a) s e b fails = absurd (b a refl)
-other_refuses (payload.CustomSection a) s e b fails = fails
-other_refuses (payload.UnknownSection a a2) s e b fails = fails
-other_refuses (payload.End a) s e b fails = fails
+pub other_refuses : (p : Payload) (s : Stage) (e : Fault) → ((x : Reader) → p ≡ payload.CodeSectionEntry x → ⊥) → ((n : ℕ) (x : Reader) → p ≡ payload.UnknownSection n x → ⊥) →
+    FailsToAdd p s.context e → Refuses p s e
+other_refuses (payload.CodeSectionEntry a) s e b u fails = absurd (b a refl)
+other_refuses (payload.UnknownSection a a2) s e b u fails = absurd (u a a2 refl)
+other_refuses p s e b u fails = fails
 
-pub checks_more : (p q : Parsing) (s t : Stage) (x : Payload) → Gives p.state x p q → Checks x s t → ChecksAll q t → ChecksAll p s
-checks_more p q s t x gives checks (xs, r, u, all, ended) = (x ∷ xs, r, u, (q, t, gives, checks, all), ended)
+pub valid_more : (p q : Parsing) (s t : Stage) (x : Payload) → Gives p.state x p q → IsValid x s t → IsValidFrom q t → IsValidFrom p s
+valid_more p q s t x gives is (xs, r, u, occur, valid, ended) = (x ∷ xs, r, u, (q, gives, occur), (t, is, valid), ended)
 
-pub stops_later : (p q : Parsing) (s t : Stage) (f : Fault) (x : Payload) → Gives p.state x p q → Checks x s t → StopsLater q t f → StopsLater p s f
-stops_later p q s t f x gives checks (xs, r, u, all, why) = (x ∷ xs, r, u, (q, t, gives, checks, all), why)
+pub stops_later : (p q : Parsing) (s t : Stage) (f : Fault) (x : Payload) → Gives p.state x p q → IsValid x s t → StopsLater q t f → StopsLater p s f
+stops_later p q s t f x gives is (xs, r, u, occur, valid, why) = (x ∷ xs, r, u, (q, gives, occur), (t, is, valid), why)
 
 pub stops_here : (p q : Parsing) (s : Stage) (f : Fault) (x : Payload) → Gives p.state x p q → Refuses x s f → StopsLater p s f
-stops_here p q s f x gives refuses = ([], p, s, (refl, refl), inr (x, q, gives, refuses))
+stops_here p q s f x gives refuses = ([], p, s, refl, refl, inr (x, q, gives, refuses))
 
 pub stops_parsing : (p : Parsing) (s : Stage) (e : Error) → FailsAt p.state e p → StopsLater p s (fault.Parse e)
-stops_parsing p s e fails = ([], p, s, (refl, refl), inl fails)
+stops_parsing p s e fails = ([], p, s, refl, refl, inl fails)
+
+pub module_valid : (r : Reader) (result : Result Unit Fault) → OnOk result (IsValidFrom (starts r) first) → OnOk result (IsValidModule r)
+module_valid r (Ok u) (xs, q, t, occur, valid, ended) = record { payloads = xs; last = t; encodes = (q, occur, ended); valid = valid }
+module_valid r (Err f) h = h
+
+pub module_whole : (r : Reader) (result : Result Unit Fault) → IfErr result (λ f. IsFirstFault r f) → IfErr result (λ f. (IsExhausted f → ⊥) → IsValidModule r → ⊥)
+module_whole r (Ok u) h = h
+module_whole r (Err f) h = λ known valid. valid_or_first r f known valid h

@@ -1,1 +1,4 @@
+pub mod Stacks
+pub mod Untyped
+pub mod Excluding
 pub mod Checking

@@ -20,8 +20,10 @@ pub struct FaultyBody<'a> {
 pub enum Fault<'a> {
     /// The module cannot be read.
     Parse(Error),
-    /// A section gives no part of a context.
+    /// A section is not valid.
     Section(PayloadError),
+    /// The section at this offset has this id, which is unknown.
+    UnknownSection(u8, u64),
     /// The body at this offset belongs to no function.
     NoFunction(u64),
     Body(FaultyBody<'a>),

@@ -1,10 +1,11 @@
-//! The validation of modules, from bytes: so far of function bodies.
+//! The validation of modules, from bytes.
 //!
-//! The main theorem is the contract of [`check_functions`].
+//! The main theorem is the contract of [`validate_module`]. Any call that allocates may fail with an
+//! error that says so.
 #![tactic(auto)]
 
 mod fault;
-mod functions;
+mod modules;
 
 pub use fault::{Fault, FaultyBody};
-pub use functions::check_functions;
+pub use modules::validate_module;

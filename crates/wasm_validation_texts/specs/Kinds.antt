@@ -51,6 +51,7 @@ kind_of_added (payload_error.Context e offset) = kind_of_context e offset
 abbrev pub kind_of : Fault → FaultKind
 kind_of (fault.Parse e) = kind_of_read e
 kind_of (fault.Section e) = kind_of_added e
+kind_of (fault.UnknownSection id offset) = kind.Invalid offset
 kind_of (fault.NoFunction offset) = kind.Invalid offset
 kind_of (fault.Body f) = kind_of_checked f.error
 

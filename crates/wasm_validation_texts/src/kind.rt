@@ -64,6 +64,7 @@ pub fn kind_of(fault: &Fault<'_>) -> FaultKind
     match fault {
         Fault::Parse(error) => kind_of_read(error),
         Fault::Section(error) => kind_of_added(error),
+        Fault::UnknownSection(_, offset) => FaultKind::Invalid(*offset),
         Fault::NoFunction(offset) => FaultKind::Invalid(*offset),
         Fault::Body(faulty) => kind_of_checked(&faulty.error),
     }

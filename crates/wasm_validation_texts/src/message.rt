@@ -76,6 +76,11 @@ fn of_constant(error: CheckError) -> FaultMessage {
     }
 }
 
+/// Returns the message of a section with this id, which no section has.
+fn of_unknown(id: u8) -> FaultMessage {
+    FaultMessage::Reason(Reason::Index("malformed section id: ", id as u32, ""))
+}
+
 /// Returns the message of a section.
 fn of_section(error: &PayloadError) -> FaultMessage {
     match *error {
@@ -89,9 +94,7 @@ fn of_section(error: &PayloadError) -> FaultMessage {
             expected,
             ..
         } => FaultMessage::Reason(Reason::Elements(found, expected)),
-        PayloadError::UnknownSection(id, _) => {
-            FaultMessage::Reason(Reason::Index("malformed section id: ", id as u32, ""))
-        }
+        PayloadError::UnknownSection(id, _) => of_unknown(id),
         PayloadError::Context(error, _) => FaultMessage::Section(error),
     }
 }
@@ -102,6 +105,7 @@ pub fn message_of(alloc: Global, fault: &Fault<'_>) -> Option<FaultMessage> {
     match fault {
         Fault::Parse(error) => Some(of_read(error)),
         Fault::Section(error) => Some(of_section(error)),
+        Fault::UnknownSection(id, _) => Some(of_unknown(*id)),
         Fault::NoFunction(_) => Some(FaultMessage::Text("the body is of no function")),
         Fault::Body(faulty) => of_body(alloc, faulty),
     }

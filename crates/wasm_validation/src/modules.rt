@@ -1,7 +1,8 @@
 ghost use Rattle.std.specs.Prelude.{◌≡◌, OnOk, IfOk, IfErr};
 ghost use Rattle.wasm_module_context.specs.Payloads.{AddsPayload};
 ghost use Rattle.wasm_payloads.specs.declared.payload.Payload.TheVariants as payload;
-ghost use Rattle.wasm_validation.specs.Functions.{AreTyped, Checks, ChecksAll, FailsToAdd, Refuses, Stops, StopsLater};
+ghost use Rattle.wasm_validation.specs.Faults.{FailsToAdd, IsExhausted, IsFirstFault, Refuses, StopsLater};
+ghost use Rattle.wasm_validation.specs.Valid.{first, IsValid, IsValidFrom, IsValidModule};
 
 use crate::fault::{Fault, FaultyBody};
 use std::alloc::Global;
@@ -21,15 +22,24 @@ struct Stage {
 }
 
 impl Model for Stage {
-    ghost use Rattle.wasm_validation.specs.Functions as functions;
+    ghost use Rattle.wasm_validation.specs.Valid as valid;
 
-    ghost Value = { functions.Stage };
+    ghost Value = { valid.Stage };
 
     ghost view = { λ s. record { context = s.context; next = s.next } };
 }
 
+fn first_stage(alloc: Global) -> Stage
+    ensures { result ≡ first }
+{
+    Stage {
+        context: Context::new(alloc, Types::new(alloc)),
+        next: 0,
+    }
+}
+
 fn check_entry<'a>(alloc: Global, stage: Stage, body: BinaryReader<'a>) -> Result<Stage, Fault<'a>>
-    ensures checked { IfOk result (λ new. Checks (payload.CodeSectionEntry body.entry) stage new) }
+    ensures checked { IfOk result (λ new. IsValid (payload.CodeSectionEntry body.entry) stage new) }
     ensures refused { IfErr result (λ f. Refuses (payload.CodeSectionEntry body.entry) stage f) }
 {
     let Stage { context, next } = stage;
@@ -71,7 +81,7 @@ fn add<'a>(
 }
 
 fn check_payload<'a>(alloc: Global, stage: Stage, payload: Payload<'a>) -> Result<Stage, Fault<'a>>
-    ensures checked { IfOk result (λ new. Checks payload.entry stage new) }
+    ensures checked { IfOk result (λ new. IsValid payload.entry stage new) }
     ensures refused { IfErr result (λ f. Refuses payload.entry stage f) }
 {
     match payload {
@@ -91,6 +101,9 @@ fn check_payload<'a>(alloc: Global, stage: Stage, payload: Payload<'a>) -> Resul
                 Err(fault) => Err(fault),
             }
         }
+        Payload::UnknownSection { id, contents } => {
+            Err(Fault::UnknownSection(id, contents.original_position()))
+        }
         other => match add(alloc, stage.context, stage.next, other) {
             Ok(next) => Ok(next),
             Err(fault) => Err(fault),
@@ -100,7 +113,7 @@ fn check_payload<'a>(alloc: Global, stage: Stage, payload: Payload<'a>) -> Resul
 
 /// Checks the payloads from a stage on.
 fn check_payloads<'a>(alloc: Global, parser: Parser<'a>, stage: Stage) -> Result<(), Fault<'a>>
-    ensures checked { OnOk result (ChecksAll parser.entry stage) }
+    ensures checked { OnOk result (IsValidFrom parser.entry stage) }
     ensures refused { IfErr result (λ f. StopsLater parser.entry stage f) }
 {
     let mut payloads = parser;
@@ -117,17 +130,17 @@ fn check_payloads<'a>(alloc: Global, parser: Parser<'a>, stage: Stage) -> Result
     Ok(())
 }
 
-/// Checks each function body of the module that the reader's bytes are, in the context that the
-/// sections before the code give. Specification: Validation, Modules.
-pub fn check_functions<'a>(alloc: Global, reader: BinaryReader<'a>) -> Result<(), Fault<'a>>
-    // On `Ok`, each body is typed with the type of its function.
-    ensures typed { OnOk result (AreTyped reader.entry) }
-    // The error is what the first payload that can't be read or checked gives.
-    ensures error { IfErr result (λ f. Stops reader.entry f) }
+/// Validates the module that the reader's bytes are. Reads it once, payload by payload.
+/// Specification: Validation, Modules.
+///
+/// Fails with the error of the first payload that cannot be read or is not valid.
+pub fn validate_module<'a>(alloc: Global, reader: BinaryReader<'a>) -> Result<(), Fault<'a>>
+    // On `Ok`, the bytes encode a module that is valid.
+    ensures valid { OnOk result (IsValidModule reader.entry) }
+    // On an error, they encode none, unless allocation failed or there are too many types.
+    ensures whole { IfErr result (λ f. (IsExhausted f → ⊥) → IsValidModule reader.entry → ⊥) }
+    // The error of the first payload that can't be read or is not valid is returned.
+    ensures error { IfErr result (λ f. IsFirstFault reader.entry f) }
 {
-    let stage = Stage {
-        context: Context::new(alloc, Types::new(alloc)),
-        next: 0,
-    };
-    check_payloads(alloc, parse_all(alloc, reader), stage)
+    check_payloads(alloc, parse_all(alloc, reader), first_stage(alloc))
 }

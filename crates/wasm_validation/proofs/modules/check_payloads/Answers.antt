@@ -1,6 +1,6 @@
 use Rattle.std.proofs.Common.{◌≡◌, Ok, Err, rules}
-use Rattle.wasm_validation.proofs.Checking.{checks_more, stops_later, stops_here, stops_parsing}
-use Rattle.wasm_validation.proofs.functions.check_payloads.Goals as goal
+use Rattle.wasm_validation.proofs.Checking.{valid_more, stops_later, stops_here, stops_parsing}
+use Rattle.wasm_validation.proofs.modules.check_payloads.Goals as goal
 
 pub payloads-preserved : goal.payloads-preserved
 payloads-preserved c =
@@ -8,7 +8,7 @@ payloads-preserved c =
     let steps = rw item at c.in-Some.ensures.steps in
     let checked = c.in-Ok-check_payload.ensures.checked in
     record {
-      checks = λ more. c.payloads.invariant.checks (checks_more c.payloads.payloads c.next.new.self c.payloads.stage c.in-Ok-check_payload.next c.in-Ok.payload steps checked more);
+      valid = λ more. c.payloads.invariant.valid (valid_more c.payloads.payloads c.next.new.self c.payloads.stage c.in-Ok-check_payload.next c.in-Ok.payload steps checked more);
       stops = λ f more. c.payloads.invariant.stops f (stops_later c.payloads.payloads c.next.new.self c.payloads.stage c.in-Ok-check_payload.next f c.in-Ok.payload steps checked more);
     }
 
