@@ -4,8 +4,9 @@
     tools/large_modules.py PROGRAM [NAME..]
 
 PROGRAM is `wasm_validate`, as `rt run` builds it or `tools/test --keep` does. It validates each module at its size and at
-half of it: equal types, a long group, locals without a default value, calls with many results, nested blocks, branch tables.
-Each is valid. CPU time and memory may be at most LINEAR times those for the half. NAME is one of the modules.
+half of it: types and groups that differ, equal types, a long group, locals without a default value, calls with many
+results, nested blocks, branch tables. Each is valid. CPU time and memory may be at most LINEAR times those for the half.
+NAME is one of the modules.
 """
 
 import os
@@ -21,7 +22,7 @@ from shared.leb128 import signed, unsigned
 ROUNDS = 3
 HEADER = b"\0asm\1\0\0\0"
 FUNCTION, STRUCT, GROUP = b"\x60", b"\x5f", b"\x4e"
-I32 = b"\x7f"
+I32, I64, F32, F64 = b"\x7f", b"\x7e", b"\x7d", b"\x7c"
 NO_FUNCTION = FUNCTION + b"\0\0"
 END = b"\x0b"
 
@@ -42,12 +43,39 @@ def module(types, body=None, kind=0):
     return made + section(3, vector([unsigned(kind)])) + section(10, vector([unsigned(len(body)) + body]))
 
 
+def numbered(n):
+    """Returns a function type that no other number has."""
+    params = []
+    while n:
+        params.append((I32, I64, F32, F64)[n % 4])
+        n //= 4
+    return FUNCTION + vector(params) + b"\0"
+
+
 def reference(index):
     return b"\x63" + signed(index)
 
 
+def different(n):
+    return module([numbered(i) for i in range(1, n)])
+
+
 def equal(n):
     return module([NO_FUNCTION] * n)
+
+
+def pairs(n):
+    """Groups of two types, of which the second differs."""
+    return module([GROUP + vector([NO_FUNCTION, numbered(i)]) for i in range(1, n)])
+
+
+def references(n):
+    """Structures that differ in the type that they refer to."""
+    return module([NO_FUNCTION] + [STRUCT + vector([reference(i) + b"\0"]) for i in range(n)])
+
+
+def empty_groups(n):
+    return module([NO_FUNCTION] * n + [GROUP + b"\0"] * n)
 
 
 def one_group(n):
@@ -83,7 +111,11 @@ def targets(n):
 
 
 MODULES = {
+    "different types": (different, 400000),
     "equal types": (equal, 900000),
+    "groups of two": (pairs, 200000),
+    "references": (references, 200000),
+    "empty groups": (empty_groups, 400000),
     "one group": (one_group, 400000),
     "set locals": (set_locals, 2000000),
     "results": (results, 20000),

@@ -59,18 +59,18 @@ at_take (x ∷ xs) zero q p = absurd (omega (arith, p))
 at_take (x ∷ xs) (suc r) zero p = refl
 at_take (x ∷ xs) (suc r) (suc q) p = at_take xs r q (omega (arith, p))
 
-at_placed : (first i : ℕ) (g : List SubType) (q : ℕ) → slice_get (placed first i g) q ≡ option_map (λ ty. record { ty = ty; first = first; identity = i + q }) (slice_get g q)
+pub at_placed : (first i : ℕ) (g : List SubType) (q : ℕ) → slice_get (placed first i g) q ≡ option_map (λ ty. record { ty = ty; first = first; identity = i + q }) (slice_get g q)
 at_placed first i [] q = refl
 at_placed first i (ty ∷ g) zero = ap (λ n. Some (record { ty = ty; first = first; identity = n })) (let e : i ≡ i + zero = omega arith in e)
 at_placed first i (ty ∷ g) (suc q) =
     at_placed first (suc i) g q ∙
     ap (λ n. option_map (λ t. record { ty = t; first = first; identity = n }) (slice_get g q)) (let e : suc i + q ≡ i + suc q = omega arith in e)
 
-length_placed : (first i : ℕ) (g : List SubType) → length (placed first i g) ≡ length g
+pub length_placed : (first i : ℕ) (g : List SubType) → length (placed first i g) ≡ length g
 length_placed first i [] = refl
 length_placed first i (ty ∷ g) = ap suc (length_placed first (suc i) g)
 
-length_both : (xs ys : List Defined) → length (xs ++ ys) ≡ length xs + length ys
+pub length_both : (xs ys : List Defined) → length (xs ++ ys) ≡ length xs + length ys
 length_both [] ys = omega arith
 length_both (x ∷ xs) ys = let e = length_both xs ys in omega (arith, e)
 

@@ -4,3 +4,4 @@ pub mod Types
 pub mod Composites
 pub mod Only
 pub mod Errors
+pub mod Keys

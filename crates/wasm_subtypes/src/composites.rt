@@ -7,15 +7,15 @@ ghost use Rattle.wasm_subtypes.specs.Types.{order_of};
 ghost use Rattle.wasm_subtypes.specs.Composites.{ValueMatches, StorageMatches, WritesMatch, FieldMatches, FieldFits, FieldsMatch, FunctionMatches, InnerMatches, CompositeMatches};
 
 use crate::only::Only;
-use crate::types::Types;
+use crate::type_list::TypeList;
 use wasm_below::ValType;
 use wasm_check_control::matches;
 use wasm_types::{CompositeInnerType, CompositeType, FieldType, FuncType, StorageType};
 use wasm_typing::ValueType;
 use wasm_typing::laws::matching_is_decided;
 
-/// Returns whether a value type matches another. Specification: Matching, Value Types.
-pub fn value_matches(types: &Types, ty: ValType, wanted: ValType) -> bool
+/// Returns whether a value type matches another.
+pub fn value_matches(types: &TypeList, ty: ValType, wanted: ValType) -> bool
     ensures { IsTrue result ↔ ValueMatches (order_of types.now) ty wanted }
 {
     types.is_ordered();
@@ -24,7 +24,7 @@ pub fn value_matches(types: &Types, ty: ValType, wanted: ValType) -> bool
     matches(&context, ValueType::new(ty), ValueType::new(wanted))
 }
 
-fn values_match(types: &Types, found: &[ValType], wanted: &[ValType]) -> bool
+fn values_match(types: &TypeList, found: &[ValType], wanted: &[ValType]) -> bool
     ensures { IsTrue result ↔ Each (ValueMatches (order_of types.now)) found.now wanted.now }
 {
     if found.len() != wanted.len() {
@@ -38,7 +38,7 @@ fn values_match(types: &Types, found: &[ValType], wanted: &[ValType]) -> bool
     true
 }
 
-fn storage_matches(types: &Types, ty: StorageType, wanted: StorageType) -> bool
+fn storage_matches(types: &TypeList, ty: StorageType, wanted: StorageType) -> bool
     ensures { IsTrue result ↔ StorageMatches (order_of types.now) ty wanted }
 {
     match ty {
@@ -51,7 +51,7 @@ fn storage_matches(types: &Types, ty: StorageType, wanted: StorageType) -> bool
     }
 }
 
-fn writes_match(types: &Types, mutable: bool, ty: StorageType, wanted: StorageType) -> bool
+fn writes_match(types: &TypeList, mutable: bool, ty: StorageType, wanted: StorageType) -> bool
     ensures { IsTrue result ↔ WritesMatch (order_of types.now) mutable ty wanted }
 {
     if mutable {
@@ -61,7 +61,7 @@ fn writes_match(types: &Types, mutable: bool, ty: StorageType, wanted: StorageTy
     }
 }
 
-fn field_matches(types: &Types, ty: FieldType, wanted: FieldType) -> bool
+fn field_matches(types: &TypeList, ty: FieldType, wanted: FieldType) -> bool
     ensures { IsTrue result ↔ FieldMatches (order_of types.now) ty wanted }
 {
     ty.mutable == wanted.mutable
@@ -69,7 +69,7 @@ fn field_matches(types: &Types, ty: FieldType, wanted: FieldType) -> bool
         && writes_match(types, wanted.mutable, ty.element_type, wanted.element_type)
 }
 
-fn field_fits(types: &Types, ty: Option<&FieldType>, wanted: FieldType) -> bool
+fn field_fits(types: &TypeList, ty: Option<&FieldType>, wanted: FieldType) -> bool
     ensures { IsTrue result ↔ FieldFits (order_of types.now) (option_copied ty.entry) wanted }
 {
     match ty {
@@ -84,7 +84,7 @@ fn field_at(fields: &[FieldType], place: usize) -> Option<&FieldType>
     fields.get(place)
 }
 
-fn fields_match(types: &Types, fields: &[FieldType], wanted: &[FieldType]) -> bool
+fn fields_match(types: &TypeList, fields: &[FieldType], wanted: &[FieldType]) -> bool
     ensures { IsTrue result ↔ FieldsMatch (order_of types.now) fields.now wanted.now }
 {
     for (place, field) in wanted.iter().enumerate() {
@@ -95,14 +95,14 @@ fn fields_match(types: &Types, fields: &[FieldType], wanted: &[FieldType]) -> bo
     true
 }
 
-fn function_matches(types: &Types, ty: &FuncType, wanted: &FuncType) -> bool
+fn function_matches(types: &TypeList, ty: &FuncType, wanted: &FuncType) -> bool
     ensures { IsTrue result ↔ FunctionMatches (order_of types.now) ty.now wanted.now }
 {
     values_match(types, wanted.params(), ty.params())
         && values_match(types, ty.results(), wanted.results())
 }
 
-fn inner_matches(types: &Types, ty: &CompositeInnerType, wanted: &CompositeInnerType) -> bool
+fn inner_matches(types: &TypeList, ty: &CompositeInnerType, wanted: &CompositeInnerType) -> bool
     ensures { IsTrue result ↔ InnerMatches (order_of types.now) ty.now wanted.now }
 {
     match ty {
@@ -124,8 +124,8 @@ fn inner_matches(types: &Types, ty: &CompositeInnerType, wanted: &CompositeInner
     }
 }
 
-/// Returns whether a composite type matches another. Specification: Matching, Composite Types.
-pub fn composite_matches(types: &Types, ty: &CompositeType, wanted: &CompositeType) -> bool
+/// Returns whether a composite type matches another.
+pub fn composite_matches(types: &TypeList, ty: &CompositeType, wanted: &CompositeType) -> bool
     ensures { IsTrue result ↔ CompositeMatches (order_of types.now) ty.now wanted.now }
 {
     ty.shared == wanted.shared && inner_matches(types, &ty.inner, &wanted.inner)

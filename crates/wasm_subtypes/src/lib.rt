@@ -4,17 +4,18 @@
 //! `OutOfMemory`.
 #![tactic(auto)]
 
-mod alike;
 mod composites;
 mod defined;
 mod error;
-mod groups;
+mod keys;
+mod matching;
 mod only;
 mod ranges;
+mod type_list;
 mod types;
 mod validity;
 
-pub use composites::{composite_matches, value_matches};
 pub use defined::Defined;
 pub use error::TypeError;
+pub use matching::{composite_matches, value_matches};
 pub use types::Types;

@@ -1,5 +1,5 @@
 //! The types of a module as a context, for tests of matching.
-use crate::types::Types;
+use crate::type_list::TypeList;
 use wasm_below::{RefType, ValType};
 use wasm_check_control::{
     CompositeKind, FuncType, GlobalType, LocalType, ModuleContext, StructType, TableType,
@@ -9,7 +9,7 @@ use wasm_types::FieldType;
 /// A context that has nothing but the order of the types, for matching.
 #[derive(Drop)]
 pub struct Only<'t> {
-    pub types: &'t Types,
+    pub types: &'t TypeList,
 }
 
 impl<'t> ModuleContext for Only<'t> {

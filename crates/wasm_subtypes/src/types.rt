@@ -1,23 +1,26 @@
-ghost use Rattle.std.specs.Prelude.{◌≡◌, ◌↔◌, ℕ, ◌++◌, [], ◌∷◌, true, length, IsTrue, OnOk, IfOk, IfErr};
+ghost use Rattle.std.specs.Prelude.{◌≡◌, ◌≢◌, ◌↔◌, ℕ, ◌+◌, ◌<◌, ◌≤◌, ◌++◌, [], None, true, length, IsTrue, IfOk, IfErr};
 ghost use Rattle.std.specs.Option.{option_map};
+ghost use Rattle.std.specs.List.{slice_get};
 ghost use Rattle.wasm_types.specs.Types.{types_of};
 ghost use Rattle.wasm_typing.specs.Matching.{IsOrder};
-ghost use Rattle.std.specs.List.{slice_get};
 ghost use Rattle.wasm_check_control.specs.Environment.{composite_kind};
 ghost use Rattle.wasm_subtypes.specs.Descent.{Descends};
-ghost use Rattle.wasm_subtypes.specs.Types.{identity, supertype, kind, kind_of, order_of, MayIdentify, Extends, IsFirstEqual, AllExtend, Added, placed};
+ghost use Rattle.wasm_subtypes.specs.Types.{identity, supertype, order_of, IsFirstEqual, AllExtend, Added, placed};
 ghost use Rattle.wasm_subtypes.specs.Composites.{AreValid};
+ghost use Rattle.wasm_subtypes.specs.Keys.{use_number, group_numbers, start_of, AreIndexed, Puts};
 ghost use Rattle.wasm_subtypes.specs.declared.error.TypeError.TheVariants as type_error;
 ghost use Rattle.wasm_subtypes.specs.Errors.{Blames};
 
-use crate::defined::{Defined, identity, supertype};
+use crate::defined::Defined;
 use crate::error::TypeError;
-use crate::groups::first_equal;
+use crate::keys::group_key;
+use crate::type_list::TypeList;
 use crate::validity::are_valid;
 use std::alloc::Global;
+use std::collections::BTreeMap;
 use std::marker::Model;
 use wasm_check_control::CompositeKind;
-use wasm_types::{CompositeInnerType, RecGroup, SubType};
+use wasm_types::{RecGroup, SubType};
 
 /// The greatest number of types of a module.
 const MAX_TYPES: usize = 1000000;
@@ -25,42 +28,21 @@ const MAX_TYPES: usize = 1000000;
 /// The types of a module, in the order of their indices.
 #[derive(Drop)]
 pub struct Types {
-    items: Vec<Defined>,
+    list: TypeList,
+    // Where each group starts that equals none before it, by its numbers.
+    starts: BTreeMap<Vec<u64>, u32>,
 }
 
 impl Model for Types {
     ghost use Rattle.std.specs.Prelude.{List};
     ghost use Rattle.wasm_subtypes.specs.declared.defined.Defined.{Defined};
-    ghost use Rattle.wasm_subtypes.specs.Types.{AreOrdered};
+    ghost use Rattle.wasm_subtypes.specs.Keys.{AreIndexed};
 
     ghost Value = { List Defined };
 
-    ghost view = { λ t. t.items.items };
+    ghost view = { λ t. t.list };
 
-    ghost invariant = { λ t. AreOrdered t.items.items };
-}
-
-/// Returns the kind of a type; `None` for the type of a continuation.
-fn kind(ty: &SubType) -> Option<CompositeKind>
-    ensures { option_map composite_kind result ≡ kind_of ty.now }
-{
-    match ty.composite_type.inner {
-        CompositeInnerType::Func(_) => Some(CompositeKind::Func),
-        CompositeInnerType::Array(_) => Some(CompositeKind::Array),
-        CompositeInnerType::Struct(_) => Some(CompositeKind::Struct),
-        CompositeInnerType::Cont(_) => None,
-    }
-}
-
-fn same_kind(a: Option<CompositeKind>, b: Option<CompositeKind>) -> bool
-    ensures { IsTrue result ↔ (option_map composite_kind a ≡ option_map composite_kind b) }
-{
-    match a {
-        None => b.is_none(),
-        Some(CompositeKind::Func) => matches!(b, Some(CompositeKind::Func)),
-        Some(CompositeKind::Struct) => matches!(b, Some(CompositeKind::Struct)),
-        Some(CompositeKind::Array) => matches!(b, Some(CompositeKind::Array)),
-    }
+    ghost invariant = { λ t. AreIndexed t.list t.starts.entries };
 }
 
 fn list_of(alloc: Global, group: RecGroup) -> Result<Vec<SubType>, TypeError>
@@ -79,15 +61,67 @@ fn list_of(alloc: Global, group: RecGroup) -> Result<Vec<SubType>, TypeError>
     }
 }
 
-fn extends(types: &[Defined], ty: &SubType) -> bool
-    ensures { IsTrue result ↔ Extends types.now ty.now ty.now.supertype_idx }
+fn start(starts: &BTreeMap<Vec<u64>, u32>, key: &[u64]) -> Option<u32>
+    ensures { result ≡ start_of key.now starts.now.entries }
 {
-    let Some(index) = ty.supertype_idx else {
-        return true;
-    };
-    match types.get(index as usize) {
-        Some(defined) => !defined.ty.is_final && same_kind(kind(&defined.ty), kind(ty)),
-        None => false,
+    match starts.get(key) {
+        Some(start) => Some(*start),
+        None => None,
+    }
+}
+
+fn keep(starts: &mut BTreeMap<Vec<u64>, u32>, key: Vec<u64>, start: u32) -> bool
+    ensures { IsTrue result → Puts starts.old.entries starts.new.entries key.items start }
+{
+    starts.insert(key, start).is_ok()
+}
+
+/// Adds a group that is equal to the group that starts at `start`.
+fn add_again(
+    list: TypeList,
+    starts: BTreeMap<Vec<u64>, u32>,
+    group: Vec<SubType>,
+    start: u32,
+) -> Result<Types, TypeError>
+    requires indexed { AreIndexed list starts.entries }
+    requires first { IsFirstEqual list group.items start }
+    requires before { start < length list }
+    requires few { length list + length group.items ≤ 1000000 }
+    ensures added { IfOk result (λ new. Added list group.items new) }
+    ensures blames { IfErr result (λ e. (s : ℕ) → IsFirstEqual list group.items s → Blames e (AllExtend list (length list) s group.items) (Unit {0})) }
+{
+    match list.append(group, start) {
+        Ok(list) => Ok(Types { list, starts }),
+        Err(e) => Err(e),
+    }
+}
+
+/// Adds a group that equals none before it, and keeps its key.
+fn add_first(
+    list: TypeList,
+    starts: BTreeMap<Vec<u64>, u32>,
+    group: Vec<SubType>,
+    key: Vec<u64>,
+) -> Result<Types, TypeError>
+    requires indexed { AreIndexed list starts.entries }
+    requires first { IsFirstEqual list group.items (length list) }
+    requires some { group.items ≢ [] }
+    requires key { key.items ≡ group_numbers (use_number list (length list)) group.items }
+    requires none { start_of key.items starts.entries ≡ None }
+    requires few { length list + length group.items ≤ 1000000 }
+    ensures added { IfOk result (λ new. Added list group.items new) }
+    ensures blames { IfErr result (λ e. (s : ℕ) → IsFirstEqual list group.items s → Blames e (AllExtend list (length list) s group.items) (Unit {0})) }
+{
+    let first = list.len() as u32;
+    let mut starts = starts;
+    match list.append(group, first) {
+        Ok(list) => {
+            if !keep(&mut starts, key, first) {
+                return Err(TypeError::OutOfMemory);
+            }
+            Ok(Types { list, starts })
+        }
+        Err(e) => Err(e),
     }
 }
 
@@ -97,27 +131,28 @@ impl Types {
         ensures { result ≡ [] }
     {
         Types {
-            items: Vec::new(alloc),
+            list: TypeList::new(alloc),
+            starts: BTreeMap::new(alloc),
         }
     }
 
     pub fn len(&self) -> usize
         ensures { result ≡ length self.now }
     {
-        self.items.len()
+        self.list.len()
     }
 
     /// Returns the type at an index.
     pub fn get(&self, index: u32) -> Option<&Defined>
         ensures { option_map (λ r. r.now) result ≡ slice_get self.now index }
     {
-        self.items.get(index as usize)
+        self.list.get(index)
     }
 
-    pub(crate) fn at(&self, index: usize) -> Option<&Defined>
-        ensures { option_map (λ r. r.now) result ≡ slice_get self.now index }
+    pub(crate) fn list(&self) -> &TypeList
+        ensures { result.now ≡ self.now }
     {
-        self.items.get(index)
+        &self.list
     }
 
     /// States that matching of the types is a preorder that keeps kinds. The body is empty.
@@ -125,7 +160,7 @@ impl Types {
         ensures order { IsOrder (order_of self.now) }
         ensures decides { (i j : ℕ) → (order_of self.now).subtype i j ≡ true ↔ Descends (identity self.now) (supertype self.now) i j }
     {
-        let _items = &self.items;
+        self.list.is_ordered()
     }
 
     /// Returns whether the type at `index` matches the type at `of`. Specification: Matching,
@@ -133,26 +168,14 @@ impl Types {
     pub fn is_subtype(&self, index: u32, of: u32) -> bool
         ensures { result ≡ (order_of self.now).subtype index of }
     {
-        let types = self.items.as_slice();
-        let wanted = identity(types, of);
-        let mut current = index;
-        'up: while identity(types, current) != wanted {
-            match supertype(types, current) {
-                Some(above) => current = above,
-                None => return false,
-            }
-        }
-        true
+        self.list.is_subtype(index, of)
     }
 
     /// Returns the kind of the type at an index; `None` for the type of a continuation.
     pub fn composite_kind(&self, index: u32) -> Option<CompositeKind>
         ensures { option_map composite_kind result ≡ (order_of self.now).kind index }
     {
-        match self.items.get(index as usize) {
-            Some(defined) => kind(&defined.ty),
-            None => None,
-        }
+        self.list.composite_kind(index)
     }
 
     /// Adds a group of a type section. Specification: Validation, Types, Recursive Types.
@@ -170,7 +193,7 @@ impl Types {
             Ok(types) => types,
             Err(e) => return Err(e),
         };
-        if !are_valid(&types, first) {
+        if !are_valid(types.list(), first) {
             return Err(TypeError::Invalid);
         }
         Ok(types)
@@ -182,45 +205,20 @@ impl Types {
         ensures blames { IfErr result (λ e. (start : ℕ) → IsFirstEqual self (types_of group) start → Blames e (AllExtend self (length self) start (types_of group)) (Unit {0})) }
     {
         let group = list_of(alloc, group)?;
-        let first = self.len();
+        if group.is_empty() {
+            return Ok(self);
+        }
+        let Types { list, starts } = self;
+        let first = list.len();
         if first > MAX_TYPES || group.len() > MAX_TYPES - first {
             return Err(TypeError::TooManyTypes);
         }
-        let start = first_equal(self.items.as_slice(), group.as_slice());
-        let mut types = self;
-        let mut identity = start as u32;
-        for ty in group {
-            types.push(ty, first as u32, identity)?;
-            identity += 1;
-        }
-        Ok(types)
-    }
-
-    fn push(&mut self, ty: SubType, first: u32, identity: u32) -> Result<(), TypeError>
-        requires { MayIdentify self.old identity ty }
-        ensures pushed { OnOk result (self.new ≡ self.old ++ record { ty = ty; first = first; identity = identity } ∷ []) }
-        ensures fits { OnOk result (Extends self.old ty ty.supertype_idx) }
-        ensures blames { IfErr result (λ e. Blames e (Extends self.old ty ty.supertype_idx) (Unit {0})) }
-    {
-        if !extends(self.items.as_slice(), &ty) {
-            return Err(TypeError::Supertype);
-        }
-        let new = Defined {
-            ty,
-            first,
-            identity,
-        };
-        if !push_defined(&mut self.items, new) {
+        let Ok(key) = group_key(alloc, list.as_slice(), group.as_slice()) else {
             return Err(TypeError::OutOfMemory);
+        };
+        match start(&starts, key.as_slice()) {
+            Some(found) => add_again(list, starts, group, found),
+            None => add_first(list, starts, group, key),
         }
-        Ok(())
     }
-}
-
-/// Returns whether the type was added; if not, allocation failed.
-fn push_defined(items: &mut Vec<Defined>, new: Defined) -> bool
-    ensures added { IsTrue result → items.new.items ≡ items.old.items ++ new ∷ [] }
-    ensures unchanged { (IsTrue result → ⊥) → items.new.items ≡ items.old.items }
-{
-    items.push(new).is_ok()
 }

@@ -6,10 +6,10 @@ ghost use Rattle.wasm_subtypes.specs.Composites.{MatchesSuper, IsValid, AreValid
 
 use crate::composites::composite_matches;
 use crate::ranges::inner_within;
-use crate::types::Types;
+use crate::type_list::TypeList;
 use wasm_types::CompositeType;
 
-fn matches_super(types: &Types, ty: &CompositeType, supertype: Option<u32>) -> bool
+fn matches_super(types: &TypeList, ty: &CompositeType, supertype: Option<u32>) -> bool
     ensures { IsTrue result ↔ MatchesSuper types.now ty.now supertype }
 {
     let Some(index) = supertype else {
@@ -21,7 +21,7 @@ fn matches_super(types: &Types, ty: &CompositeType, supertype: Option<u32>) -> b
     }
 }
 
-fn is_valid(types: &Types, index: usize) -> bool
+fn is_valid(types: &TypeList, index: usize) -> bool
     ensures { IsTrue result ↔ IsValid types.now (slice_get types.now index) }
 {
     match types.at(index) {
@@ -34,7 +34,7 @@ fn is_valid(types: &Types, index: usize) -> bool
 }
 
 /// Returns whether the types from an index on are valid.
-pub fn are_valid(types: &Types, first: usize) -> bool
+pub fn are_valid(types: &TypeList, first: usize) -> bool
     ensures { IsTrue result ↔ AreValid types.now first }
 {
     for index in first..types.len() {

@@ -11,4 +11,4 @@ returns-in-Err-clause-blames c = λ start first. blames_any c.in-Err.e _ _ (c.in
 pub returns-then-not-are_valid-clause-blames : goal.returns-then-not-are_valid-clause-blames
 returns-then-not-are_valid-clause-blames c = λ start first valid.
     blames_valid c.args.self c.in-Ok.types (types_of c.args.group) c.in-Ok.ensures.added
-    (λ v. false≢true (c.if-not-are_valid.ensures.1 (subst (AreValid c.in-Ok.types) (sym c.len-first.ensures) v))) start first valid
+    (λ v. false≢true (c.if-not-are_valid.ensures.1 (subst (λ l. AreValid l c.len-first.result) (sym c.list.ensures) (subst (AreValid c.in-Ok.types) (sym c.len-first.ensures) v)))) start first valid

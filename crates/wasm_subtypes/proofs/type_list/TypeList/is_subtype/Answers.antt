@@ -2,7 +2,7 @@ use Rattle.std.proofs.Common.{◌≡◌, true, false, Some, None, sym, subst, �
 use Rattle.wasm_subtypes.specs.Descent.{equal, declared, descends}
 use Rattle.wasm_subtypes.specs.Types.{identity, supertype, AreOrdered}
 use Rattle.wasm_subtypes.proofs.Ascent.{ends_here, goes_up, found_true, found_false}
-use Rattle.wasm_subtypes.proofs.types.Types.is_subtype.Goals as goal
+use Rattle.wasm_subtypes.proofs.type_list.TypeList.is_subtype.Goals as goal
 
 pub up-preserved : goal.up-preserved
 up-preserved c =

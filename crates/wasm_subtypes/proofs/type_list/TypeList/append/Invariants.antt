@@ -1,7 +1,7 @@
 use Rattle.std.proofs.Common.{◌≡◌, ◌+◌, ◌++◌, length}
 use Rattle.std.specs.Vec.Iter.{into_iter_items}
 use Rattle.wasm_subtypes.specs.Types.{placed, AllExtend}
-use Rattle.wasm_subtypes.proofs.types.Types.place.Given as goal
+use Rattle.wasm_subtypes.proofs.type_list.TypeList.append.Given as goal
 
 abbrev pub invariant-loop-ty : goal.invariant-loop-ty
 invariant-loop-ty l =

@@ -1,7 +1,7 @@
 use Rattle.std.proofs.Common.{◌≡◌, [], ◌∷◌, ◌++◌, sym, subst, rules}
 use Rattle.wasm_subtypes.specs.Types.{AreOrdered, MayIdentify, Extends}
 use Rattle.wasm_subtypes.proofs.Adding.{ordered_more}
-use Rattle.wasm_subtypes.proofs.types.Types.push.Goals as goal
+use Rattle.wasm_subtypes.proofs.type_list.TypeList.push.Goals as goal
 
 pub invariant_of-self-2 : goal.invariant_of-self-2
 invariant_of-self-2 c =
