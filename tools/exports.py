@@ -1,6 +1,6 @@
 #!/usr/bin/env python3
-"""Writes the static library for C, crates/wasm_c_exports/src/lib.rt, from the calls of wasm_c, wasm_c_sections and
-wasm_c_validation.
+"""Writes the static library for C, crates/wasm_c_exports/src/lib.rt, from the calls of wasm_c, wasm_c_sections,
+wasm_c_items and wasm_c_validation.
 
     tools/exports.py            writes the file
     tools/exports.py --check    fails if the file is not what crates/wasm_c/src/lib.rt and .. give
@@ -21,10 +21,10 @@ from shared.arguments import read
 from shared.written import write_or_check
 
 # The crates that have the calls, and list the structs.
-LIBRARIES = ["wasm_c", "wasm_c_sections", "wasm_c_validation"]
+LIBRARIES = ["wasm_c", "wasm_c_sections", "wasm_c_items", "wasm_c_validation"]
 EXPORTS = "crates/wasm_c_exports/src/lib.rt"
 HEAD = """\
-//! The calls of `wasm_c`, `wasm_c_sections` and `wasm_c_validation`, exported to C. Each export calls the function of the same
+//! The calls of `wasm_c`, `wasm_c_sections`, `wasm_c_items` and `wasm_c_validation`, exported to C. Each export calls the function of the same
 //! name, with the same arguments.
 //!
 //! Written by tools/exports.py from `src/lib.rt` of these crates.

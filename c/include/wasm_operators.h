@@ -245,6 +245,13 @@ enum wasm_external_kind {
   WASM_EXTERNAL_TAG = 4
 };
 
+/* When a segment is copied. */
+enum wasm_segment_kind {
+  WASM_SEGMENT_PASSIVE = 0, /* by an operator */
+  WASM_SEGMENT_ACTIVE = 1, /* at the start */
+  WASM_SEGMENT_DECLARATIVE = 2 /* never: the functions may be referred to */
+};
+
 /* May be combined with |. */
 enum wasm_external_flag {
   WASM_EXTERNAL_MAXIMUM = 1, /* a table or memory has a maximum */
@@ -1062,6 +1069,46 @@ typedef struct wasm_export {
   uint32_t index; /* of what is exported */
 } wasm_export;
 
+/* An item of a type section: 64 bytes without padding. Fields without a meaning are 0. */
+typedef struct wasm_group {
+  wasm_items params; /* of a function type: the types of its parameters, for wasm_next_value_type */
+  wasm_items results;
+  uint64_t types; /* the number of types in a group, else 1 */
+  uint32_t form; /* 0x60: a function type, final and without a supertype; 0: another type, or a group */
+  uint32_t reserved; /* 0 */
+} wasm_group;
+
+/* A table: 56 bytes without padding. */
+typedef struct wasm_table {
+  wasm_external ty;
+  wasm_range value; /* the constant expression of its elements at the start; no bytes without one */
+} wasm_table;
+
+/* A global: 56 bytes without padding. */
+typedef struct wasm_global {
+  wasm_external ty;
+  wasm_range value; /* the constant expression of its value at the start */
+} wasm_global;
+
+/* An element segment: 64 bytes without padding. Fields without a meaning are 0. */
+typedef struct wasm_element {
+  wasm_range start; /* active: the constant expression of the first index in the table */
+  wasm_items items; /* for wasm_next_index, or for wasm_next_expression */
+  wasm_type ty; /* of constant expressions */
+  uint32_t kind; /* enum wasm_segment_kind */
+  uint32_t table; /* active: the index of the table */
+  uint32_t form; /* 0: indices of functions; 1: constant expressions */
+  uint32_t reserved; /* 0 */
+} wasm_element;
+
+/* A data segment: 40 bytes without padding. Fields without a meaning are 0. */
+typedef struct wasm_data {
+  wasm_range start; /* active: the constant expression of the first address */
+  wasm_range bytes;
+  uint32_t kind; /* enum wasm_segment_kind */
+  uint32_t memory; /* active: the index of the memory */
+} wasm_data;
+
 /* A subsection of the custom section `name`: 48 bytes without padding. */
 typedef struct wasm_names {
   wasm_range range; /* WASM_NAMES_MODULE: the name; a kind that is not listed: the contents; else no bytes */
@@ -1262,6 +1309,44 @@ uint32_t wasm_next_export(const uint8_t *bytes, size_t bytes_length, wasm_items 
 /* Reads the next index of a list, like wasm_next_import: in the function section, the index of a function's type. */
 uint32_t wasm_next_index(const uint8_t *bytes, size_t bytes_length, wasm_items *items, uint32_t *index,
                          wasm_refusal *refusal);
+
+/* Reads the next item of a type section, like wasm_next_import: a type, or a group of types that may refer to each other.
+ * May allocate, but not for a function type. */
+uint32_t wasm_next_group(const uint8_t *bytes, size_t bytes_length, wasm_items *items, wasm_group *group,
+                         wasm_refusal *refusal);
+
+/* Reads the next type of the parameters or results of a function type, like wasm_next_import. */
+uint32_t wasm_next_value_type(const uint8_t *bytes, size_t bytes_length, wasm_items *items, wasm_type *ty,
+                              wasm_refusal *refusal);
+
+/* Reads the next table of a table section, like wasm_next_import. May allocate for its constant expression. */
+uint32_t wasm_next_table(const uint8_t *bytes, size_t bytes_length, wasm_items *items, wasm_table *table,
+                         wasm_refusal *refusal);
+
+/* Reads the next memory of a memory section, like wasm_next_import. */
+uint32_t wasm_next_memory(const uint8_t *bytes, size_t bytes_length, wasm_items *items, wasm_external *memory,
+                          wasm_refusal *refusal);
+
+/* Reads the next global of a global section, like wasm_next_table. */
+uint32_t wasm_next_global(const uint8_t *bytes, size_t bytes_length, wasm_items *items, wasm_global *global,
+                          wasm_refusal *refusal);
+
+/* Reads the next tag of a tag section, like wasm_next_import. */
+uint32_t wasm_next_tag(const uint8_t *bytes, size_t bytes_length, wasm_items *items, wasm_external *tag,
+                       wasm_refusal *refusal);
+
+/* Reads the next element segment of an element section, like wasm_next_table. Its elements are read to find its end. */
+uint32_t wasm_next_element(const uint8_t *bytes, size_t bytes_length, wasm_items *items, wasm_element *segment,
+                           wasm_refusal *refusal);
+
+/* Reads the next data segment of a data section, like wasm_next_table. */
+uint32_t wasm_next_data(const uint8_t *bytes, size_t bytes_length, wasm_items *items, wasm_data *segment,
+                        wasm_refusal *refusal);
+
+/* Reads the next constant expression of an element segment, like wasm_next_table. wasm_open and wasm_next read its
+ * operators. */
+uint32_t wasm_next_expression(const uint8_t *bytes, size_t bytes_length, wasm_items *items, wasm_range *expression,
+                              wasm_refusal *refusal);
 
 /* Reads the next subsection of the custom section `name`, whose data are `items`. Does not allocate. Fails with
  * WASM_REFUSED_NO_ITEM after the last subsection, with the error of the subsection, and with WASM_REFUSED_NOT_A_READER

@@ -98,11 +98,105 @@ static void print_part(const uint8_t *bytes, const wasm_parser *after, const was
   }
 }
 
+static void print_range(wasm_range range) {
+  printf(" %" PRIx64 "..%" PRIx64, range.offset, range.offset + range.length);
+}
+
+/* Prints the elements of a segment. */
+static void print_elements(const uint8_t *bytes, size_t length, const wasm_element *segment) {
+  wasm_items items = segment->items;
+  wasm_refusal refusal;
+  uint32_t index;
+  wasm_range expression;
+  printf(segment->form == 0 ? " functions" : " expressions");
+  if (segment->form == 0) {
+    while (wasm_next_index(bytes, length, &items, &index, &refusal) == 0) printf(" %" PRIu32, index);
+  } else {
+    while (wasm_next_expression(bytes, length, &items, &expression, &refusal) == 0) print_range(expression);
+  }
+  if (refusal.number != WASM_REFUSED_NO_ITEM) exit(3);
+}
+
+static void print_element(const uint8_t *bytes, size_t length, const wasm_element *segment, int is_written) {
+  if (segment->kind == WASM_SEGMENT_PASSIVE) printf(" passive;");
+  if (segment->kind == WASM_SEGMENT_DECLARATIVE) printf(" declared;");
+  if (segment->kind == WASM_SEGMENT_ACTIVE) {
+    printf(is_written ? " active Some(%" PRIu32 ")" : " active None", segment->table);
+    print_range(segment->start);
+    putchar(';');
+  }
+  print_elements(bytes, length, segment);
+}
+
+static void print_data(const wasm_data *segment) {
+  if (segment->kind == WASM_SEGMENT_PASSIVE) {
+    printf(" passive");
+  } else {
+    printf(" active %" PRIu32, segment->memory);
+    print_range(segment->start);
+  }
+  printf("; %" PRIu64 " bytes", segment->bytes.length);
+}
+
+/* Reads an item of a section, and prints it if it holds constant expressions. Returns the number of the error. */
+static uint32_t print_item(const uint8_t *bytes, size_t length, uint32_t kind, wasm_items *items, wasm_refusal *refusal) {
+  wasm_table table;
+  wasm_global global;
+  wasm_element element;
+  wasm_data segment;
+  uint64_t first = items->offset;
+  uint32_t refused;
+  switch (kind) {
+    case WASM_PAYLOAD_TABLE_SECTION:
+      refused = wasm_next_table(bytes, length, items, &table, refusal);
+      if (refused != 0) return refused;
+      printf("    %" PRIx64, first);
+      if (table.value.length == 0) printf(" null");
+      if (table.value.length > 0) print_range(table.value);
+      break;
+    case WASM_PAYLOAD_GLOBAL_SECTION:
+      refused = wasm_next_global(bytes, length, items, &global, refusal);
+      if (refused != 0) return refused;
+      printf("    %" PRIx64, first);
+      print_range(global.value);
+      break;
+    case WASM_PAYLOAD_ELEMENT_SECTION:
+      refused = wasm_next_element(bytes, length, items, &element, refusal);
+      if (refused != 0) return refused;
+      printf("    %" PRIx64, first);
+      /* (flag 2 says that an active segment's table is written) */
+      print_element(bytes, length, &element, bytes[first] / 2 % 2);
+      break;
+    case WASM_PAYLOAD_DATA_SECTION:
+      refused = wasm_next_data(bytes, length, items, &segment, refusal);
+      if (refused != 0) return refused;
+      printf("    %" PRIx64, first);
+      print_data(&segment);
+      break;
+    default:
+      return refusal->number = WASM_REFUSED_NO_ITEM;
+  }
+  putchar('\n');
+  return 0;
+}
+
+static void print_items(const uint8_t *bytes, size_t length, wasm_payload *part) {
+  wasm_refusal refusal;
+  while (print_item(bytes, length, part->kind, &part->items, &refusal) == 0) continue;
+  if (refusal.number == WASM_REFUSED_NO_ITEM) return;
+  char text[LONGEST_ERROR];
+  write_error(&refusal, text);
+  printf("    %s\n", text);
+}
+
 static void print_parts(const uint8_t *bytes, size_t length) {
   wasm_parser parser = start();
   wasm_payload part;
   wasm_refusal refusal;
-  while (wasm_next_payload(bytes, length, &parser, &part, &refusal) == 0) print_part(bytes, &parser, &part);
+  while (wasm_next_payload(bytes, length, &parser, &part, &refusal) == 0) {
+    print_part(bytes, &parser, &part);
+    print_items(bytes, length, &part);
+  }
   if (refusal.number == WASM_REFUSED_NO_ITEM) return;
   char text[LONGEST_ERROR];
   write_error(&refusal, text);

@@ -7,7 +7,7 @@ from shared.crates import TOP
 
 HEADER = re.sub(r"/\*.*?\*/", "", (TOP / "c/include/wasm_operators.h").read_text(encoding="utf-8"), flags=re.S)
 NATIVE = re.sub(r"//.*", "", (TOP / "rust/src/native.rs").read_text(encoding="utf-8"))
-FILES = [path for name in ("wasm_view", "wasm_encode_view", "wasm_c", "wasm_c_sections", "wasm_module") for path in TOP.glob(f"crates/{name}/src/**/*.rt")]
+FILES = [path for name in ("wasm_view", "wasm_encode_view", "wasm_c", "wasm_c_sections", "wasm_c_items", "wasm_module") for path in TOP.glob(f"crates/{name}/src/**/*.rt")]
 RATTLE = "\n".join(path.read_text(encoding="utf-8") for path in FILES)
 INTEGERS = {f"uint{width}_t": f"u{width}" for width in (8, 16, 32, 64)} | {"size_t": "usize"}
 # The structs of the header, with their names in Rust.
@@ -16,7 +16,7 @@ STRUCTS = {
     "wasm_handler": "PlainHandler", "wasm_value": "PlainValue", "wasm_bodies": "PlainBodies", "wasm_body": "PlainBody",
     "wasm_locals": "PlainLocals",
 }
-# The structs of wasm_c_sections. The cargo crate has a parser in Rust.
+# The structs of wasm_c_sections and wasm_c_items. The cargo crate has a parser in Rust.
 STRUCTS_OF_C = {
     name: "".join(part.capitalize() for part in name.split("_"))
     for name in (
@@ -27,6 +27,11 @@ STRUCTS_OF_C = {
         "wasm_external",
         "wasm_import",
         "wasm_export",
+        "wasm_group",
+        "wasm_table",
+        "wasm_global",
+        "wasm_element",
+        "wasm_data",
         "wasm_names",
         "wasm_naming",
     )

@@ -1,4 +1,4 @@
-//! The calls of `wasm_c`, `wasm_c_sections` and `wasm_c_validation`, exported to C. Each export calls the function of the same
+//! The calls of `wasm_c`, `wasm_c_sections`, `wasm_c_items` and `wasm_c_validation`, exported to C. Each export calls the function of the same
 //! name, with the same arguments.
 //!
 //! Written by tools/exports.py from `src/lib.rt` of these crates.
@@ -33,7 +33,12 @@ ghost use Rattle.wasm_c_sections.specs.Externals.{placed_import, placed_export};
 ghost use Rattle.wasm_c_sections.specs.Items.{ReturnsItem};
 ghost use Rattle.wasm_c_sections.specs.Names.{placed_naming, ReturnsNames};
 ghost use Rattle.wasm_c_sections.specs.Payloads.{ReturnsPayload};
-ghost use Rattle.wasm_grammars.specs.Parts.{u32};
+ghost use Rattle.wasm_grammars.specs.Parts.{u32, val_type};
+ghost use Rattle.wasm_c_items.specs.Items.{table_item, global_item, tag_item, element_item, data_item, constant_view, memory_view, tag_view, table_view, global_view, element_view, data_view};
+ghost use Rattle.wasm_c_items.specs.Types.{group_item, value_type_view};
+ghost use Rattle.wasm_c_items.specs.Views.{ReturnsView};
+ghost use Rattle.wasm_constants.specs.Constants.{const_expr};
+ghost use Rattle.wasm_externals.specs.Limits.{memory_type};
 ghost use Rattle.wasm_validation.specs.Valid.{IsValidModule};
 ghost use Rattle.wasm_c_validation.specs.Verdicts.{no_function, ReturnsVerdict};
 
@@ -42,8 +47,10 @@ use wasm_c::{
     WasmBodies, WasmBody, WasmHandler, WasmLocals, WasmOperator, WasmReader, WasmRefusal, WasmType,
     WasmValue,
 };
+use wasm_c_items::{WasmData, WasmElement, WasmGlobal, WasmGroup, WasmTable};
 use wasm_c_sections::{
-    WasmExport, WasmImport, WasmItems, WasmNames, WasmNaming, WasmParser, WasmPayload,
+    WasmExport, WasmExternal, WasmImport, WasmItems, WasmNames, WasmNaming, WasmParser,
+    WasmPayload, WasmRange,
 };
 
 /// `wasm_c::wasm_operators_version` for C.
@@ -539,6 +546,142 @@ pub extern "C" fn wasm_next_name(
         refusal.new bytes.now items.old items.new naming.old naming.new }
 {
     wasm_c_sections::wasm_next_name(alloc, bytes, items, naming, refusal)
+}
+
+/// `wasm_c_items::wasm_next_group` for C.
+#[unsafe(no_mangle)]
+pub extern "C" fn wasm_next_group(
+    alloc: Global,
+    bytes: &[u8],
+    items: &mut WasmItems,
+    group: &mut WasmGroup,
+    refusal: &mut WasmRefusal,
+) -> u32
+    ensures outcome { result ≡ refusal.new.number }
+    ensures next { ReturnsItem (λ features. group_item) refusal.new bytes.now items.old items.new group.old group.new }
+{
+    wasm_c_items::wasm_next_group(alloc, bytes, items, group, refusal)
+}
+
+/// `wasm_c_items::wasm_next_value_type` for C.
+#[unsafe(no_mangle)]
+pub extern "C" fn wasm_next_value_type(
+    alloc: Global,
+    bytes: &[u8],
+    items: &mut WasmItems,
+    ty: &mut WasmType,
+    refusal: &mut WasmRefusal,
+) -> u32
+    ensures outcome { result ≡ refusal.new.number }
+    ensures next { ReturnsView (λ features. val_type)
+        value_type_view refusal.new bytes.now items.old items.new ty.old ty.new }
+{
+    wasm_c_items::wasm_next_value_type(alloc, bytes, items, ty, refusal)
+}
+
+/// `wasm_c_items::wasm_next_table` for C.
+#[unsafe(no_mangle)]
+pub extern "C" fn wasm_next_table(
+    alloc: Global,
+    bytes: &[u8],
+    items: &mut WasmItems,
+    table: &mut WasmTable,
+    refusal: &mut WasmRefusal,
+) -> u32
+    ensures outcome { result ≡ refusal.new.number }
+    ensures next { ReturnsView table_item table_view refusal.new bytes.now items.old items.new table.old table.new }
+{
+    wasm_c_items::wasm_next_table(alloc, bytes, items, table, refusal)
+}
+
+/// `wasm_c_items::wasm_next_memory` for C.
+#[unsafe(no_mangle)]
+pub extern "C" fn wasm_next_memory(
+    alloc: Global,
+    bytes: &[u8],
+    items: &mut WasmItems,
+    memory: &mut WasmExternal,
+    refusal: &mut WasmRefusal,
+) -> u32
+    ensures outcome { result ≡ refusal.new.number }
+    ensures next { ReturnsView memory_type memory_view refusal.new bytes.now items.old items.new memory.old memory.new }
+{
+    wasm_c_items::wasm_next_memory(alloc, bytes, items, memory, refusal)
+}
+
+/// `wasm_c_items::wasm_next_global` for C.
+#[unsafe(no_mangle)]
+pub extern "C" fn wasm_next_global(
+    alloc: Global,
+    bytes: &[u8],
+    items: &mut WasmItems,
+    global: &mut WasmGlobal,
+    refusal: &mut WasmRefusal,
+) -> u32
+    ensures outcome { result ≡ refusal.new.number }
+    ensures next { ReturnsView global_item global_view refusal.new bytes.now items.old items.new global.old global.new }
+{
+    wasm_c_items::wasm_next_global(alloc, bytes, items, global, refusal)
+}
+
+/// `wasm_c_items::wasm_next_tag` for C.
+#[unsafe(no_mangle)]
+pub extern "C" fn wasm_next_tag(
+    alloc: Global,
+    bytes: &[u8],
+    items: &mut WasmItems,
+    tag: &mut WasmExternal,
+    refusal: &mut WasmRefusal,
+) -> u32
+    ensures outcome { result ≡ refusal.new.number }
+    ensures next { ReturnsView tag_item tag_view refusal.new bytes.now items.old items.new tag.old tag.new }
+{
+    wasm_c_items::wasm_next_tag(alloc, bytes, items, tag, refusal)
+}
+
+/// `wasm_c_items::wasm_next_element` for C.
+#[unsafe(no_mangle)]
+pub extern "C" fn wasm_next_element(
+    alloc: Global,
+    bytes: &[u8],
+    items: &mut WasmItems,
+    segment: &mut WasmElement,
+    refusal: &mut WasmRefusal,
+) -> u32
+    ensures outcome { result ≡ refusal.new.number }
+    ensures next { ReturnsView element_item element_view refusal.new bytes.now items.old items.new segment.old segment.new }
+{
+    wasm_c_items::wasm_next_element(alloc, bytes, items, segment, refusal)
+}
+
+/// `wasm_c_items::wasm_next_data` for C.
+#[unsafe(no_mangle)]
+pub extern "C" fn wasm_next_data(
+    alloc: Global,
+    bytes: &[u8],
+    items: &mut WasmItems,
+    segment: &mut WasmData,
+    refusal: &mut WasmRefusal,
+) -> u32
+    ensures outcome { result ≡ refusal.new.number }
+    ensures next { ReturnsView data_item data_view refusal.new bytes.now items.old items.new segment.old segment.new }
+{
+    wasm_c_items::wasm_next_data(alloc, bytes, items, segment, refusal)
+}
+
+/// `wasm_c_items::wasm_next_expression` for C.
+#[unsafe(no_mangle)]
+pub extern "C" fn wasm_next_expression(
+    alloc: Global,
+    bytes: &[u8],
+    items: &mut WasmItems,
+    expression: &mut WasmRange,
+    refusal: &mut WasmRefusal,
+) -> u32
+    ensures outcome { result ≡ refusal.new.number }
+    ensures next { ReturnsView const_expr constant_view refusal.new bytes.now items.old items.new expression.old expression.new }
+{
+    wasm_c_items::wasm_next_expression(alloc, bytes, items, expression, refusal)
 }
 
 /// `wasm_c_validation::wasm_validate_module` for C.
