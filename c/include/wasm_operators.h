@@ -20,7 +20,7 @@ extern "C" {
 #endif
 
 /* The number of this header's structs and calls. wasm_operators_version() returns the library's. */
-#define WASM_OPERATORS_VERSION 4u
+#define WASM_OPERATORS_VERSION 5u
 
 /* The release, by semantic versioning. It follows wasmparser 0.263.0. */
 #define WASM_OPERATORS_RELEASE "0.1.0"

@@ -9,7 +9,7 @@
 use std::mem::MaybeUninit;
 
 /// The version of the structs and functions.
-const VERSION: u32 = 4;
+const VERSION: u32 = 5;
 
 /// An operator as a C struct: `wasm_operator` of the header, which describes the fields.
 #[repr(C)]

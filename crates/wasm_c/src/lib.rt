@@ -66,11 +66,11 @@ use wasm_view::{Catches, Handles, Targets, Types, name_at};
 pub use wasm_view::{WasmHandler, WasmOperator, WasmType};
 
 /// The version of the structs and calls, also in `wasm_operators.h`.
-const VERSION: u32 = 4;
+const VERSION: u32 = 5;
 
 /// Returns the version of the structs and calls.
 pub fn wasm_operators_version() -> u32
-    ensures { result ≡ 4 }
+    ensures { result ≡ 5 }
 {
     VERSION
 }

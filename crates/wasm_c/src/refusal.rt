@@ -28,7 +28,7 @@ pub const NOT_WRITABLE: u32 = 112;
 pub struct WasmRefusal {
     /// The offset of the error, else of where the call ended.
     pub offset: u64,
-    /// 0 for no error, 1 to 28 for an error in the bytes or of allocation, 100 to 112 for an error
+    /// 0 for no error, 1 to 28 for an error in the bytes or of allocation, 100 to 114 for an error
     /// in the arguments or the module.
     pub number: u32,
     /// The number of the name in the error's text, plus 16 times the number of a second name.

@@ -56,7 +56,7 @@ use wasm_c_sections::{
 /// `wasm_c::wasm_operators_version` for C.
 #[unsafe(no_mangle)]
 pub extern "C" fn wasm_operators_version() -> u32
-    ensures { result ≡ 4 }
+    ensures { result ≡ 5 }
 {
     wasm_c::wasm_operators_version()
 }
