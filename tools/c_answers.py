@@ -17,21 +17,24 @@ The lines of the input have cells with tabs between them:
     module  HEX  FUNCTIONS            a module and its functions: the index, the offset and the name of each
     function  HEX  FUNCTIONS          the same with the length and the type index of each
     encode  HEX  AT  SHORTEST         a body with an operator, its offset, and its shortest encoding
+    validate  HEX  VERDICT            a module, and `ok` or the offset of its error, the function that it is in, the message
     code    LOCALS  HEX  SECTION      declarations of locals, the bytes of operators, and the code section with this body
 
 The README of the program says which bodies it takes. The texts are from crates/wasm_tests_bodies/stdin and
-crates/wasm_objdump/data, the encodings from crates/wasm_tests_encode/stdin. values.tsv of the
-program, FUNCTIONS and CODE are made by hand, code sections by the rules of the standard (Binary Format,
-Modules, Code Section).
+crates/wasm_objdump/data, the encodings from crates/wasm_tests_encode/stdin. Verdicts are from the standard and
+wasmparser 0.239 (tools/original/typing_cases.tsv), and by hand. values.tsv of the program, FUNCTIONS and CODE are made
+by hand, code sections by the rules of the standard (Binary Format, Modules, Code Section).
 """
 
 import re
 
+from shared import leb128
 from shared.arguments import read
 from shared.crates import TOP
 from shared.leb128 import unsigned
 from shared.tables import rows_of
 from shared.written import write_or_check
+from typing_cases import cases_of
 
 ANSWERS = TOP / "crates/wasm_tests_replay/stdin"
 ROWS = TOP / "crates/wasm_tests_bodies/stdin"
@@ -87,6 +90,23 @@ CODE = (
     ("1 1648 0;1 1136 0;1 1904 0;1 1392 0;", "0401700164700165700164" + "6570", "0b"),
     ("1 1025 5;1 1537 200;1 1026 5;1 1538 1048575;", "0401640501" + "63c8010164620501" + "6362ffff3f", "0b"),
     ("", "00", "01" * 200 + "0b"),
+)
+
+# Every so many cases of typing_cases.tsv are validated.
+EACH_CASE = 313
+SECTION_OF_CODE = 10
+# Modules and their verdicts.
+VALIDATIONS = (
+    ("0061736d01000000", "ok"),
+    ("", "0x0 - unexpected end-of-file"),
+    ("0061736d0d000100", "0x4 - unknown binary version:    0x1000d"),
+    ("0061736d01000000010401600000030201050a040102000b", "0x11 - unknown type 5: type index out of bounds"),
+    ("0061736d01000000010401600000030201000a05010300ff0b", "0x17 0 illegal opcode: 0xff"),
+    (
+        "0061736d01000000010401600000020701016101620000030201000a0601040041000b",
+        "0x22 1 type mismatch: values remaining on stack at end of block",
+    ),
+    ("0061736d010000000108026000006000017f03030200010a090202000b040042000b", "0x21 1 type mismatch: expected i32, found i64"),
 )
 
 
@@ -193,6 +213,34 @@ def code_lines():
     return lines
 
 
+def function_at(module, offset):
+    """Returns the index of the function whose body has an offset, in a module without imports, or `-` if none has it."""
+    at = 8
+    while at < len(module):
+        size, start = leb128.read(module, at + 1)
+        if module[at] == SECTION_OF_CODE and start <= offset:
+            count, next_ = leb128.read(module, start)
+            for index in range(count):
+                length, body = leb128.read(module, next_)
+                next_ = body + length
+                if body <= offset <= next_:
+                    return index
+        at = start + size
+    return "-"
+
+
+def verdict_of(case):
+    if case.is_valid:
+        return "ok"
+    return f"{case.offset} {function_at(case.module, int(case.offset, 16))} {case.message}"
+
+
+def validate_lines():
+    taken_cases = [it for it in cases_of()[::EACH_CASE] if it.verdict != "unsupported"]
+    found = [*VALIDATIONS, *((it.module.hex(), verdict_of(it)) for it in taken_cases)]
+    return [f"validate\t{module}\t{verdict}" for module, verdict in found]
+
+
 def small_lines(text):
     return {
         "wasm_open_bodies, wasm_next_body, wasm_function_name": [*function_lines(text), *module_lines()],
@@ -200,6 +248,7 @@ def small_lines(text):
         "wasm_read_value": value_lines(),
         "wasm_encode_operator": encode_lines(ENCODINGS.read_text(encoding="utf-8")),
         "wasm_encode_locals, wasm_encode_body, wasm_encode_section": code_lines(),
+        "wasm_validate_module": validate_lines(),
     }
 
 

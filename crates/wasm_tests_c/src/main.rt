@@ -11,6 +11,7 @@ mod replay;
 mod row;
 mod sections;
 mod tally;
+mod validations;
 mod values;
 
 use crate::replay::Replay;

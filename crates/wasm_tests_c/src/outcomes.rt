@@ -33,17 +33,18 @@ fn write_line(out: &mut String, operator: &WasmOperator) -> Written {
     let mut name = [0u8; 32];
     let length = wasm_operator_name(operator, &mut name);
     let offset = operator.offset;
-    let name = text_of(&name, length);
+    let name = start_of(&name, length);
     write!(out, "{offset} {name}\n")
 }
 
 pub fn write_text(out: &mut String, refusal: &WasmRefusal) -> Written {
     let mut text = [0u8; 128];
     let length = wasm_refusal_text(refusal, &mut text);
-    out.push_str(text_of(&text, length))
+    out.push_str(start_of(&text, length))
 }
 
-fn text_of<'t>(array: &'t [u8], length: usize) -> &'t str {
+/// Returns the text of this length that an array starts with.
+pub fn start_of<'t>(array: &'t [u8], length: usize) -> &'t str {
     match array.get(..length) {
         Some(bytes) => str::from_utf8(bytes).unwrap_or("no text"),
         None => "a text that is too long",

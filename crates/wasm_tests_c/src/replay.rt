@@ -4,11 +4,12 @@ use crate::modules::{self, write_functions};
 use crate::outcomes::{write_end, write_lines, write_outcome, write_text};
 use crate::reading::{Found, Source, by_batches, step_by_step, whole};
 use crate::row::{
-    Body, Code, Encoding, List, Module, Text, Value, body_of, code_of, encoding_of, list_of,
-    module_of, text_of, value_of,
+    Body, Code, Encoding, List, Module, Text, Validation, Value, body_of, code_of, encoding_of,
+    list_of, module_of, text_of, validation_of, value_of,
 };
 use crate::sections::write_section;
 use crate::tally::Tally;
+use crate::validations::write_verdict;
 use crate::values::{write_constant, write_locals, write_value};
 use std::alloc::Global;
 use std::io::{self, Print};
@@ -36,6 +37,7 @@ pub struct Replay {
     module: Tally,
     encoding: Tally,
     code: Tally,
+    validation: Tally,
     unread: Tally,
 }
 
@@ -61,6 +63,7 @@ impl Replay {
             module: Tally::new("wasm_open_bodies, wasm_next_body, wasm_function_name"),
             encoding: Tally::new("wasm_encode_operator"),
             code: Tally::new("wasm_encode_locals, wasm_encode_body, wasm_encode_section"),
+            validation: Tally::new("wasm_validate_module"),
             unread: Tally::new("lines of another sort"),
         }
     }
@@ -80,6 +83,8 @@ impl Replay {
             self.encoding(rt, &encoding)
         } else if let Some(code) = code_of(line) {
             self.code(rt, &code)
+        } else if let Some(validation) = validation_of(line) {
+            self.validation(rt, &validation)
         } else {
             self.unread.compare(rt, line, "a line of a known sort")
         }
@@ -145,6 +150,18 @@ impl Replay {
         write_section(alloc, &mut found, code.locals, operators.as_slice())?;
         let expected = format!(in alloc; "{} 102 true 102 true 112 112", code.section)?;
         self.code.compare(rt, found.as_str(), expected.as_str())
+    }
+
+    /// Compares the verdict, with a part of the message, and the error for unknown features.
+    fn validation<R: Print>(&mut self, rt: &R, validation: &Validation<'_>) -> io::Result<()> {
+        let alloc = self.alloc;
+        let mut bytes = Vec::new(alloc);
+        read_hex(&mut bytes, validation.bytes)?;
+        let mut found = String::new(alloc);
+        write_verdict(alloc, &mut found, bytes.as_slice())?;
+        let expected = format!(in alloc; "{} true true", validation.verdict)?;
+        self.validation
+            .compare(rt, found.as_str(), expected.as_str())
     }
 
     /// Compares the calls that read a body. Without locals, the bytes after the first are an
@@ -264,6 +281,7 @@ impl Replay {
         self.value.print(rt)?;
         self.encoding.print(rt)?;
         self.code.print(rt)?;
+        self.validation.print(rt)?;
         self.unread.print(rt)
     }
 }

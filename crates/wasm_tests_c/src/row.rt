@@ -157,3 +157,22 @@ pub fn module_of<'r>(line: &'r str) -> Option<Module<'r>> {
         functions: cells.next()?,
     })
 }
+
+/// A module, valid or not.
+#[derive(Clone, Copy)]
+pub struct Validation<'r> {
+    pub bytes: &'r str,
+    /// `ok`, or the offset of the error, the function that it is in or `-`, and the message.
+    pub verdict: &'r str,
+}
+
+pub fn validation_of<'r>(line: &'r str) -> Option<Validation<'r>> {
+    let mut cells = line.split('\t');
+    let "validate" = cells.next()? else {
+        return None;
+    };
+    Some(Validation {
+        bytes: cells.next()?,
+        verdict: cells.next()?,
+    })
+}
