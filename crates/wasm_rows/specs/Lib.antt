@@ -1,0 +1,4 @@
+pub mod Writing
+pub mod Rows
+pub mod Titles
+pub mod Contents
