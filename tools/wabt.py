@@ -10,7 +10,7 @@
 `stored` needs no wabt (`apt-get install wabt`; tried with 1.0.32).
 
 `stored`: for NAME.wasm the program must write NAME.txt, which `wasm-objdump -d` of wabt wrote, with `-h` NAME.sections.txt
-and, if there are such files, with `-x` NAME.details.txt. Then it runs on each proper prefix of the module, and on the module with each byte changed. Each run
+and, if there are such files, with `-x` NAME.details.txt and with `-s` NAME.contents.txt. Then it runs on each proper prefix of the module, and on the module with each byte changed. Each run
 must end in time, with status 0 and no message, or with status 1 and messages. On a prefix with the whole code section it
 must list all functions, on another none.
 
@@ -56,7 +56,7 @@ FUNCTION = re.compile(rb"^[0-9a-f]{6,} func\[", re.M)
 CODE_END = re.compile(rb"^ +Code start=0x[0-9a-f]+ end=0x([0-9a-f]+)", re.M)
 
 # The options, the ends of the files with what wabt wrote, and how these are called.
-FILES = [([], ".txt", "what"), (["-h"], ".sections.txt", "the sections that"), (["-x"], ".details.txt", "the contents of sections that")]
+FILES = [([], ".txt", "what"), (["-h"], ".sections.txt", "the sections that"), (["-x"], ".details.txt", "the contents of sections that"), (["-s"], ".contents.txt", "the bytes of sections that")]
 
 
 def spoiled(module):
@@ -114,9 +114,7 @@ child = os.posix_spawnp(sys.argv[2], sys.argv[2:], os.environ, file_actions=[(os
 _, status, used = os.wait4(child, 0)
 print(os.waitstatus_to_exitcode(status), used.ru_utime + used.ru_stime, used.ru_maxrss)
 """
-# The differences: a name after an operand, a sign, the indices of locals, the type of a tail call.
-NAME = re.compile(r"^( [0-9a-f]+:(?: [0-9a-f]{2}){1,9} *\| .*?) <.*>(\)?)$")
-TABLE = re.compile(r"^(.*\| +(?:return_)?call_indirect \d+) <.*>( \(type \d+.*\))$")
+# The differences: a sign, the indices of locals, the type of a tail call.
 CONSTANT = re.compile(r"^(.*\| +i(32|64)\.const )(\d+)$")
 TAIL = re.compile(r"^(.*\| +return_call_indirect) (\d+) (\d+)$")
 LOCALS = re.compile(r"^(.*\| local)\[(\d+)(?:\.\.(\d+))?\]( type=.*)$")
@@ -133,7 +131,6 @@ def without_indices(line):
 
 
 KINDS = {
-    "names": lambda line: NAME.sub(r"\1\2", TABLE.sub(r"\1\2", line)),
     "signs": lambda line: CONSTANT.sub(lambda found: found[1] + signed(found[3], int(found[2])), line),
     "locals": without_indices,
     "tail calls": lambda line: TAIL.sub(r"\1 \3 (type \2)", line),

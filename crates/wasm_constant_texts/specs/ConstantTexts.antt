@@ -12,7 +12,8 @@ use Rattle.wasm_instr.specs.declared.operator.Operator.{Operator}
 use Rattle.wasm_instr.specs.declared.operator.Operator.TheVariants as operator
 use Rattle.wasm_details.specs.declared.constants.Usage.{Usage}
 use Rattle.wasm_details.specs.declared.constants.Usage.TheVariants as usage
-use Rattle.wasm_details.specs.Places.{ModuleNames, name_at}
+use Rattle.wasm_index_names.specs.Known.{ModuleNames}
+use Rattle.wasm_index_names.specs.Lists.{name_at}
 use Rattle.wasm_operators.specs.Expression.{Placed, EncodesExpression}
 use Rattle.wasm_text.specs.Lines.{shown_name}
 use Rattle.wasm_text.specs.Operands.{text_of}

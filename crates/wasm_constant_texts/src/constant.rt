@@ -7,10 +7,10 @@ use std::io::Write;
 use std::marker::Model;
 use wasm_below::{BinaryReader, Result as ReadResult};
 use wasm_constants::Constant;
-use wasm_details::{
-    ConstantDetails, Fault, Names, Place, SegmentDetails, ShownConstant, Usage, write_section,
-};
+use wasm_details::{ConstantDetails, Place, SegmentDetails, ShownConstant, Usage, write_section};
 use wasm_grammars::Read;
+use wasm_index_names::Names;
+use wasm_rows::Fault;
 use wasm_segments::{Data, Element};
 
 /// A constant expression that is shown as text.

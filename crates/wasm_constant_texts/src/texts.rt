@@ -1,13 +1,14 @@
 //! The texts of operators in constant expressions.
 ghost use Rattle.std.specs.Prelude.{◌≡◌, ◌++◌, OnOk, string_bytes, flat_map};
 ghost use Rattle.std.specs.List.{after_first};
-ghost use Rattle.wasm_details.specs.Places.{name_at};
+ghost use Rattle.wasm_index_names.specs.Lists.{name_at};
 ghost use Rattle.wasm_text.specs.Lines.{shown_name};
 ghost use Rattle.wasm_constant_texts.specs.ConstantTexts.{operand_text, named_operator, next_operator, operators_text, typed_null, abstract_null, null_text, value_text, offset_text, element_text, single_text, constant_text, number_of};
 
 use std::alloc::Global;
 use wasm_below::{AbstractHeapType, HeapType};
-use wasm_details::{Names, Usage};
+use wasm_details::Usage;
+use wasm_index_names::Names;
 use wasm_instr::Operator;
 use wasm_text::{Written, write_operator};
 

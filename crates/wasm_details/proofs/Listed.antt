@@ -1,14 +1,14 @@
 -- Items that are read and written one by one.
-use Rattle.std.proofs.Common.{◌≡◌, ℕ, suc, ◌+◌, List, [], ◌∷◌, ◌++◌, length, Option, Some, None, Result, Ok, Err, inl, inr, refl, sym, subst, ap, ◌∙◌, append_assoc, append-nil, arith}
+use Rattle.std.proofs.Common.{◌≡◌, ℕ, suc, ◌+◌, List, [], ◌∷◌, ◌++◌, length, Option, Result, Ok, Err, inr, refl, subst, ap, ◌∙◌, arith}
 use Rattle.std.specs.Io.KnownBytes.{Appends}
 use Rattle.wasm_below.specs.declared.features.WasmFeatures.{WasmFeatures}
 use Rattle.wasm_below.specs.Source.{Reader}
 use Rattle.wasm_grammars.specs.Grammar.{Grammar, HasReadBy}
 use Rattle.wasm_grammars.specs.Parts.{u32}
 use Rattle.wasm_sections.specs.Items.{Counted, ItemsLeft, items_of}
-use Rattle.wasm_details.specs.declared.fault.Fault.{Fault}
+use Rattle.wasm_rows.specs.declared.fault.Fault.{Fault}
 use Rattle.wasm_details.specs.declared.place.Place.{Place}
-use Rattle.wasm_details.specs.Items.{Listing, ItemsOccur, AreWritten, WritesItems, ListsItems, ListsCounted, ListsSection, title_text}
+use Rattle.wasm_details.specs.Items.{Listing, ItemsOccur, AreWritten, WritesItems, ListsItems, ListsSection, title_text}
 
 module _ {X : Type 0} (g : WasmFeatures → Grammar X) (lists : Listing X) where
   occur_more : (r mid new : Reader) (xs : List X) (x : X) → ItemsOccur g r xs mid → HasReadBy (g mid.features) x mid new → ItemsOccur g r (xs ++ x ∷ []) new

@@ -4,7 +4,7 @@ use Rattle.std.proofs.lemmas.Bool.{false≢true}
 use Rattle.wasm_below.specs.Source.{Reader, rest}
 use Rattle.wasm_names.specs.declared.name.Name.{Name}
 use Rattle.wasm_names.specs.Subsections.{NamesLeft, HasEnded, ReadsSubsection}
-use Rattle.wasm_details.specs.declared.fault.Fault.{Fault}
+use Rattle.wasm_rows.specs.declared.fault.Fault.{Fault}
 use Rattle.wasm_details.specs.declared.place.Place.{Place}
 use Rattle.std.specs.Io.KnownBytes.{Appends}
 use Rattle.wasm_externals.specs.Texts.{text}

@@ -2,7 +2,8 @@
 -- Specification: Binary Format, Code Section, Start Section, Data Count Section.
 use Rattle.std.specs.Prelude.{ℕ, List, ◌++◌, codes, decimal}
 use Rattle.wasm_text.specs.Lines.{shown_name}
-use Rattle.wasm_details.specs.Places.{ModuleNames, name_at}
+use Rattle.wasm_index_names.specs.Known.{ModuleNames}
+use Rattle.wasm_index_names.specs.Lists.{name_at}
 
 -- A body: the index of its function, its size in bytes and the function's name.
 abbrev pub body_line : ModuleNames → ℕ → ℕ → List ℕ

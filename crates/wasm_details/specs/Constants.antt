@@ -3,9 +3,9 @@ use Rattle.std.specs.Prelude.{◌≡◌, ◌⊎◌, ℕ, List, Option, Result, O
 use Rattle.wasm_below.specs.declared.features.WasmFeatures.{WasmFeatures}
 use Rattle.wasm_grammars.specs.Grammar.{Grammar}
 use Rattle.wasm_details.specs.declared.constants.Usage.{Usage}
-use Rattle.wasm_details.specs.declared.fault.Fault.{Fault}
-use Rattle.wasm_details.specs.declared.fault.Fault.TheVariants as fault
-use Rattle.wasm_details.specs.Places.{ModuleNames}
+use Rattle.wasm_rows.specs.declared.fault.Fault.{Fault}
+use Rattle.wasm_rows.specs.declared.fault.Fault.TheVariants as fault
+use Rattle.wasm_index_names.specs.Known.{ModuleNames}
 
 -- The text of an expression with this usage, and its number if it is one.
 abbrev pub Shows : Type 0 → Type 1

@@ -18,15 +18,17 @@ use Rattle.wasm_externals.specs.Limits.{memory_type}
 use Rattle.wasm_externals.specs.Texts.{text}
 use Rattle.wasm_segments.specs.Globals.{global, table}
 use Rattle.wasm_types.specs.Types.{rec_group}
-use Rattle.wasm_details.specs.declared.fault.Fault.{Fault}
-use Rattle.wasm_details.specs.declared.fault.Fault.TheVariants as fault
+use Rattle.wasm_rows.specs.declared.fault.Fault.{Fault}
+use Rattle.wasm_rows.specs.declared.fault.Fault.TheVariants as fault
 use Rattle.wasm_details.specs.declared.place.Imported.{Imported}
 use Rattle.wasm_details.specs.declared.place.Place.{Place}
-use Rattle.wasm_details.specs.Places.{ModuleNames, after_one}
+use Rattle.wasm_details.specs.Places.{after_one}
+use Rattle.wasm_index_names.specs.Known.{ModuleNames}
 use Rattle.wasm_details.specs.Constants.{Constants}
 use Rattle.wasm_details.specs.Items.{ListsSection}
 use Rattle.wasm_details.specs.Segments.{ListsTable, ListsGlobal, ListsElements, ListsData}
-use Rattle.wasm_details.specs.Writing.{WritesLine, WritesThen}
+use Rattle.wasm_details.specs.Writing.{WritesLine}
+use Rattle.wasm_rows.specs.Writing.{WritesThen}
 use Rattle.wasm_details.specs.Types.{group_lines, after_group}
 use Rattle.wasm_details.specs.Externals.{function_line, memory_line, tag_line, import_line, after_import, export_line}
 use Rattle.wasm_details.specs.Bodies.{body_line, start_text, data_count_text}

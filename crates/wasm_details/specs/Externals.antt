@@ -16,7 +16,9 @@ use Rattle.wasm_externals.specs.declared.tag_type.TagType.{TagType}
 use Rattle.wasm_text.specs.Lines.{shown_name}
 use Rattle.wasm_details.specs.declared.place.Imported.{Imported}
 use Rattle.wasm_details.specs.declared.place.Place.{Place}
-use Rattle.wasm_details.specs.Places.{ModuleNames, name_at, after_index}
+use Rattle.wasm_details.specs.Places.{after_index}
+use Rattle.wasm_index_names.specs.Known.{ModuleNames}
+use Rattle.wasm_index_names.specs.Lists.{name_at}
 use Rattle.wasm_details.specs.Types.{type_name}
 
 -- A function: its index, its type and its name.

@@ -8,10 +8,10 @@ use Rattle.wasm_grammars.specs.Grammar.{Grammar, HasReadBy}
 use Rattle.wasm_grammars.specs.Parts.{u32}
 use Rattle.wasm_grammars.specs.Reading.{Fails}
 use Rattle.wasm_sections.specs.Items.{Counted, ItemsLeft, IsDone, StopsItems}
-use Rattle.wasm_details.specs.declared.fault.Fault.{Fault}
-use Rattle.wasm_details.specs.declared.fault.Fault.TheVariants as fault
+use Rattle.wasm_rows.specs.declared.fault.Fault.{Fault}
+use Rattle.wasm_rows.specs.declared.fault.Fault.TheVariants as fault
 use Rattle.wasm_details.specs.declared.place.Place.{Place}
-use Rattle.wasm_details.specs.Writing.{WritesThen}
+use Rattle.wasm_rows.specs.Writing.{WritesThen}
 
 -- What is written for an item at a place, with the place after it.
 abbrev pub Listing : Type 0 → Type 1

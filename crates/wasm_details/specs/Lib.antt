@@ -6,7 +6,6 @@ pub mod Externals
 pub mod Bodies
 pub mod Namings
 pub mod Constants
-pub mod Rows
 pub mod Segments
 pub mod Contents
 pub mod Module

@@ -3,13 +3,14 @@
 use Rattle.std.specs.Prelude.{◌≡◌, ◌⊎◌, ℕ, List, [], ◌∷◌, Option, Result, Ok, Err}
 use Rattle.wasm_below.specs.declared.error.Error.{Error}
 use Rattle.wasm_below.specs.Source.{Reader, rest}
+use Rattle.wasm_names.specs.declared.indirect.IndirectNaming.{IndirectNaming}
 use Rattle.wasm_names.specs.declared.name.Name.{Name}
 use Rattle.wasm_names.specs.declared.name.Name.TheVariants as name
-use Rattle.wasm_names.specs.Names.{naming}
+use Rattle.wasm_names.specs.Names.{naming, indirect_naming}
 use Rattle.wasm_names.specs.Subsections.{ReadsSubsection, FailsSubsection}
 use Rattle.wasm_sections.specs.Items.{Counted}
-use Rattle.wasm_details.specs.declared.fault.Fault.{Fault}
-use Rattle.wasm_details.specs.declared.fault.Fault.TheVariants as fault
+use Rattle.wasm_rows.specs.declared.fault.Fault.{Fault}
+use Rattle.wasm_rows.specs.declared.fault.Fault.TheVariants as fault
 use Rattle.wasm_details.specs.declared.namings.Label.{Label}
 use Rattle.wasm_details.specs.declared.namings.Label.TheVariants as label
 use Rattle.wasm_details.specs.declared.place.Place.{Place}
@@ -26,11 +27,19 @@ abbrev pub ListsNothing : Place → Result Place Fault → Option (List ℕ) →
 ListsNothing place (Ok p) old new = (p ≡ place) × (new ≡ old)
 ListsNothing place (Err f) old new = ⊥
 
--- What is appended for a subsection. Names of locals, labels and fields are not shown.
+-- The names of a function's locals.
+abbrev pub ListsFunctionLocals : Place → IndirectNaming → Result Place Fault → Option (List ℕ) → Option (List ℕ) → Type 0
+ListsFunctionLocals place n result old new = ListsMap (label.Local n.index) n.names place result old new
+
+-- The names of locals, in a map for each function.
+abbrev pub ListsLocals : Counted → Place → Result Place Fault → Option (List ℕ) → Option (List ℕ) → Type 0
+ListsLocals map place result old new = ListsItems indirect_naming ListsFunctionLocals map place result old new
+
+-- What is appended for a subsection. Names of labels and fields are not shown.
 abbrev pub ListsName : Name → Place → Result Place Fault → Option (List ℕ) → Option (List ℕ) → Type 0
 ListsName (name.Module n range) place result old new = WritesLine (module_line n) place result old new
 ListsName (name.Function map) place result old new = ListsMap label.Function map place result old new
-ListsName (name.Local map) place result old new = ListsNothing place result old new
+ListsName (name.Local map) place result old new = ListsLocals map place result old new
 ListsName (name.Label map) place result old new = ListsNothing place result old new
 ListsName (name.Type map) place result old new = ListsMap label.Type map place result old new
 ListsName (name.Table map) place result old new = ListsMap label.Table map place result old new

@@ -16,6 +16,7 @@ label_text label.Global = codes " - global["
 label_text label.Element = codes " - elemseg["
 label_text label.Data = codes " - dataseg["
 label_text label.Tag = codes " - tag["
+label_text (label.Local function) = codes " - func[" ++ (decimal function ++ codes "] local[")
 
 -- The index of what is named, and the name.
 abbrev pub naming_line : Label → Naming → List ℕ

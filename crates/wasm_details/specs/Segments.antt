@@ -1,12 +1,9 @@
 -- Tables, globals, element and data segments, in the form of wabt's `wasm-objdump -x`.
 -- Specification: Binary Format, Table Section, Global Section, Element Section, Data Section.
 use Rattle.std.specs.Prelude.{◌≡◌, ℕ, ◌+◌, ◌%◌, ◌^◌, List, [], ◌++◌, length, Option, Some, None, Result, Ok, Err, codes, decimal}
-use Rattle.std.specs.Io.KnownBytes.{Appends}
-use Rattle.wasm_below.specs.declared.features.WasmFeatures.{WasmFeatures}
 use Rattle.wasm_below.specs.Source.{Reader}
 use Rattle.wasm_externals.specs.declared.global_type.GlobalType.{GlobalType}
 use Rattle.wasm_externals.specs.declared.table_type.TableType.{TableType}
-use Rattle.wasm_grammars.specs.Grammar.{Grammar}
 use Rattle.wasm_grammars.specs.Parts.{u32}
 use Rattle.wasm_segments.specs.Elements.{element}
 use Rattle.wasm_segments.specs.Segments.{data_segment}
@@ -24,14 +21,16 @@ use Rattle.wasm_segments.specs.declared.table.TableInit.{TableInit}
 use Rattle.wasm_segments.specs.declared.table.TableInit.TheVariants as init
 use Rattle.wasm_text.specs.Lines.{shown_name}
 use Rattle.wasm_details.specs.declared.constants.Usage.TheVariants as usage
-use Rattle.wasm_details.specs.declared.fault.Fault.{Fault}
+use Rattle.wasm_rows.specs.declared.fault.Fault.{Fault}
 use Rattle.wasm_details.specs.declared.place.Place.{Place}
 use Rattle.wasm_details.specs.Constants.{Shows, Constants, ListsShown}
 use Rattle.wasm_details.specs.Externals.{global_text, table_text}
 use Rattle.wasm_details.specs.Items.{Listing, ListsItems, ListsSection}
-use Rattle.wasm_details.specs.Places.{ModuleNames, name_at, after_index, after_one}
-use Rattle.wasm_details.specs.Rows.{ListsRows}
-use Rattle.wasm_details.specs.Writing.{WritesLine, WritesThen}
+use Rattle.wasm_details.specs.Places.{after_index, after_one}
+use Rattle.wasm_index_names.specs.Known.{ModuleNames}
+use Rattle.wasm_index_names.specs.Lists.{name_at}
+use Rattle.wasm_details.specs.Writing.{WritesLine, ListsRows}
+use Rattle.wasm_rows.specs.Writing.{WritesThen}
 
 -- A value at the start, and the end of the line.
 abbrev pub initial_text : List ℕ → List ℕ
@@ -194,7 +193,7 @@ data_head names index d offset =
 abbrev pub ListsSegment : {X : Type 0} → Shows X → ModuleNames → Listing (Data X)
 ListsSegment shows names place d result old new =
     ListsShown (IsOffset shows names (data_offset d.kind))
-    (λ offset number. WritesThen (data_head names place.next d offset) (ListsRows (address_of number place.address) d.«data» (after_segment place number)))
+    (λ offset number. WritesThen (data_head names place.next d offset) (ListsRows (codes "  - ") (address_of number place.address) d.«data» (after_segment place number)))
     result old new
 
 -- A section of element segments.

@@ -6,13 +6,12 @@ ghost use Rattle.wasm_details.specs.Writing.{WritesLine};
 
 use crate::details::Details;
 use crate::externals::push_name;
-use crate::fault::Fault;
-use crate::names::Names;
 use crate::place::{Place, after_one};
-use crate::writing::write_text;
 use std::alloc::Global;
 use std::io::Write;
 use wasm_below::BinaryReader;
+use wasm_index_names::Names;
+use wasm_rows::{Fault, write_text};
 use wasm_text::Written;
 
 /// Appends the line of a body with this size.
@@ -29,7 +28,7 @@ impl<'a> Details<'a, Names> for BinaryReader<'a> {
     ghost lists = { λ names place body. WritesLine (body_line names place.next (length (rest body))) (after_one place) };
 
     fn write_lines<W: Write>(
-        &self,
+        self,
         _alloc: Global,
         writer: &mut W,
         line: &mut String,

@@ -1,16 +1,16 @@
 //! Constant expressions as they are shown.
 ghost use Rattle.std.specs.Prelude.{◌≡◌, IfOk, List, Option, ℕ, option_map, string_bytes};
-ghost use Rattle.wasm_details.specs.Places.{ModuleNames};
+ghost use Rattle.wasm_index_names.specs.Known.{ModuleNames};
 ghost use Rattle.wasm_details.specs.Segments.{IsOffset, ListsElements, ListsData};
 ghost use Rattle.wasm_details.specs.declared.constants.Usage.{Usage};
 
-use crate::fault::Fault;
-use crate::names::Names;
 use crate::place::Place;
 use std::alloc::{AllocError, Global};
 use std::io::Write;
 use wasm_below::BinaryReader;
 use wasm_grammars::Read;
+use wasm_index_names::Names;
+use wasm_rows::Fault;
 
 /// What a constant expression is for, on which its text depends.
 #[derive(Clone, Copy)]

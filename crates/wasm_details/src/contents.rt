@@ -4,22 +4,22 @@ ghost use Rattle.wasm_below.specs.declared.malformed.Malformed.TheVariants as ma
 ghost use Rattle.wasm_details.specs.Bodies.{start_text, data_count_text};
 ghost use Rattle.wasm_details.specs.Namings.{custom_text};
 ghost use Rattle.wasm_details.specs.Contents.{first_index, first_place, ListsNumber, unknown_text, ListsCustom, ListsCustomData, is_name, ListsContents};
-ghost use Rattle.wasm_details.specs.Writing.{WritesText, WritesLine};
+ghost use Rattle.wasm_details.specs.Writing.{WritesLine};
+ghost use Rattle.wasm_rows.specs.Writing.{WritesText};
 
 use crate::bodies::{push_data_count, push_start};
 use crate::constants::SegmentDetails;
-use crate::fault::Fault;
 use crate::items::write_section;
 use crate::name_section::write_names;
-use crate::names::Names;
 use crate::namings::push_custom;
 use crate::place::{Imported, Place};
-use crate::writing::write_text;
 use std::alloc::Global;
 use std::io::Write;
 use wasm_below::{BinaryReader, Malformed, Message};
 use wasm_externals::{Export, Import, MemoryType, TagType, Text};
 use wasm_grammars::Read;
+use wasm_index_names::Names;
+use wasm_rows::{Fault, write_text};
 use wasm_sections::read_all;
 use wasm_segments::Table;
 use wasm_types::RecGroup;

@@ -6,13 +6,11 @@ use crate::constants::{ConstantDetails, show_offset};
 use crate::details::Details;
 use crate::elements::{address_of, after_segment};
 use crate::externals::push_name;
-use crate::fault::Fault;
-use crate::names::Names;
 use crate::place::Place;
-use crate::rows::write_rows;
-use crate::writing::write_text;
 use std::alloc::Global;
 use std::io::Write;
+use wasm_index_names::Names;
+use wasm_rows::{Fault, write_rows, write_text};
 use wasm_segments::{Data, DataKind};
 use wasm_text::Written;
 
@@ -79,7 +77,7 @@ impl<'a, C: ConstantDetails<'a>> Details<'a, Names> for Data<'a, C> {
     ghost lists = { λ names. ListsSegment C.shows names };
 
     fn write_lines<W: Write>(
-        &self,
+        self,
         alloc: Global,
         writer: &mut W,
         line: &mut String,
@@ -90,7 +88,7 @@ impl<'a, C: ConstantDetails<'a>> Details<'a, Names> for Data<'a, C> {
             return Err(Fault::Memory);
         };
         line.clear();
-        if push_data(line, names, place.next, self, shown.text.as_str()).is_err() {
+        if push_data(line, names, place.next, &self, shown.text.as_str()).is_err() {
             return Err(Fault::Memory);
         }
         if let Err(fault) = write_text(writer, line.as_str()) {
@@ -98,6 +96,9 @@ impl<'a, C: ConstantDetails<'a>> Details<'a, Names> for Data<'a, C> {
         }
         let address = address_of(shown.number, place.address);
         let next = after_segment(place, shown.number);
-        write_rows(writer, line, address, self.data.as_slice(), next)
+        match write_rows(writer, line, "  - ", address, self.data.as_slice()) {
+            Ok(()) => Ok(next),
+            Err(fault) => Err(fault),
+        }
     }
 }

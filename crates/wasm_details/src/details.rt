@@ -1,12 +1,12 @@
 ghost use Rattle.std.specs.Prelude.{List, ℕ, Option, Result};
-ghost use Rattle.wasm_details.specs.declared.fault.Fault.{Fault};
+ghost use Rattle.wasm_rows.specs.declared.fault.Fault.{Fault};
 ghost use Rattle.wasm_details.specs.declared.place.Place.{Place};
 
-use crate::fault::Fault;
 use crate::place::Place;
 use std::alloc::Global;
 use std::io::Write;
 use wasm_grammars::Read;
+use wasm_rows::Fault;
 
 /// An item of a section that is shown as lines, which depend on a context, such as the names of a
 /// module's things.
@@ -17,12 +17,12 @@ pub trait Details<'a, C>: Read<'a> {
     /// Writes the lines of the item, which is at this place, through the buffer `line`. Returns the
     /// place after it.
     fn write_lines<W: Write>(
-        &self,
+        self,
         alloc: Global,
         writer: &mut W,
         line: &mut String,
         context: &C,
         place: Place,
     ) -> Result<Place, Fault>
-        ensures { lists context.now place self.now result (W.contents writer.old) (W.contents writer.new) };
+        ensures { lists context.now place self result (W.contents writer.old) (W.contents writer.new) };
 }

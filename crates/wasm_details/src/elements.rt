@@ -2,21 +2,20 @@
 ghost use Rattle.std.specs.Prelude.{◌≡◌, ◌<◌, ◌++◌, ℕ, OnOk, option_map, string_bytes};
 ghost use Rattle.wasm_grammars.specs.Parts.{u32};
 ghost use Rattle.wasm_details.specs.Segments.{element_offset, table_or_first, table_of, active_flags, kind_flags, items_flags, count_of, flags_text, counts_text, element_head, element_index, entry_begin, entry_line, function_entry, address_of, after_segment, first_element, ListsFunction, ListsExpression, ListsReferences, ListsInside, ListsElement};
-ghost use Rattle.wasm_details.specs.Writing.{WritesText};
+ghost use Rattle.wasm_rows.specs.Writing.{WritesText};
 
 use crate::constants::{ConstantDetails, Usage, show_offset};
 use crate::details::Details;
 use crate::externals::push_name;
-use crate::fault::Fault;
 use crate::items::write_items;
-use crate::names::Names;
 use crate::place::{Place, after_index, after_one};
-use crate::writing::write_text;
 use std::alloc::Global;
 use std::io::Write;
 use std::marker::Model;
 use wasm_below::{BinaryReader, Result as ReadResult};
 use wasm_grammars::Read;
+use wasm_index_names::Names;
+use wasm_rows::{Fault, write_text};
 use wasm_sections::SectionReader;
 use wasm_segments::{Element, ElementItems, ElementKind};
 use wasm_text::Written;
@@ -68,7 +67,7 @@ impl<'a> Details<'a, Names> for FunctionElement {
     ghost lists = { ListsFunction };
 
     fn write_lines<W: Write>(
-        &self,
+        self,
         _alloc: Global,
         writer: &mut W,
         line: &mut String,
@@ -122,7 +121,7 @@ impl<'a, C: ConstantDetails<'a>> Details<'a, Names> for ExpressionElement<C> {
     ghost lists = { λ names. ListsExpression C.shows names };
 
     fn write_lines<W: Write>(
-        &self,
+        self,
         alloc: Global,
         writer: &mut W,
         line: &mut String,
@@ -322,7 +321,7 @@ impl<'a, C: ConstantDetails<'a>> Details<'a, Names> for Element<'a, C> {
     ghost lists = { ListsElement (record { grammar = C.grammar; shows = C.shows }) };
 
     fn write_lines<W: Write>(
-        &self,
+        self,
         alloc: Global,
         writer: &mut W,
         line: &mut String,
@@ -333,7 +332,7 @@ impl<'a, C: ConstantDetails<'a>> Details<'a, Names> for Element<'a, C> {
             return Err(Fault::Memory);
         };
         line.clear();
-        if push_element(line, place.next, self, shown.text.as_str()).is_err() {
+        if push_element(line, place.next, &self, shown.text.as_str()).is_err() {
             return Err(Fault::Memory);
         }
         if let Err(fault) = write_text(writer, line.as_str()) {

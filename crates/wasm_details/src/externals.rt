@@ -5,11 +5,8 @@ ghost use Rattle.wasm_details.specs.Places.{after_one};
 ghost use Rattle.wasm_details.specs.Writing.{WritesLine};
 
 use crate::details::Details;
-use crate::fault::Fault;
-use crate::names::Names;
 use crate::place::{Imported, Place, after_index, after_one};
 use crate::types::push_type_name;
-use crate::writing::write_text;
 use std::alloc::Global;
 use std::io::Write;
 use wasm_below::ValType;
@@ -17,6 +14,8 @@ use wasm_escapes::write_escaped;
 use wasm_externals::{
     Export, ExternalKind, GlobalType, Import, MemoryType, TableType, TagType, TypeRef,
 };
+use wasm_index_names::Names;
+use wasm_rows::{Fault, write_text};
 use wasm_text::Written;
 
 /// Appends a name in angle brackets, unless it is empty.
@@ -52,7 +51,7 @@ impl<'a> Details<'a, Names> for u32 {
     ghost lists = { λ names place ty. WritesLine (function_line names place.next ty) (after_one place) };
 
     fn write_lines<W: Write>(
-        &self,
+        self,
         _alloc: Global,
         writer: &mut W,
         line: &mut String,
@@ -60,7 +59,7 @@ impl<'a> Details<'a, Names> for u32 {
         place: Place,
     ) -> Result<Place, Fault> {
         line.clear();
-        if push_function_line(line, names, place.next, *self).is_err() {
+        if push_function_line(line, names, place.next, self).is_err() {
             return Err(Fault::Memory);
         }
         match write_text(writer, line.as_str()) {
@@ -165,7 +164,7 @@ impl<'a> Details<'a, Names> for MemoryType {
     ghost lists = { λ names place ty. WritesLine (memory_line place.next ty) (after_one place) };
 
     fn write_lines<W: Write>(
-        &self,
+        self,
         _alloc: Global,
         writer: &mut W,
         line: &mut String,
@@ -173,7 +172,7 @@ impl<'a> Details<'a, Names> for MemoryType {
         place: Place,
     ) -> Result<Place, Fault> {
         line.clear();
-        if push_memory_line(line, place.next, *self).is_err() {
+        if push_memory_line(line, place.next, self).is_err() {
             return Err(Fault::Memory);
         }
         match write_text(writer, line.as_str()) {
@@ -231,7 +230,7 @@ impl<'a> Details<'a, Names> for TagType {
     ghost lists = { λ names place ty. WritesLine (tag_line place.next ty) (after_one place) };
 
     fn write_lines<W: Write>(
-        &self,
+        self,
         _alloc: Global,
         writer: &mut W,
         line: &mut String,
@@ -239,7 +238,7 @@ impl<'a> Details<'a, Names> for TagType {
         place: Place,
     ) -> Result<Place, Fault> {
         line.clear();
-        if push_tag_line(line, place.next, *self).is_err() {
+        if push_tag_line(line, place.next, self).is_err() {
             return Err(Fault::Memory);
         }
         match write_text(writer, line.as_str()) {
@@ -308,7 +307,7 @@ impl<'a> Details<'a, Names> for Import<'a> {
     ghost lists = { λ names place i. WritesLine (import_line names place.imported i) (after_import place i) };
 
     fn write_lines<W: Write>(
-        &self,
+        self,
         alloc: Global,
         writer: &mut W,
         line: &mut String,
@@ -316,7 +315,7 @@ impl<'a> Details<'a, Names> for Import<'a> {
         place: Place,
     ) -> Result<Place, Fault> {
         line.clear();
-        if push_import(alloc, line, names, place.imported, self).is_err() {
+        if push_import(alloc, line, names, place.imported, &self).is_err() {
             return Err(Fault::Memory);
         }
         match write_text(writer, line.as_str()) {
@@ -369,7 +368,7 @@ impl<'a> Details<'a, Names> for Export<'a> {
     ghost lists = { λ names place e. WritesLine (export_line names e) (after_one place) };
 
     fn write_lines<W: Write>(
-        &self,
+        self,
         alloc: Global,
         writer: &mut W,
         line: &mut String,
@@ -377,7 +376,7 @@ impl<'a> Details<'a, Names> for Export<'a> {
         place: Place,
     ) -> Result<Place, Fault> {
         line.clear();
-        if push_export(alloc, line, names, self).is_err() {
+        if push_export(alloc, line, names, &self).is_err() {
             return Err(Fault::Memory);
         }
         match write_text(writer, line.as_str()) {

@@ -5,13 +5,12 @@ ghost use Rattle.wasm_details.specs.Segments.{initial_text, global_line, table_h
 use crate::constants::{ConstantDetails, Usage};
 use crate::details::Details;
 use crate::externals::{push_global, push_name, push_table};
-use crate::fault::Fault;
-use crate::names::Names;
 use crate::place::{Place, after_one};
-use crate::writing::write_text;
 use std::alloc::Global;
 use std::io::Write;
 use wasm_externals::{GlobalType, TableType};
+use wasm_index_names::Names;
+use wasm_rows::{Fault, write_text};
 use wasm_segments::TableInit;
 use wasm_text::Written;
 
@@ -44,7 +43,7 @@ impl<'a, C: ConstantDetails<'a>> Details<'a, Names> for wasm_segments::Global<C>
     ghost lists = { λ names. ListsGlobal C.shows names };
 
     fn write_lines<W: Write>(
-        &self,
+        self,
         alloc: Global,
         writer: &mut W,
         line: &mut String,
@@ -152,7 +151,7 @@ impl<'a, C: ConstantDetails<'a>> Details<'a, Names> for wasm_segments::Table<C> 
     ghost lists = { λ names. ListsTable C.shows names };
 
     fn write_lines<W: Write>(
-        &self,
+        self,
         alloc: Global,
         writer: &mut W,
         line: &mut String,

@@ -1,14 +1,13 @@
 ghost use Rattle.std.specs.Prelude.{◌≡◌, ◌++◌, OnOk, string_bytes};
 ghost use Rattle.wasm_details.specs.Items.{ListsItems, ListsSection, title_text};
-ghost use Rattle.wasm_details.specs.Writing.{WritesText};
+ghost use Rattle.wasm_rows.specs.Writing.{WritesText};
 
 use crate::details::Details;
-use crate::fault::Fault;
 use crate::place::Place;
-use crate::writing::write_text;
 use std::alloc::{AllocError, Global};
 use std::io::Write;
 use wasm_below::BinaryReader;
+use wasm_rows::{Fault, write_text};
 use wasm_sections::SectionReader;
 
 /// Writes the lines of items, of which the first is at this place. Returns the place after them.

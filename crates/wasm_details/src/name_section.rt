@@ -3,15 +3,14 @@ ghost use Rattle.wasm_details.specs.Names.{ListsName, ListsNames};
 ghost use Rattle.wasm_details.specs.Namings.{module_line};
 ghost use Rattle.wasm_details.specs.Writing.{WritesLine};
 
-use crate::fault::Fault;
 use crate::items::write_items;
 use crate::namings::{Label, push_module};
 use crate::place::Place;
-use crate::writing::write_text;
 use std::alloc::Global;
 use std::io::Write;
 use wasm_below::BinaryReader;
 use wasm_names::{Name, NameSectionReader};
+use wasm_rows::{Fault, write_text};
 
 /// Writes the name of the module.
 fn write_module_name<W: Write>(
@@ -56,7 +55,8 @@ fn write_name<W: Write>(
         Name::Element(map) => write_items(alloc, writer, line, &Label::Element, place, map),
         Name::Data(map) => write_items(alloc, writer, line, &Label::Data, place, map),
         Name::Tag(map) => write_items(alloc, writer, line, &Label::Tag, place, map),
-        Name::Local(_) | Name::Label(_) | Name::Field(_) => Ok(place),
+        Name::Local(map) => write_items(alloc, writer, line, &(), place, map),
+        Name::Label(_) | Name::Field(_) => Ok(place),
         Name::Unknown {
             ty: _,
             data: _,

@@ -1,16 +1,17 @@
 ghost use Rattle.std.specs.Prelude.{◌≡◌, ◌++◌, OnOk, string_bytes};
 ghost use Rattle.wasm_escapes.specs.Escapes.{escaped};
+ghost use Rattle.wasm_details.specs.Names.{ListsFunctionLocals};
 ghost use Rattle.wasm_details.specs.Namings.{label_text, naming_line, module_line, custom_text};
 ghost use Rattle.wasm_details.specs.Writing.{WritesLine};
 
 use crate::details::Details;
-use crate::fault::Fault;
+use crate::items::write_items;
 use crate::place::Place;
-use crate::writing::write_text;
 use std::alloc::Global;
 use std::io::Write;
 use wasm_escapes::write_escaped;
-use wasm_names::Naming;
+use wasm_names::{IndirectNaming, Naming};
+use wasm_rows::{Fault, write_text};
 use wasm_text::Written;
 
 /// What a map names.
@@ -24,20 +25,31 @@ pub enum Label {
     Element,
     Data,
     Tag,
+    /// Locals of the function with this index.
+    Local(u32),
 }
 
-fn label_words(label: Label) -> &'static str
-    ensures { result.now ≡ label_text label }
+/// Appends the words before the index of a local of the function with this index.
+fn push_local_label(out: &mut String, function: u32) -> Written
+    ensures { OnOk result (string_bytes out.new ≡ string_bytes out.old ++ label_text (Label.Local function)) }
+{
+    write!(out, " - func[{function}] local[")
+}
+
+/// Appends the words before the index of what is named.
+fn push_label(out: &mut String, label: Label) -> Written
+    ensures { OnOk result (string_bytes out.new ≡ string_bytes out.old ++ label_text label) }
 {
     match label {
-        Label::Function => " - func[",
-        Label::Type => " - type[",
-        Label::Table => " - table[",
-        Label::Memory => " - memory[",
-        Label::Global => " - global[",
-        Label::Element => " - elemseg[",
-        Label::Data => " - dataseg[",
-        Label::Tag => " - tag[",
+        Label::Function => out.push_str(" - func["),
+        Label::Type => out.push_str(" - type["),
+        Label::Table => out.push_str(" - table["),
+        Label::Memory => out.push_str(" - memory["),
+        Label::Global => out.push_str(" - global["),
+        Label::Element => out.push_str(" - elemseg["),
+        Label::Data => out.push_str(" - dataseg["),
+        Label::Tag => out.push_str(" - tag["),
+        Label::Local(function) => push_local_label(out, function),
     }
 }
 
@@ -46,7 +58,7 @@ fn push_naming(alloc: Global, out: &mut String, label: Label, naming: &Naming<'_
     ensures { OnOk result (string_bytes out.new ≡ string_bytes out.old ++ naming_line label naming.now) }
 {
     let index = naming.index;
-    out.push_str(label_words(label))?;
+    push_label(out, label)?;
     write!(out, "{index}] <")?;
     write_escaped(alloc, out, naming.name.as_str().as_bytes())?;
     out.push_str(">\n")
@@ -57,7 +69,7 @@ impl<'a> Details<'a, Label> for Naming<'a> {
     ghost lists = { λ label place n. WritesLine (naming_line label n) place };
 
     fn write_lines<W: Write>(
-        &self,
+        self,
         alloc: Global,
         writer: &mut W,
         line: &mut String,
@@ -65,13 +77,30 @@ impl<'a> Details<'a, Label> for Naming<'a> {
         place: Place,
     ) -> Result<Place, Fault> {
         line.clear();
-        if push_naming(alloc, line, *label, self).is_err() {
+        if push_naming(alloc, line, *label, &self).is_err() {
             return Err(Fault::Memory);
         }
         match write_text(writer, line.as_str()) {
             Ok(()) => Ok(place),
             Err(fault) => Err(fault),
         }
+    }
+}
+
+/// The names of a function's locals in the custom section `name`.
+impl<'a> Details<'a, ()> for IndirectNaming<'a> {
+    ghost lists = { λ context. ListsFunctionLocals };
+
+    fn write_lines<W: Write>(
+        self,
+        alloc: Global,
+        writer: &mut W,
+        line: &mut String,
+        _context: &(),
+        place: Place,
+    ) -> Result<Place, Fault> {
+        let label = Label::Local(self.index);
+        write_items(alloc, writer, line, &label, place, self.names)
     }
 }
 

@@ -3,13 +3,12 @@ ghost use Rattle.wasm_details.specs.Types.{type_name, next_type, types_text, res
 ghost use Rattle.wasm_details.specs.Writing.{WritesLine};
 
 use crate::details::Details;
-use crate::fault::Fault;
-use crate::names::Names;
 use crate::place::{Place, after_index};
-use crate::writing::write_text;
 use std::alloc::Global;
 use std::io::Write;
 use wasm_below::ValType;
+use wasm_index_names::Names;
+use wasm_rows::{Fault, write_text};
 use wasm_text::{Written, write_value_type};
 use wasm_types::{
     CompositeInnerType, CompositeType, FieldType, FuncType, RecGroup, StorageType, SubType,
@@ -216,7 +215,7 @@ impl<'a> Details<'a, Names> for RecGroup {
     ghost lists = { λ names place group. WritesLine (group_lines place group) (after_group place group) };
 
     fn write_lines<W: Write>(
-        &self,
+        self,
         alloc: Global,
         writer: &mut W,
         line: &mut String,

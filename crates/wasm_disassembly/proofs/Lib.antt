@@ -4,10 +4,10 @@ pub mod Declared
 pub mod Spaced
 pub mod OperatorLines
 pub mod Listed
-pub mod Escaped
 pub mod Bodies
 pub mod ListingWritten
 pub mod Added
+mod Calls
 pub mod Sums
 pub mod Asked
 pub mod Counted

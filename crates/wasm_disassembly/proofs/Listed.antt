@@ -14,7 +14,7 @@ use Rattle.wasm_operators.specs.Locals.{Declaration, EncodesDeclaration, Locals,
 use Rattle.wasm_disassembly.specs.declared.fault.DisassemblyFault.{DisassemblyFault}
 use Rattle.wasm_disassembly.specs.declared.fault.DisassemblyFault.TheVariants as fault
 use Rattle.wasm_disassembly.specs.LocalLines.{PlacedLocals, declarations_of, LaidOutLocals, ListsDeclarations}
-use Rattle.wasm_disassembly.specs.Disassembly.{Heading, header, local_lines, operator_lines, ReadsLocals, Disassembles, ListsOperators}
+use Rattle.wasm_disassembly.specs.Disassembly.{Heading, names_for, header, local_lines, operator_lines, ReadsLocals, Disassembles, ListsOperators}
 use Rattle.wasm_below.proofs.TakesLemmas.{takes_then}
 use Rattle.wasm_operators.proofs.OneRead.{may_end}
 use Rattle.wasm_disassembly.proofs.Written.{appends_both, appends_three}
@@ -113,7 +113,7 @@ same_end a b text t =
     omega (arith, long, place)
 
 pub operators_ended : (h : Heading) (r : Result (Unit {0}) DisassemblyFault) (body reader : Reader) (before listed after : Option (List ℕ)) → IsBodyAfterLocals →
-    IsListedTo h body reader before listed → ListsOperators h.names (offset_of body) (rest body) r reader listed after → Disassembles h r body before after
+    IsListedTo h body reader before listed → ListsOperators (names_for h) (offset_of body) (rest body) r reader listed after → Disassembles h r body before after
 operators_ended h (Ok x) body reader before listed after law to (placed, encodes, is) =
     let past = locals_past body to.unread to.read to.locals to.reads to.all in
     let s = source_of body in

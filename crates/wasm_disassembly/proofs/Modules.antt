@@ -3,6 +3,7 @@ use Rattle.std.specs.Io.KnownBytes.{Appends}
 use Rattle.wasm_operators.specs.below.declared.error.Error.{Error}
 use Rattle.wasm_operators.specs.below.declared.features.WasmFeatures.{WasmFeatures}
 use Rattle.wasm_operators.specs.below.Source.{Reader, reader_of}
+use Rattle.wasm_index_names.specs.Known.{ModuleNames, AreNamesOf}
 use Rattle.wasm_module.specs.ModuleFunctions.{ModuleFunctions, NamesModule}
 use Rattle.wasm_disassembly.specs.declared.counts.ModuleCounts.{ModuleCounts}
 use Rattle.wasm_disassembly.specs.declared.listing_fault.Fault.{Fault}
@@ -11,26 +12,26 @@ use Rattle.wasm_disassembly.specs.Listing.{OpensModule, FailsModule, ListsCode, 
 use Rattle.wasm_disassembly.specs.ModuleCensus.{CountsCode, CountsModule}
 use Rattle.wasm_disassembly.proofs.Bodies.{keeps_same}
 
-pub lists_module : {S : Type 0} (reports : S → ℕ → Error → S → Type 0) (features : WasmFeatures) (only : Option ℕ) (file : Option (List ℕ)) (bytes name : List ℕ) (t : ModuleFunctions)
+pub lists_module : {S : Type 0} (reports : S → ℕ → Error → S → Type 0) (features : WasmFeatures) (only : Option ℕ) (file : Option (List ℕ)) (bytes name : List ℕ) (names : ModuleNames) (t : ModuleFunctions)
     (contents : Reader) (result : Result Bool Fault) (before after : S) (old titled new : Option (List ℕ)) → OpensModule features only bytes t (Some contents) →
-    NamesModule (reader_of features 0 bytes) name → Appends old titled (heading_of file name code_heading) →
-    ListsCode reports t only contents result before after titled new → IfErr result (λ f. IsLater f) →
+    NamesModule (reader_of features 0 bytes) name → Appends old titled (heading_of file name code_heading) → AreNamesOf t features bytes names →
+    ListsCode reports names t only contents result before after titled new → IfErr result (λ f. IsLater f) →
     ListsModule reports features only file bytes result before after old new
-lists_module reports features only file bytes name t contents (Ok whole) before after old titled new opens named title lists later =
-    record { functions = t; code = Some contents; opens = opens; name = name; is_name = named; titled = titled; title = title; lists = lists }
-lists_module reports features only file bytes name t contents (Err (fault.Code e)) before after old titled new opens named title lists later =
-    record { functions = t; code = Some contents; opens = opens; name = name; is_name = named; titled = titled; title = title; lists = lists }
-lists_module reports features only file bytes name t contents (Err (fault.Module f)) before after old titled new opens named title lists later = absurd later
-lists_module reports features only file bytes name t contents (Err (fault.NoFunction i)) before after old titled new opens named title lists later = absurd later
-lists_module reports features only file bytes name t contents (Err (fault.Section e)) before after old titled new opens named title lists later = absurd later
-lists_module reports features only file bytes name t contents (Err fault.Writing) before after old titled new opens named title lists later = tt
-lists_module reports features only file bytes name t contents (Err fault.Memory) before after old titled new opens named title lists later = tt
+lists_module reports features only file bytes name names t contents (Ok whole) before after old titled new opens named title are lists later =
+    record { functions = t; code = Some contents; opens = opens; name = name; is_name = named; titled = titled; title = title; names = names; are_names = are; lists = lists }
+lists_module reports features only file bytes name names t contents (Err (fault.Code e)) before after old titled new opens named title are lists later =
+    record { functions = t; code = Some contents; opens = opens; name = name; is_name = named; titled = titled; title = title; names = names; are_names = are; lists = lists }
+lists_module reports features only file bytes name names t contents (Err (fault.Module f)) before after old titled new opens named title are lists later = absurd later
+lists_module reports features only file bytes name names t contents (Err (fault.NoFunction i)) before after old titled new opens named title are lists later = absurd later
+lists_module reports features only file bytes name names t contents (Err (fault.Section e)) before after old titled new opens named title are lists later = absurd later
+lists_module reports features only file bytes name names t contents (Err fault.Writing) before after old titled new opens named title are lists later = tt
+lists_module reports features only file bytes name names t contents (Err fault.Memory) before after old titled new opens named title are lists later = tt
 
-pub lists_none : {S : Type 0} (reports : S → ℕ → Error → S → Type 0) (features : WasmFeatures) (only : Option ℕ) (file : Option (List ℕ)) (bytes name : List ℕ) (t : ModuleFunctions) (s : S)
+pub lists_none : {S : Type 0} (reports : S → ℕ → Error → S → Type 0) (features : WasmFeatures) (only : Option ℕ) (file : Option (List ℕ)) (bytes name : List ℕ) (names : ModuleNames) (t : ModuleFunctions) (s : S)
     (old new : Option (List ℕ)) → OpensModule features only bytes t None → NamesModule (reader_of features 0 bytes) name →
-    Appends old new (heading_of file name code_heading) → ListsModule reports features only file bytes (Ok true) s s old new
-lists_none reports features only file bytes name t s old new opens named title =
-    record { functions = t; code = None; opens = opens; name = name; is_name = named; titled = new; title = title; lists = (refl, refl, keeps_same new) }
+    Appends old new (heading_of file name code_heading) → AreNamesOf t features bytes names → ListsModule reports features only file bytes (Ok true) s s old new
+lists_none reports features only file bytes name names t s old new opens named title are =
+    record { functions = t; code = None; opens = opens; name = name; is_name = named; titled = new; title = title; names = names; are_names = are; lists = (refl, refl, keeps_same new) }
 
 pub counts_module : {S : Type 0} (reports : S → ℕ → Error → S → Type 0) (features : WasmFeatures) (only : Option ℕ) (bytes : List ℕ) (t : ModuleFunctions)
     (contents : Reader) (result : Result ModuleCounts Fault) (before after : S) → OpensModule features only bytes t (Some contents) →

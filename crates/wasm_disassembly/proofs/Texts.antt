@@ -3,16 +3,17 @@ use Rattle.std.specs.Prelude.{IfOk, IsOk}
 use Rattle.std.specs.Io.KnownBytes.{Appends}
 use Rattle.wasm_operators.specs.below.declared.error.Error.{Error}
 use Rattle.wasm_operators.specs.below.Source.{Reader}
+use Rattle.wasm_index_names.specs.Known.{ModuleNames}
 use Rattle.wasm_disassembly.specs.declared.fault.DisassemblyFault.{DisassemblyFault}
 use Rattle.wasm_disassembly.specs.declared.fault.DisassemblyFault.TheVariants as disassembly_fault
 use Rattle.wasm_disassembly.specs.Faults.{IsOutputFailure}
 use Rattle.wasm_disassembly.specs.Disassembly.{Heading, IsText, Disassembles}
 use Rattle.wasm_disassembly.specs.Listing.{IsHalt, outcome_of}
 
-abbrev heading_by : ℕ → List (List ℕ) → ℕ → Heading
+abbrev heading_by : ℕ → ModuleNames → ℕ → Heading
 heading_by index names parameters = record { index = index; names = names; parameters = parameters }
 
-pub same_heading : (i j : ℕ) (a b : List (List ℕ)) (n m : ℕ) → i ≡ j → a ≡ b → n ≡ m → heading_by i a n ≡ heading_by j b m
+pub same_heading : (i j : ℕ) (a b : ModuleNames) (n m : ℕ) → i ≡ j → a ≡ b → n ≡ m → heading_by i a n ≡ heading_by j b m
 same_heading i j a b n m index names parameters =
     ap (λ z. heading_by z a n) index ∙ ap (λ z. heading_by j z n) names ∙ ap (λ z. heading_by j b z) parameters
 

@@ -16,7 +16,7 @@ use Rattle.wasm_disassembly.specs.declared.listing_fault.Fault.{Fault}
 use Rattle.wasm_disassembly.specs.declared.listing_fault.Fault.TheVariants as fault
 use Rattle.wasm_disassembly.specs.declared.headers.Detail.{Detail}
 use Rattle.wasm_disassembly.specs.declared.headers.Detail.TheVariants as detail
-use Rattle.wasm_disassembly.specs.Escapes.{escaped}
+use Rattle.wasm_escapes.specs.Escapes.{escaped}
 use Rattle.wasm_disassembly.specs.Listing.{heading_of, IsHalt}
 
 -- The name of a section number, aligned right in nine columns.

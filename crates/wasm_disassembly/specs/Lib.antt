@@ -1,7 +1,7 @@
 pub mod Faults
 pub mod LocalLines
 pub mod Disassembly
-pub mod Escapes
+pub mod Names
 pub mod Listing
 pub mod CountTable
 pub mod ModuleCensus

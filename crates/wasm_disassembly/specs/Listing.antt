@@ -17,7 +17,8 @@ use Rattle.wasm_module.specs.Refusals.{ModuleFunctionsFault, IsRefusedAs}
 use Rattle.wasm_module.specs.Sections.{IsSection}
 use Rattle.wasm_module.specs.ModuleFunctions.{ModuleFunctions, DescribesFunctions, IsDefined, index_of, parameters_at, NamesModule}
 use Rattle.wasm_module.specs.declared.fault.ModuleFault.TheVariants as whole_fault
-use Rattle.wasm_disassembly.specs.Escapes.{escaped, all_escaped}
+use Rattle.wasm_index_names.specs.Known.{ModuleNames, AreNamesOf}
+use Rattle.wasm_rows.specs.Titles.{title_of}
 use Rattle.wasm_disassembly.specs.declared.fault.DisassemblyFault.{DisassemblyFault}
 use Rattle.wasm_disassembly.specs.declared.fault.DisassemblyFault.TheVariants as disassembly_fault
 use Rattle.wasm_disassembly.specs.declared.listing_fault.Fault.{Fault}
@@ -74,9 +75,9 @@ abbrev pub Reported : {S : Type 0} → (S → ℕ → Error → S → Type 0) �
 Reported reports [] old new = new ≡ old
 Reported {S} reports (r ∷ rs) old new = (mid : S) × reports old r.0 r.1 mid × Reported reports rs mid new
 
--- The heading of the defined function with the ordinal `place`. Names are escaped.
-abbrev pub heading_at : ModuleFunctions → ℕ → Heading
-heading_at t place = record { index = index_of t place; names = all_escaped t.names; parameters = parameters_at t place }
+-- The heading of the defined function with the ordinal `place`.
+abbrev pub heading_at : ModuleNames → ModuleFunctions → ℕ → Heading
+heading_at names t place = record { index = index_of t place; names = names; parameters = parameters_at t place }
 
 -- The result of reading a function whose text ends with this fault, or the failure of allocation or
 -- of the writer.
@@ -91,63 +92,51 @@ refusals_of index (Ok x) = []
 refusals_of index (Err e) = (index, e) ∷ []
 
 -- The text of a defined function, up to an error, which is reported.
-abbrev pub ListsFunction : ModuleFunctions → ℕ → Reader → Refusals → List ℕ → Type 0
-ListsFunction t place body reported text =
-    (outcome : Result (Unit {0}) Error) × IsText (heading_at t place) outcome body text × (reported ≡ refusals_of (index_of t place) outcome)
+abbrev pub ListsFunction : ModuleNames → ModuleFunctions → ℕ → Reader → Refusals → List ℕ → Type 0
+ListsFunction names t place body reported text =
+    (outcome : Result (Unit {0}) Error) × IsText (heading_at names t place) outcome body text × (reported ≡ refusals_of (index_of t place) outcome)
 
 -- The text of a defined function, or nothing if it is not requested.
-abbrev pub IsWritten : ModuleFunctions → Option ℕ → ℕ → Reader → Refusals → List ℕ → Type 0
-IsWritten t only place body reported text =
-    WhereAsked (is_asked only (index_of t place)) (ListsFunction t place body reported text) ((reported ≡ []) × (text ≡ []))
+abbrev pub IsWritten : ModuleNames → ModuleFunctions → Option ℕ → ℕ → Reader → Refusals → List ℕ → Type 0
+IsWritten names t only place body reported text =
+    WhereAsked (is_asked only (index_of t place)) (ListsFunction names t place body reported text) ((reported ≡ []) × (text ≡ []))
 
 -- The texts and reports of these functions; `place` is the ordinal of the first.
-abbrev pub AreWritten : ModuleFunctions → Option ℕ → ℕ → List Reader → Refusals → List ℕ → Type 0
-AreWritten t only place [] reported text = (reported ≡ []) × (text ≡ [])
-AreWritten t only place (b ∷ bs) reported text =
-    (one others : Refusals) × (own more : List ℕ) × (reported ≡ one ++ others) × (text ≡ own ++ more) × IsWritten t only place b one own ×
-    AreWritten t only (place + 1) bs others more
+abbrev pub AreWritten : ModuleNames → ModuleFunctions → Option ℕ → ℕ → List Reader → Refusals → List ℕ → Type 0
+AreWritten names t only place [] reported text = (reported ≡ []) × (text ≡ [])
+AreWritten names t only place (b ∷ bs) reported text =
+    (one others : Refusals) × (own more : List ℕ) × (reported ≡ one ++ others) × (text ≡ own ++ more) × IsWritten names t only place b one own ×
+    AreWritten names t only (place + 1) bs others more
 
 -- The requested functions with these bodies were written and errors reported.
-pub record Writes {S : Type 0} (reports : S → ℕ → Error → S → Type 0) (t : ModuleFunctions) (only : Option ℕ) (bodies : List Reader) (reported : Refusals)
+pub record Writes {S : Type 0} (reports : S → ℕ → Error → S → Type 0) (names : ModuleNames) (t : ModuleFunctions) (only : Option ℕ) (bodies : List Reader) (reported : Refusals)
     (before after : S) (old new : Option (List ℕ)) : Type 0 where
   pub text : List ℕ
-  pub written : AreWritten t only 0 bodies reported text
+  pub written : AreWritten names t only 0 bodies reported text
   pub appends : Appends old new text
   pub reported_all : Reported reports reported before after
 
 -- The functions are written up to an error of the section. The result is whether no function has an
 -- error. Nothing is said of other faults.
-abbrev pub ListsCode : {S : Type 0} → (S → ℕ → Error → S → Type 0) → ModuleFunctions → Option ℕ → Reader → Result Bool Fault → S → S → Option (List ℕ) →
+abbrev pub ListsCode : {S : Type 0} → (S → ℕ → Error → S → Type 0) → ModuleNames → ModuleFunctions → Option ℕ → Reader → Result Bool Fault → S → S → Option (List ℕ) →
     Option (List ℕ) → Type 0
-ListsCode reports t only contents (Ok whole) before after old new =
-    (bodies : List Reader) × IsCode contents bodies × (reported : Refusals) × Writes reports t only bodies reported before after old new × (whole ≡ are_none reported)
-ListsCode reports t only contents (Err (fault.Code e)) before after old new =
-    (bodies : List Reader) × RefusesCode e contents bodies × (reported : Refusals) × Writes reports t only bodies reported before after old new
-ListsCode reports t only contents (Err _) before after old new = Unit {0}
+ListsCode reports names t only contents (Ok whole) before after old new =
+    (bodies : List Reader) × IsCode contents bodies × (reported : Refusals) × Writes reports names t only bodies reported before after old new × (whole ≡ are_none reported)
+ListsCode reports names t only contents (Err (fault.Code e)) before after old new =
+    (bodies : List Reader) × RefusesCode e contents bodies × (reported : Refusals) × Writes reports names t only bodies reported before after old new
+ListsCode reports names t only contents (Err _) before after old new = Unit {0}
 
 -- As `ListsCode`, if the module has a code section, with these contents. Without one, the result is
 -- `Ok true`, and nothing is written.
-abbrev pub ListsFound : {S : Type 0} → (S → ℕ → Error → S → Type 0) → ModuleFunctions → Option ℕ → Option Reader → Result Bool Fault → S → S → Option (List ℕ) →
+abbrev pub ListsFound : {S : Type 0} → (S → ℕ → Error → S → Type 0) → ModuleNames → ModuleFunctions → Option ℕ → Option Reader → Result Bool Fault → S → S → Option (List ℕ) →
     Option (List ℕ) → Type 0
-ListsFound reports t only (Some contents) result before after old new = ListsCode reports t only contents result before after old new
-ListsFound reports t only None (Ok whole) before after old new = (whole ≡ true) × (after ≡ before) × Keeps old new
-ListsFound reports t only None (Err f) before after old new = Unit {0}
-
--- The title's line with the module's name, escaped; none if it is empty.
-abbrev pub name_line : List ℕ → List ℕ
-name_line [] = []
-name_line (n ∷ ns) = codes "module name: <" ++ (escaped (n ∷ ns) ++ codes ">\n")
-
-abbrev pub file_line : List ℕ → List ℕ
-file_line file = codes "\n" ++ (escaped file ++ codes ":\tfile format wasm 0x1\n")
-
-abbrev pub title_of : List ℕ → List ℕ → List ℕ
-title_of file name = file_line file ++ name_line name
+ListsFound reports names t only (Some contents) result before after old new = ListsCode reports names t only contents result before after old new
+ListsFound reports names t only None (Ok whole) before after old new = (whole ≡ true) × (after ≡ before) × Keeps old new
+ListsFound reports names t only None (Err f) before after old new = Unit {0}
 
 -- The title, unless there is no file name, and the heading `listed`.
 abbrev pub heading_of : Option (List ℕ) → List ℕ → List ℕ → List ℕ
-heading_of None name listed = listed
-heading_of (Some file) name listed = title_of file name ++ listed
+heading_of file name listed = title_of file name ++ listed
 
 abbrev pub code_heading : List ℕ
 code_heading = codes "\nCode Disassembly:\n\n"
@@ -190,7 +179,9 @@ pub record WritesModule {S : Type 0} (reports : S → ℕ → Error → S → Ty
   pub is_name : NamesModule (reader_of features 0 bytes) name
   pub titled : Option (List ℕ)
   pub title : Appends old titled (heading_of file name code_heading)
-  pub lists : ListsFound reports functions only code result before after titled new
+  pub names : ModuleNames
+  pub are_names : AreNamesOf functions features bytes names
+  pub lists : ListsFound reports names functions only code result before after titled new
 
 -- A module is written, up to an error of its code section, or nothing is. Nothing is said if
 -- writing failed, or allocation after the start.

@@ -1,38 +1,20 @@
-ghost use Rattle.std.specs.Prelude.{◌≡◌, ◌+◌, ◌^◌, ◌<◌, IfErr, IfOk, OnOk, length, map, string_bytes};
+ghost use Rattle.std.specs.Prelude.{◌≡◌, ◌+◌, ◌^◌, ◌<◌, IfErr, IfOk, OnOk, length};
 ghost use Rattle.std.specs.Io.KnownBytes.{Appends};
 ghost use Rattle.wasm_operators.specs.below.Source.{source_of};
 ghost use Rattle.wasm_operators.specs.Expression.{Placed, EncodesExpression};
 ghost use Rattle.wasm_text.specs.Rows.{line_of};
 ghost use Rattle.wasm_text.specs.Lines.{change_in, depth_of, depth_after};
-ghost use Rattle.wasm_disassembly.specs.Disassembly.{callee_of, called_text, name_of, ListsOperators};
+ghost use Rattle.wasm_disassembly.specs.Disassembly.{named_text, ListsOperators};
 ghost use Rattle.wasm_disassembly.specs.Faults.{IsOutputFailure};
 
 use crate::fault::{DisassemblyFault, fault_of};
+use crate::named_line::write_named_line;
 use crate::writing::write_text;
 use std::alloc::Global;
 use std::io::Write;
+use wasm_index_names::Names;
 use wasm_operators::{BinaryReader, Operator, OperatorsReader, run_laws};
-use wasm_text::{bytes_between, write_line};
-
-/// Returns the name of the function with this index, or an empty one.
-pub fn name_of<'a>(names: &'a [String], index: u32) -> &'a str
-    ensures { result.now ≡ name_of (map string_bytes names.now) index }
-{
-    match names.get(index as usize) {
-        Some(name) => name.as_str(),
-        None => "",
-    }
-}
-
-/// Returns the name of the function that `call` calls, otherwise an empty one.
-fn callee_of<'a>(names: &'a [String], op: &Operator<'_>) -> &'a str
-    ensures { result.now ≡ callee_of (map string_bytes names.now) op.now }
-{
-    match op {
-        Operator::Call { function_index } => name_of(names, *function_index),
-        _ => "",
-    }
-}
+use wasm_text::bytes_between;
 
 /// Writes the lines of the operator at `offset`. Takes and returns how many constructs are open.
 fn write_operator<W: Write>(
@@ -41,18 +23,19 @@ fn write_operator<W: Write>(
     depth: usize,
     offset: u64,
     bytes: &[u8],
-    names: &[String],
+    names: &Names,
+    function: u32,
     op: Operator<'_>,
 ) -> Result<usize, DisassemblyFault>
     requires fits { offset + length bytes.now < 2 ^ 64 }
     requires deep { depth + 1 < 2 ^ 64 }
     ensures lines { OnOk result (Appends (W.contents writer.old) (W.contents writer.new)
-        (line_of (depth_of (change_in bytes.now) depth) offset bytes.now (called_text (map string_bytes names.now) op.entry))) }
+        (line_of (depth_of (change_in bytes.now) depth) offset bytes.now (named_text (record { index = function; names = names.now }) op.entry))) }
     ensures after { IfOk result (λ after. after ≡ depth_after (change_in bytes.now) depth) }
     ensures halts { IfErr result (λ fault. IsOutputFailure fault) }
 {
     line.clear();
-    let Ok(after) = write_line(line, depth, offset, bytes, &op, callee_of(names, &op)) else {
+    let Ok(after) = write_named_line(line, depth, offset, bytes, names, function, &op) else {
         return Err(DisassemblyFault::Memory);
     };
     write_text(writer, line.as_str(), DisassemblyFault::Writing)?;
@@ -60,17 +43,18 @@ fn write_operator<W: Write>(
 }
 
 /// Writes the lines of each operator before it reads the next. `bytes` is the body, which starts at
-/// the offset `start`. `names` are the names of all functions.
+/// the offset `start`, of the function with the index `function`.
 pub fn write_operators<W: Write>(
     alloc: Global,
     writer: &mut W,
     line: &mut String,
     bytes: &[u8],
     start: u64,
-    names: &[String],
+    names: &Names,
+    function: u32,
     reader: BinaryReader<'_>,
 ) -> Result<(), DisassemblyFault>
-    ensures lists { ListsOperators (map string_bytes names.now) start bytes.now result reader.entry (W.contents writer.old) (W.contents writer.new) }
+    ensures lists { ListsOperators (record { index = function; names = names.now }) start bytes.now result reader.entry (W.contents writer.old) (W.contents writer.new) }
     // If an expression starts at the reader's position, only allocation and the writer can fail.
     ensures whole { (placed : Placed) → EncodesExpression (source_of reader.entry) placed
         → IfErr result (λ fault. IsOutputFailure fault) }
@@ -86,7 +70,7 @@ pub fn write_operators<W: Write>(
             Err(e) => return Err(fault_of(e)),
         };
         let shown = bytes_between(bytes, start, offset, operators.original_position());
-        depth = write_operator(writer, line, depth, offset, shown, names, op)?;
+        depth = write_operator(writer, line, depth, offset, shown, names, function, op)?;
     }
     match operators.finish() {
         Ok(()) => Ok(()),

@@ -1,4 +1,4 @@
-ghost use Rattle.std.specs.Prelude.{◌≤◌, List, IfErr, OnOk, map, string_bytes};
+ghost use Rattle.std.specs.Prelude.{◌≤◌, List, IfErr, OnOk};
 ghost use Rattle.std.specs.Io.KnownBytes.{Appends};
 ghost use Rattle.wasm_operators.specs.below.Source.{source_of};
 ghost use Rattle.wasm_operators.specs.Body.{EncodesBody};
@@ -10,11 +10,12 @@ ghost use Rattle.wasm_disassembly.specs.Disassembly.{Disassembles};
 ghost use Rattle.wasm_disassembly.specs.Faults.{IsOutputFailure};
 
 use crate::declarations::write_declarations;
-use crate::expression::{name_of, write_operators};
+use crate::expression::write_operators;
 use crate::fault::DisassemblyFault;
 use crate::writing::write_text;
 use std::alloc::Global;
 use std::io::Write;
+use wasm_index_names::Names;
 use wasm_operators::{FunctionBody, body_laws, byte_laws};
 use wasm_text::write_header;
 
@@ -37,19 +38,18 @@ fn write_heading<W: Write>(
 }
 
 /// Writes the text of a function: its header, locals and operators. Each line is written before the
-/// next declaration or operator is read. `names` are the names of all functions by index; a name
-/// may be empty. The first `parameters` locals are parameters.
+/// next declaration or operator is read. The first `parameters` locals are parameters.
 ///
 /// Fails with `Refused` if the bytes are not a body, after the lines before the error.
 pub fn disassemble<W: Write>(
     alloc: Global,
     writer: &mut W,
     index: u32,
-    names: &[String],
+    names: &Names,
     parameters: u32,
     body: &FunctionBody<'_>,
 ) -> Result<(), DisassemblyFault>
-    ensures text { Disassembles (record { index = index; names = map string_bytes names.now; parameters = parameters }) result body.now
+    ensures text { Disassembles (record { index = index; names = names.now; parameters = parameters }) result body.now
         (W.contents writer.old) (W.contents writer.new) }
     // If the bytes encode a body with at most `max_locals` locals, only allocation and the writer
     // can fail.
@@ -61,7 +61,7 @@ pub fn disassemble<W: Write>(
     byte_laws::unsigned_numbers();
     let start = body.get_binary_reader().original_position();
     let mut line = String::new(alloc);
-    write_heading(writer, &mut line, start, index, name_of(names, index))?;
+    write_heading(writer, &mut line, start, index, names.function(index))?;
     let mut locals = match body.get_locals_reader() {
         Ok(locals) => locals,
         Err(e) => return Err(DisassemblyFault::Refused(e)),
@@ -82,6 +82,7 @@ pub fn disassemble<W: Write>(
         body.as_bytes(),
         start,
         names,
+        index,
         locals.get_binary_reader(),
     )
 }

@@ -4,10 +4,10 @@ ghost use Rattle.wasm_disassembly.specs.Headers.{section_name, hex_text, range_t
 ghost use Rattle.wasm_disassembly.specs.Listing.{IsHalt};
 
 use crate::listing_fault::Fault;
-use crate::names::write_escaped;
 use crate::writing::write_text;
 use std::alloc::Global;
 use std::io::Write;
+use wasm_escapes::write_escaped;
 use wasm_module::{CustomSection, Section, function_laws, read_section};
 use wasm_operators::{BinaryReader, Error};
 use wasm_text::{Written, write_byte};

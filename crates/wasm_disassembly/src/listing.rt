@@ -1,17 +1,16 @@
-ghost use Rattle.std.specs.Prelude.{◌≡◌, true, false, List, ℕ, IsOk, IfOk, IfErr, map, string_bytes};
+ghost use Rattle.std.specs.Prelude.{◌≡◌, true, false, List, ℕ, IsOk, IfOk, IfErr};
 ghost use Rattle.std.specs.Io.KnownBytes.{Appends, Keeps};
 ghost use Rattle.wasm_disassembly.specs.Disassembly.{IsText};
 ghost use Rattle.wasm_operators.specs.below.Source.{Reader};
 ghost use Rattle.wasm_module.specs.ModuleFunctions.{index_of};
-ghost use Rattle.wasm_disassembly.specs.Escapes.{all_escaped};
 ghost use Rattle.wasm_disassembly.specs.Listing.{is_asked, are_none, heading_at, outcome_of, Refusals, Reported, WhereAsked, IsWritten, IsCode, ListsCode, IsFunction, AreAsked, Succeeds, IsHalt, IsLater};
 
 use crate::complaints::Complaints;
 use crate::listing_fault::Fault;
-use crate::names::shown_names;
 use crate::{DisassemblyFault, code_laws, disassemble};
 use std::alloc::Global;
 use std::io::Write;
+use wasm_index_names::Names;
 use wasm_listing::FlushedWrite;
 use wasm_module::Functions;
 use wasm_operators::{BinaryReader, CodeSectionReader, Error, FunctionBody};
@@ -27,18 +26,17 @@ fn outcome_of(fault: DisassemblyFault) -> Result<Result<(), Error>, Fault>
     }
 }
 
-/// Writes the text of a function and returns the result of reading it. `names` are escaped.
+/// Writes the text of a function and returns the result of reading it.
 fn list_function<W: Write>(
     alloc: Global,
     functions: &Functions<'_>,
-    names: &[String],
+    names: &Names,
     place: u32,
     body: &FunctionBody<'_>,
     writer: &mut W,
 ) -> Result<Result<(), Error>, Fault>
-    requires { map string_bytes names.now ≡ all_escaped functions.now.names }
     ensures lists { IfOk result (λ outcome. (text : List ℕ) × Appends (W.contents writer.old) (W.contents writer.new) text
-        × IsText (heading_at functions.now place) outcome body.now text) }
+        × IsText (heading_at names.now functions.now place) outcome body.now text) }
     ensures whole { IfOk result (λ outcome. IsFunction body.now → IsOk outcome) }
     ensures halts { IfErr result (λ fault. IsHalt fault) }
 {
@@ -86,17 +84,16 @@ pub fn is_asked(only: Option<u32>, index: u32) -> bool
 fn list_asked<W: FlushedWrite, C: Complaints>(
     alloc: Global,
     functions: &Functions<'_>,
-    names: &[String],
+    names: &Names,
     only: Option<u32>,
     place: u32,
     body: &FunctionBody<'_>,
     writer: &mut W,
     complaints: &mut C,
 ) -> Result<bool, Fault>
-    requires { map string_bytes names.now ≡ all_escaped functions.now.names }
     ensures lists { IfOk result (λ whole. (reported : Refusals) × (text : List ℕ)
         × Appends (W.contents writer.old) (W.contents writer.new) text
-        × IsWritten functions.now only place body.now reported text
+        × IsWritten names.now functions.now only place body.now reported text
         × Reported C.reports reported complaints.old complaints.new × (whole ≡ are_none reported)) }
     ensures whole { IfOk result (λ whole. WhereAsked (is_asked only (index_of functions.now place)) (IsFunction body.now) (Unit {0})
         → whole ≡ true) }
@@ -125,12 +122,13 @@ fn list_asked<W: FlushedWrite, C: Complaints>(
 pub fn list_code<W: FlushedWrite, C: Complaints>(
     alloc: Global,
     functions: &Functions<'_>,
+    names: &Names,
     code: BinaryReader<'_>,
     only: Option<u32>,
     writer: &mut W,
     complaints: &mut C,
 ) -> Result<bool, Fault>
-    ensures lists { ListsCode C.reports functions.now only code.entry result complaints.old complaints.new
+    ensures lists { ListsCode C.reports names.now functions.now only code.entry result complaints.old complaints.new
         (W.contents writer.old) (W.contents writer.new) }
     ensures whole { (bodies : List Reader) → IsCode code.entry bodies → AreAsked IsFunction functions.now only 0 bodies
         → Succeeds result }
@@ -142,9 +140,6 @@ pub fn list_code<W: FlushedWrite, C: Complaints>(
         Ok(section) => section,
         Err(e) => return Err(Fault::Code(e)),
     };
-    let Ok(names) = shown_names(alloc, functions) else {
-        return Err(Fault::Memory);
-    };
     let mut items = section.into_iter();
     let mut place: u32 = 0;
     let mut whole = true;
@@ -154,14 +149,7 @@ pub fn list_code<W: FlushedWrite, C: Complaints>(
             Err(e) => return Err(Fault::Code(e)),
         };
         whole &= list_asked(
-            alloc,
-            functions,
-            names.as_slice(),
-            only,
-            place,
-            &body,
-            writer,
-            complaints,
+            alloc, functions, names, only, place, &body, writer, complaints,
         )?;
         place = place.saturating_add(1);
     }

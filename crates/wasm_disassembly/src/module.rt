@@ -1,6 +1,6 @@
 ghost use Rattle.std.specs.Prelude.{◌≡◌, ◌++◌, IfErr, OnOk, option_map, string_bytes};
 ghost use Rattle.std.specs.Io.KnownBytes.{Appends};
-ghost use Rattle.wasm_disassembly.specs.Listing.{file_line, name_line, heading_of, IsHalt, ListsModule, IsModuleOf, IsFunction, Succeeds, WritesNothing};
+ghost use Rattle.wasm_disassembly.specs.Listing.{heading_of, IsHalt, ListsModule, IsModuleOf, IsFunction, Succeeds, WritesNothing};
 ghost use Rattle.wasm_disassembly.specs.Cut.{ListsUpToCut};
 ghost use Rattle.wasm_disassembly.specs.Headers.{ListsHeaders};
 ghost use Rattle.wasm_disassembly.specs.ModuleCensus.{CountsModule, IsCounted, CountsAll};
@@ -11,39 +11,19 @@ use crate::cut::{after_cut, before_cut, find_cut};
 use crate::headers::list_sections;
 use crate::listing::list_code;
 use crate::listing_fault::Fault;
-use crate::names::write_escaped;
 use crate::opened::open_module;
 use crate::writing::write_text;
 use std::alloc::{AllocError, Global};
 use std::io::Write;
+use wasm_index_names::names_with;
 use wasm_listing::FlushedWrite;
 use wasm_module::{function_laws, module_name, open_sections};
 use wasm_operators::WasmFeatures;
+use wasm_rows::push_title;
 
 const CODE_HEADING: &str = "\nCode Disassembly:\n\n";
 
 const SECTIONS_HEADING: &str = "\nSections:\n\n";
-
-/// Appends the line with a module's name, if it has one.
-fn push_name(alloc: Global, out: &mut String, name: &[u8]) -> Result<(), AllocError>
-    ensures { OnOk result (string_bytes out.new ≡ string_bytes out.old ++ name_line name.now) }
-{
-    if name.is_empty() {
-        return Ok(());
-    }
-    out.push_str("module name: <")?;
-    write_escaped(alloc, out, name)?;
-    out.push_str(">\n")
-}
-
-/// Appends the line with the name of a file.
-fn push_file(alloc: Global, out: &mut String, file: &str) -> Result<(), AllocError>
-    ensures { OnOk result (string_bytes out.new ≡ string_bytes out.old ++ file_line file.now) }
-{
-    out.push_str("\n")?;
-    write_escaped(alloc, out, file.as_bytes())?;
-    out.push_str(":\tfile format wasm 0x1\n")
-}
 
 /// Appends a title, unless `file` is `None`, and the heading `listed`.
 fn push_heading(
@@ -55,10 +35,7 @@ fn push_heading(
 ) -> Result<(), AllocError>
     ensures { OnOk result (string_bytes out.new ≡ string_bytes out.old ++ heading_of (option_map (λ text. text.now) file.entry) name.now listed.now) }
 {
-    if let Some(file) = file {
-        push_file(alloc, out, file)?;
-        push_name(alloc, out, name)?;
-    }
+    push_title(alloc, out, file, name)?;
     out.push_str(listed)
 }
 
@@ -106,8 +83,12 @@ fn list_part<W: FlushedWrite, C: Complaints>(
         CODE_HEADING,
         writer,
     )?;
+    let names = match names_with(alloc, features, bytes, &functions) {
+        Ok(names) => names,
+        Err(_) => return Err(Fault::Memory),
+    };
     match code {
-        Some(code) => list_code(alloc, &functions, code, only, writer, complaints),
+        Some(code) => list_code(alloc, &functions, &names, code, only, writer, complaints),
         None => Ok(true),
     }
 }

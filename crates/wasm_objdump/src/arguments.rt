@@ -22,6 +22,10 @@ pub struct Options {
     pub details: bool,
     /// Whether the functions are disassembled.
     pub functions: bool,
+    /// Whether the bytes of the sections are shown.
+    pub contents: bool,
+    /// The only section whose contents or bytes are shown, if one is requested.
+    pub section: Option<String>,
     /// Whether the operators are counted, in place of all these.
     pub census: bool,
     /// Which functions are disassembled or counted.
@@ -54,7 +58,11 @@ const FUNCTION: usize = 4;
 
 const FEATURES: usize = 5;
 
-/// The options. Those after `--features` are options of `wasm-objdump` that this program does not
+const CONTENTS: usize = 6;
+
+const SECTION: usize = 7;
+
+/// The options. Those after `--section` are options of `wasm-objdump` that this program does not
 /// have.
 const CHOICES: [Choice; 11] = [
     Choice("--headers", Some('h'), Kind::Flag),
@@ -102,6 +110,7 @@ fn set_option(alloc: Global, options: &mut Options, index: usize) -> Result<(), 
         DETAILS => options.details = true,
         DISASSEMBLE => options.functions = true,
         CENSUS => options.census = true,
+        CONTENTS => options.contents = true,
         _ => return Err(unsupported(alloc, index)),
     }
     Ok(())
@@ -116,6 +125,7 @@ fn set_value(
 ) -> Result<(), Mistake> {
     match index {
         FUNCTION => options.function = functions_of(word),
+        SECTION => options.section = Some(word),
         FEATURES => match named_features(alloc, word.as_str())? {
             Some(features) => options.features = features,
             None => return Err(Mistake::Word("unknown features", word)),
@@ -125,10 +135,10 @@ fn set_value(
     Ok(())
 }
 
-/// Completes the request: disassembly unless sections are listed or shown, standard input if no file
-/// is named.
+/// Completes the request: disassembly if nothing else is requested, standard input if no file is
+/// named.
 fn finished(alloc: Global, mut options: Options) -> Result<Request, Mistake> {
-    options.functions |= !options.headers && !options.details;
+    options.functions |= !options.headers && !options.details && !options.contents;
     if options.files.is_empty() {
         options.is_without_file = true;
         let Ok(input) = String::from_str(alloc, "-") else {
@@ -145,6 +155,8 @@ pub fn read_request(alloc: Global, words: Vec<String>) -> Result<Request, Mistak
         headers: false,
         details: false,
         functions: false,
+        contents: false,
+        section: None,
         census: false,
         function: Functions::All,
         features: WasmFeatures::all(),

@@ -1,8 +1,8 @@
 //! Lists the sections of WebAssembly modules, shows their contents and disassembles their functions
 //! in the form of `wasm-objdump` of wabt, or counts their operators by proposal.
 //!
-//! The main theorems are the contracts of `run` and `list_headers` of `wasm_disassembly`, and of
-//! `list_details` of `wasm_details`, which hold for any writer.
+//! The main theorems are the contracts of `run` and `list_headers` of `wasm_disassembly`, of
+//! `list_details` of `wasm_details` and of `list_contents` of `wasm_rows`, which hold for any writer.
 #![tactic(auto)]
 
 mod arguments;
@@ -20,11 +20,12 @@ use wasm_details::list_details;
 use wasm_disassembly::{
     Fault, ModuleRequest, before_cut, find_cut, function_named, list_headers, run,
 };
-use wasm_module::Functions;
+use wasm_module::{Functions, ModuleFault};
 use wasm_programs::{
     Mistake, complain_input, complain_mistake, complain_output, print_text, read_module,
     shown_path, words_of,
 };
+use wasm_rows::{has_section, list_contents};
 
 const HELP: &str = "Usage: wasm_objdump [OPTION].. [FILE]..
 
@@ -33,8 +34,11 @@ Reads standard input for a FILE that is `-`, and if no FILE is given, unless it 
 
   -h, --headers        list the sections
   -x, --details        show the contents of the sections
-  -d, --disassemble    disassemble the functions; the default without -h and -x
-      --census         count the operators by proposal, in place of -h, -x and -d
+  -d, --disassemble    disassemble the functions; the default without -h, -x and -s
+  -s, --full-contents  show the bytes of the sections
+  -j, --section NAME   for -x and -s: only sections with this name, such as code, or the name of a
+                       custom section; upper or lower case
+      --census         count the operators by proposal, in place of -h, -x, -d and -s
       --function F     only the function with index F, such as 3 or 0x3, or with the name F
       --features WORD  all (the default), none, or names separated by commas: multi_memory,
                        memory64, call_indirect_overlong, legacy_exceptions,
@@ -44,8 +48,9 @@ Reads standard input for a FILE that is `-`, and if no FILE is given, unless it 
       --               treat the other arguments as files
 
 The exit status is 0 if all is written, and 1 if a module or a function has an error, or if a module
-does not define function F. It is 2 if an argument is wrong, and 3 if input, output or allocation
-fails. For several files it is the largest. It is 141 if the output is a closed pipe.
+does not define function F or has no section NAME. It is 2 if an argument is wrong, and 3 if input,
+output or allocation fails. For several files it is the largest. It is 141 if the output is a closed
+pipe.
 ";
 
 const VERSION: &str = "wasm_objdump 0.1.0, follows wasmparser 0.263.0\n";
@@ -113,12 +118,14 @@ fn dump_functions(
     }
 }
 
-/// Returns the fault of a listing that is the fault of section details.
-fn fault_of(fault: wasm_details::Fault) -> Fault {
-    match fault {
-        wasm_details::Fault::Section(e) => Fault::Section(e),
-        wasm_details::Fault::Writing => Fault::Writing,
-        wasm_details::Fault::Memory => Fault::Memory,
+/// Returns the result of a listing that is the result of one by `wasm_rows` or `wasm_details`.
+fn listed_of(listed: Result<Result<(), wasm_rows::Fault>, ModuleFault>) -> Result<(), Fault> {
+    match listed {
+        Ok(Ok(())) => Ok(()),
+        Ok(Err(wasm_rows::Fault::Section(e))) => Err(Fault::Section(e)),
+        Ok(Err(wasm_rows::Fault::Writing)) => Err(Fault::Writing),
+        Ok(Err(wasm_rows::Fault::Memory)) => Err(Fault::Memory),
+        Err(fault) => Err(Fault::Module(fault)),
     }
 }
 
@@ -140,6 +147,46 @@ fn section_status(
     }
 }
 
+/// Returns the name of the only section that is shown, if one is requested.
+fn requested_section(options: &Options) -> Option<&str> {
+    match &options.section {
+        Some(name) => Some(name.as_str()),
+        None => None,
+    }
+}
+
+/// Returns the exit status of a module whose sections are listed, after a message if it has none with
+/// the requested name.
+fn found_status(options: &Options, bytes: &[u8], printed: &Printed<'_>) -> u8 {
+    let Some(name) = requested_section(options) else {
+        return 0;
+    };
+    match has_section(options.features, name, bytes) {
+        Ok(false) => printed.no_section(name),
+        _ => 0,
+    }
+}
+
+/// Writes the bytes of the sections, if they are requested. Returns the exit status.
+fn dump_contents(
+    rt: &HostRuntime,
+    options: &Options,
+    title: Option<&str>,
+    bytes: &[u8],
+    writer: &mut Output<'_>,
+    printed: &mut Printed<'_>,
+) -> u8 {
+    if !options.contents {
+        return 0;
+    }
+    let asked = requested_section(options);
+    let listed = list_contents(rt.alloc(), options.features, title, asked, bytes, writer);
+    match section_status(listed_of(listed), writer, printed) {
+        Ok(status) => status,
+        Err(status) => status,
+    }
+}
+
 /// Writes the sections and their contents, as requested. Returns the exit status, as an error if no
 /// other listing follows, and the title if it is not written.
 fn dump_sections<'a>(
@@ -158,21 +205,42 @@ fn dump_sections<'a>(
         untold = None;
     }
     if options.details {
-        let listed = match list_details::<_, ListedConstant<'_>>(
+        let listed = list_details::<_, ListedConstant<'_>>(
             rt.alloc(),
             options.features,
             untold,
+            requested_section(options),
             bytes,
             writer,
-        ) {
-            Ok(Ok(())) => Ok(()),
-            Ok(Err(fault)) => Err(fault_of(fault)),
-            Err(fault) => Err(Fault::Module(fault)),
-        };
-        status = status.max(section_status(listed, writer, printed)?);
+        );
+        status = status.max(section_status(listed_of(listed), writer, printed)?);
         untold = None;
     }
     Ok((status, untold))
+}
+
+/// Writes the listings of a module that are requested, and returns the exit status.
+fn dump_listings(
+    rt: &HostRuntime,
+    options: &Options,
+    title: Option<&str>,
+    bytes: &[u8],
+    writer: &mut Output<'_>,
+    printed: &mut Printed<'_>,
+) -> u8 {
+    let (mut status, mut untold) = match dump_sections(rt, options, title, bytes, writer, printed) {
+        Ok(dumped) => dumped,
+        Err(status) => return status,
+    };
+    if options.functions {
+        status = status.max(dump_functions(rt, options, untold, bytes, writer, printed));
+        untold = None;
+    }
+    status = status.max(dump_contents(rt, options, untold, bytes, writer, printed));
+    if status == 0 && (options.headers || options.details || options.contents) {
+        status = found_status(options, bytes, printed);
+    }
+    status
 }
 
 /// Writes what is requested of a module, and returns the exit status.
@@ -192,15 +260,7 @@ fn dump_module(
     if options.census {
         return dump_functions(rt, options, title, bytes, writer, &mut printed);
     }
-    let (status, untold) = match dump_sections(rt, options, title, bytes, writer, &mut printed) {
-        Ok(dumped) => dumped,
-        Err(status) => return status,
-    };
-    if options.functions {
-        status.max(dump_functions(rt, options, untold, bytes, writer, &mut printed))
-    } else {
-        status
-    }
+    dump_listings(rt, options, title, bytes, writer, &mut printed)
 }
 
 /// Writes what the options request of all files, until standard output fails. Returns the largest

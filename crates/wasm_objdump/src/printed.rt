@@ -47,6 +47,13 @@ impl<'a> Printed<'a> {
         let _ = eprintln!(self.rt; "{PROGRAM}: {file}: no function is named {name}");
         1
     }
+
+    /// Prints that no section has the requested name, and returns the exit status.
+    pub fn no_section(&self, name: &str) -> u8 {
+        let file = self.file;
+        let _ = eprintln!(self.rt; "{PROGRAM}: {file}: no section is named {name}");
+        1
+    }
 }
 
 impl<'a> Complaints for Printed<'a> {

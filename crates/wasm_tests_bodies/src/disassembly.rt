@@ -3,6 +3,7 @@ use crate::single::Under;
 use crate::words::{write_error, write_lines};
 use std::alloc::{AllocError, Global};
 use wasm_disassembly::{DisassemblyFault, disassemble};
+use wasm_index_names::only_functions;
 use wasm_operators::{FunctionBody, ReadOperators};
 use wasm_tests_texts::Written;
 
@@ -28,15 +29,8 @@ fn four_names(alloc: Global) -> Result<Vec<String>, AllocError> {
 pub fn write_disassembly(alloc: Global, given: Given<'_>, out: &mut String) -> Written {
     let body = FunctionBody::new(given.reader());
     let mut written = Vec::new(alloc);
-    let names = four_names(alloc)?;
-    let end = disassemble(
-        alloc,
-        &mut written,
-        3,
-        names.as_slice(),
-        given.number(),
-        &body,
-    );
+    let names = only_functions(alloc, four_names(alloc)?);
+    let end = disassemble(alloc, &mut written, 3, &names, given.number(), &body);
     match end {
         Ok(()) => out.push_str("Ok")?,
         Err(DisassemblyFault::Refused(e)) => {

@@ -2,7 +2,7 @@ use Rattle.std.proofs.Common.{Err, inl, inr, subst}
 use Rattle.std.specs.Io.KnownBytes.{Appends}
 use Rattle.wasm_details.specs.Contents.{is_name, ListsCustomData}
 use Rattle.wasm_details.specs.Namings.{custom_text}
-use Rattle.wasm_details.specs.Writing.{WritesText}
+use Rattle.wasm_rows.specs.Writing.{WritesText}
 use Rattle.wasm_details.proofs.Named.{custom_listed}
 use Rattle.wasm_details.proofs.contents.write_custom.Goals as goal
 

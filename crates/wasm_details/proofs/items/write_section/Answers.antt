@@ -1,7 +1,7 @@
 use Rattle.std.proofs.Common.{Err, inl, inr, refl, subst}
 use Rattle.std.specs.Io.KnownBytes.{Appends}
 use Rattle.wasm_details.specs.Items.{title_text}
-use Rattle.wasm_details.specs.Writing.{WritesText}
+use Rattle.wasm_rows.specs.Writing.{WritesText}
 use Rattle.wasm_details.proofs.Listed.{section_listed}
 use Rattle.wasm_details.proofs.items.write_section.Goals as goal
 

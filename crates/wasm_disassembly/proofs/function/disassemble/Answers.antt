@@ -1,20 +1,20 @@
-use Rattle.std.proofs.Common.{◌+◌, ◌≤◌, map, ap, ◌∙◌, sym, subst, Ok, Err, arith}
+use Rattle.std.proofs.Common.{◌+◌, ◌≤◌, ap, ◌∙◌, sym, subst, Ok, Err, arith}
 use Rattle.std.proofs.lemmas.Result.{err_from_is_err_and}
-use Rattle.std.specs.Prelude.{string_bytes}
 use Rattle.std.specs.Io.KnownBytes.{Appends}
 use Rattle.wasm_operators.specs.below.Source.{offset_of, source_of}
 use Rattle.wasm_operators.specs.Expression.{EncodesExpression}
 use Rattle.wasm_operators.specs.Locals.{max_locals}
+use Rattle.wasm_index_names.specs.Lists.{name_at}
 use Rattle.wasm_text.specs.Lines.{header_of}
 use Rattle.wasm_disassembly.specs.LocalLines.{declarations_of, locals_in, ListsDeclarations}
-use Rattle.wasm_disassembly.specs.Disassembly.{Heading, name_of, Disassembles, ListsOperators}
+use Rattle.wasm_disassembly.specs.Disassembly.{names_for, Heading, Disassembles, ListsOperators}
 use Rattle.wasm_disassembly.proofs.Halts.{at_halt}
 use Rattle.wasm_disassembly.proofs.Listed.{listed_to, at_body, stopped_at_count, stopped_in_locals, operators_ended, locals_past, count_occurs, announced}
 use Rattle.wasm_disassembly.proofs.function.disassemble.Goals as goal
 
 pub returns-in_err-write_heading-clause-text : goal.returns-in_err-write_heading-clause-text
 returns-in_err-write_heading-clause-text g c =
-    let h : Heading = record { index = c.args.index; names = map string_bytes c.args.names.now; parameters = c.args.parameters } in
+    let h : Heading = record { index = c.args.index; names = c.args.names.now; parameters = c.args.parameters } in
     let p = err_from_is_err_and c.from_residual.result c.from_residual.ensures.1 in
     rw (p.1, p.2) (at_halt (λ f. Disassembles {X = Unit {0}} h (Err f) c.args.body.now (g.W.Write.contents c.args.writer.now)
     (g.W.Write.contents c.write_heading.new.writer)) c.in_err-write_heading.field-0.0 c.in_err-write_heading.ensures.halts tt tt)
@@ -26,13 +26,13 @@ returns-in_err-write_heading-clause-whole g c =
 pub returns-in-Err-clause-text : goal.returns-in-Err-clause-text
 returns-in-Err-clause-text g c =
     let body = c.args.body.now in
-    let h : Heading = record { index = c.args.index; names = map string_bytes c.args.names.now; parameters = c.args.parameters } in
+    let h : Heading = record { index = c.args.index; names = c.args.names.now; parameters = c.args.parameters } in
     let start = c.original_position-start.ensures ∙ ap offset_of c.get_binary_reader.ensures in
     let before = g.W.Write.contents c.args.writer.now in
-    let h_name = name_of h.names c.args.index in
+    let h_name = name_at h.names.functions c.args.index in
     let headed = subst (λ n. Appends before (g.W.Write.contents c.write_heading.new.writer) (header_of n c.args.index h_name)) start
     (subst (λ t. Appends before (g.W.Write.contents c.write_heading.new.writer) (header_of c.original_position-start.result c.args.index t))
-    c.name_of.ensures c.in_ok-write_heading.ensures.ok) in
+    c.function.ensures c.in_ok-write_heading.ensures.ok) in
     stopped_at_count h c.in-Err.e body before (g.W.Write.contents c.write_heading.new.writer) c.in-Err.ensures headed
 
 pub returns-in-Err-clause-whole : goal.returns-in-Err-clause-whole
@@ -42,13 +42,13 @@ returns-in-Err-clause-whole g c =
 pub returns-in_err-write_declarations-clause-text : goal.returns-in_err-write_declarations-clause-text
 returns-in_err-write_declarations-clause-text g c =
     let body = c.args.body.now in
-    let h : Heading = record { index = c.args.index; names = map string_bytes c.args.names.now; parameters = c.args.parameters } in
+    let h : Heading = record { index = c.args.index; names = c.args.names.now; parameters = c.args.parameters } in
     let start = c.original_position-start.ensures ∙ ap offset_of c.get_binary_reader.ensures in
     let before = g.W.Write.contents c.args.writer.now in
-    let h_name = name_of h.names c.args.index in
+    let h_name = name_at h.names.functions c.args.index in
     let headed = subst (λ n. Appends before (g.W.Write.contents c.write_heading.new.writer) (header_of n c.args.index h_name)) start
     (subst (λ t. Appends before (g.W.Write.contents c.write_heading.new.writer) (header_of c.original_position-start.result c.args.index t))
-    c.name_of.ensures c.in_ok-write_heading.ensures.ok) in
+    c.function.ensures c.in_ok-write_heading.ensures.ok) in
     let unread = c.in-Ok.locals in
     let f = c.in_err-write_declarations.field-0.0 in
     let now = g.W.Write.contents c.write_heading.new.writer in
@@ -71,13 +71,13 @@ returns-in_err-write_declarations-clause-whole g c =
 pub returns-clause-text : goal.returns-clause-text
 returns-clause-text g c =
     let body = c.args.body.now in
-    let h : Heading = record { index = c.args.index; names = map string_bytes c.args.names.now; parameters = c.args.parameters } in
+    let h : Heading = record { index = c.args.index; names = c.args.names.now; parameters = c.args.parameters } in
     let start = c.original_position-start.ensures ∙ ap offset_of c.get_binary_reader.ensures in
     let before = g.W.Write.contents c.args.writer.now in
-    let h_name = name_of h.names c.args.index in
+    let h_name = name_at h.names.functions c.args.index in
     let headed = subst (λ n. Appends before (g.W.Write.contents c.write_heading.new.writer) (header_of n c.args.index h_name)) start
     (subst (λ t. Appends before (g.W.Write.contents c.write_heading.new.writer) (header_of c.original_position-start.result c.args.index t))
-    c.name_of.ensures c.in_ok-write_heading.ensures.ok) in
+    c.function.ensures c.in_ok-write_heading.ensures.ok) in
     let unread = c.in-Ok.locals in
     let read = c.write_declarations.new.locals in
     let now = g.W.Write.contents c.write_heading.new.writer in
@@ -86,7 +86,7 @@ returns-clause-text g c =
     c.original_position-start.result c.as_bytes.result.now body start c.as_bytes.ensures c.in_ok-write_declarations.ensures.lists in
     let to = listed_to h tt body c.get_binary_reader-2.result unread read before now new c.in-Ok.ensures
     c.get_binary_reader-2.ensures headed lists in
-    let ends = at_body (λ n t. ListsOperators h.names n t c.write_operators.result c.get_binary_reader-2.result new (g.W.Write.contents c.write_operators.new.writer))
+    let ends = at_body (λ n t. ListsOperators (names_for h) n t c.write_operators.result c.get_binary_reader-2.result new (g.W.Write.contents c.write_operators.new.writer))
     c.original_position-start.result c.as_bytes-2.result.now body start c.as_bytes-2.ensures c.write_operators.ensures.lists in
     operators_ended h c.write_operators.result body c.get_binary_reader-2.result before new (g.W.Write.contents c.write_operators.new.writer)
     c.past_locals.ensures.body to ends

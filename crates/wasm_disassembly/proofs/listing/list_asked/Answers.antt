@@ -19,7 +19,7 @@ returns-then-not-is_asked-clause-lists g c = (
 pub returns-in-Ok-clause-lists : goal.returns-in-Ok-clause-lists
 returns-in-Ok-clause-lists g c =
     let l = c.in_ok-outcome.ensures.lists in
-    let lists : ListsFunction c.args.functions.now c.args.place c.args.body.now [] l.0 =
+    let lists : ListsFunction c.args.names.now c.args.functions.now c.args.place c.args.body.now [] l.0 =
     (c.in_ok-outcome.outcome, l.2, ap (refusals_of (index_of c.args.functions.now c.args.place)) (sym c.in-Ok.is)) in (
       [],
       l.0,
@@ -34,7 +34,7 @@ returns-in_ok-complain-in-Err-clause-lists g c =
     let l = c.in_ok-outcome.ensures.lists in
     let e = c.in-Err.e in
     let reported = (c.index-index.result, e) ∷ [] in
-    let lists : ListsFunction c.args.functions.now c.args.place c.args.body.now reported l.0 = (
+    let lists : ListsFunction c.args.names.now c.args.functions.now c.args.place c.args.body.now reported l.0 = (
       c.in_ok-outcome.outcome,
       l.2,
       ap (λ i. (i, e) ∷ []) c.index-index.ensures ∙ ap (refusals_of (index_of c.args.functions.now c.args.place)) (sym c.in-Err.is),

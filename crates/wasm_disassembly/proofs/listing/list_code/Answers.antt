@@ -19,7 +19,7 @@ bodies-init g c = (
   ap (λ (s : SectionItems). s.refused) c.into_iter-items.ensures.into_iter_gives,
   refl,
   [],
-  writes_none g.C.Complaints.reports c.args.functions.now c.args.only c.args.complaints.now (g.W.Write.contents c.args.writer.now),
+  writes_none g.C.Complaints.reports c.args.names.now c.args.functions.now c.args.only c.args.complaints.now (g.W.Write.contents c.args.writer.now),
   refl,
   λ all. refl,
 )
@@ -39,7 +39,7 @@ bodies-preserved g c =
       place_more bodies body c.bodies.place c.saturating_add-place.result c.bodies.items.remaining c.next.new.self.remaining
           c.into_iter-items.result.remaining place sum one fits c.saturating_add-place.ensures,
       reported ++ new_reported,
-      writes_more g.C.Complaints.reports c.args.functions.now c.args.only bodies body reported new_reported text c.bodies.place c.args.complaints.now
+      writes_more g.C.Complaints.reports c.args.names.now c.args.functions.now c.args.only bodies body reported new_reported text c.bodies.place c.args.complaints.now
           c.bodies.complaints c.list_asked.new.complaints (g.W.Write.contents c.args.writer.now) (g.W.Write.contents c.bodies.writer)
           (g.W.Write.contents c.list_asked.new.writer) place writes written reports appends,
       cc (whole, is_whole) ∙ none_both reported new_reported,
@@ -53,7 +53,7 @@ returns-in-Err-clause-lists g c = (
   [],
   inl (refl, (c.in-Err.ensures.refused, c.in-Err.ensures.fault)),
   [],
-  writes_none g.C.Complaints.reports c.args.functions.now c.args.only c.args.complaints.now (g.W.Write.contents c.args.writer.now),
+  writes_none g.C.Complaints.reports c.args.names.now c.args.functions.now c.args.only c.args.complaints.now (g.W.Write.contents c.args.writer.now),
 )
 
 pub returns-in-Err-clause-whole : goal.returns-in-Err-clause-whole
@@ -71,13 +71,13 @@ pub returns-clause-whole : goal.returns-clause-whole
 returns-clause-whole g c =
     let (bodies, occur, sum, none, place, reported, writes, whole, each) = c.bodies.invariant in
     let read = all_read c.args.code c.in-Ok.section c.into_iter-items.result c.bodies.items bodies c.in-Ok.ensures.count
-    c.into_iter-items.ensures.into_iter_gives occur sum none c.in_default-next.ensures.steps.1 in
+    c.into_iter-items.ensures.into_iter_gives occur sum none c.in_default.ensures.steps.1 in
     λ all code asked. each (subst (λ bs. AreAsked IsFunction c.args.functions.now c.args.only 0 bs) (c.one_list.ensures c.args.code all bodies code read) asked)
 
 pub returns-in_err-whole-clause-lists : goal.returns-in_err-whole-clause-lists
 returns-in_err-whole-clause-lists g c =
     let p = err_from_is_err_and c.from_residual.result c.from_residual.ensures.1 in
-    rw (p.1, p.2) (at_halt (λ f. ListsCode g.C.Complaints.reports c.args.functions.now c.args.only c.args.code (Err f) c.args.complaints.now c.list_asked.new.complaints
+    rw (p.1, p.2) (at_halt (λ f. ListsCode g.C.Complaints.reports c.args.names.now c.args.functions.now c.args.only c.args.code (Err f) c.args.complaints.now c.list_asked.new.complaints
     (g.W.Write.contents c.args.writer.now) (g.W.Write.contents c.list_asked.new.writer)) c.in_err-whole.field-0.0 c.in_err-whole.ensures.halts tt tt)
 
 pub returns-in_err-whole-clause-whole : goal.returns-in_err-whole-clause-whole

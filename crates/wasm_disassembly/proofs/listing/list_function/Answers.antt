@@ -1,4 +1,4 @@
-use Rattle.std.proofs.Common.{ℕ, List, Result, IfErr, sym, subst}
+use Rattle.std.proofs.Common.{ℕ, List, Result, IfErr, refl, sym, subst}
 use Rattle.std.specs.Prelude.{IfOk, IsOk}
 use Rattle.std.specs.Io.KnownBytes.{Appends}
 use Rattle.wasm_operators.specs.below.declared.error.Error.{Error}
@@ -13,14 +13,14 @@ Outcome = Result (Result (Unit {0}) Error) Fault
 
 pub returns-in-Ok-clause-lists : goal.returns-in-Ok-clause-lists
 returns-in-Ok-clause-lists g c =
-    text_whole _ _ c.args.body.now _ _ (same_heading _ _ _ _ _ _ c.index-index.ensures c.requires c.parameters-parameters.ensures) c.in-Ok.ensures.text
+    text_whole _ _ c.args.body.now _ _ (same_heading _ _ _ _ _ _ c.index-index.ensures refl c.parameters-parameters.ensures) c.in-Ok.ensures.text
 
 pub returns-in-Err-clause-lists : goal.returns-in-Err-clause-lists
 returns-in-Err-clause-lists g c =
-    let same = same_heading _ _ _ _ _ _ c.index-index.ensures c.requires c.parameters-parameters.ensures in
+    let same = same_heading _ _ _ _ _ _ c.index-index.ensures refl c.parameters-parameters.ensures in
     let old = g.W.Write.contents c.args.writer.now in
     let new = g.W.Write.contents c.disassemble.new.writer in
-    let heading = heading_at c.args.functions.now c.args.place in
+    let heading = heading_at c.args.names.now c.args.functions.now c.args.place in
     subst (λ (r : Outcome). IfOk r (λ outcome. (text : List ℕ) × Appends old new text × IsText heading outcome c.args.body.now text)) (sym c.outcome_of.ensures)
     (text_of_fault _ heading c.in-Err.fault c.args.body.now old new same c.in-Err.ensures.text)
 

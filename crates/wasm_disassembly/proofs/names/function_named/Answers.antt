@@ -1,5 +1,5 @@
 use Rattle.std.proofs.Common.{List, ℕ, map, string_bytes, ap, ◌∙◌}
-use Rattle.wasm_disassembly.specs.Escapes.{first_named}
+use Rattle.wasm_disassembly.specs.Names.{first_named}
 use Rattle.wasm_disassembly.proofs.names.function_named.Goals as goal
 
 pub returns : goal.returns

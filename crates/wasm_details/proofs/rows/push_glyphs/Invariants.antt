@@ -1,6 +1,0 @@
-use Rattle.std.proofs.Common.{◌≡◌, ◌++◌, string_bytes, map, take}
-use Rattle.wasm_details.specs.Rows.{glyph}
-use Rattle.wasm_details.proofs.rows.push_glyphs.Given as goal
-
-abbrev pub invariant-loop-byte : goal.invariant-loop-byte
-invariant-loop-byte l = string_bytes l.out ≡ string_bytes l.fn.out ++ map glyph (take l.byte-index l.bytes)

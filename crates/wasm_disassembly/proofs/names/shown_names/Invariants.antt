@@ -1,7 +1,0 @@
-use Rattle.std.proofs.Common.{◌≡◌, map, string_bytes, take}
-use Rattle.wasm_module.specs.FunctionNames.{bytes_of}
-use Rattle.wasm_disassembly.specs.Escapes.{all_escaped}
-use Rattle.wasm_disassembly.proofs.names.shown_names.Given as goal
-
-abbrev pub invariant-loop-name : goal.invariant-loop-name
-invariant-loop-name l = map string_bytes l.names.items ≡ all_escaped (bytes_of (take l.name-index l.given))

@@ -1,6 +1,0 @@
-use Rattle.std.proofs.Common.{◌≡◌, ◌++◌, string_bytes, flat_map, take}
-use Rattle.wasm_disassembly.specs.Escapes.{ascii_byte}
-use Rattle.wasm_disassembly.proofs.names.write_ascii.Given as goal
-
-abbrev pub invariant-loop-byte : goal.invariant-loop-byte
-invariant-loop-byte l = string_bytes l.out ≡ string_bytes l.fn.out ++ flat_map ascii_byte (take l.byte-index l.name)

@@ -1,9 +1,0 @@
-//! Laws about the names that listings show. Each is the contract of a function that does nothing.
-ghost use Rattle.std.specs.Prelude.{ℕ, List};
-ghost use Rattle.std.specs.List.{All};
-ghost use Rattle.wasm_disassembly.specs.Escapes.{AreBytes, IsShown, escaped};
-
-/// States that names are shown without ASCII control characters.
-pub fn shown()
-    ensures { (name : List ℕ) → AreBytes name → All IsShown (escaped name) }
-{}
