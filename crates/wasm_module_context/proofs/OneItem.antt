@@ -53,8 +53,8 @@ pub group_or_fails : AddsOrFails AddsGroup FailsGroup
 group_or_fails g c d at (error.Context context_error.OutOfMemory offset) known adds f = known tt
 group_or_fails g c d at (error.Context (context_error.Type type_error.OutOfMemory) offset) known adds f = known tt
 group_or_fails g c d at (error.Context (context_error.Type type_error.TooManyTypes) offset) known adds f = known tt
-group_or_fails g c d at (error.Context (context_error.Type type_error.Supertype) offset) known (_, _, added, _) (_, _, f) = f added.start added.is_first added.fits
-group_or_fails g c d at (error.Context (context_error.Type type_error.Invalid) offset) known (_, _, added, valid) (_, _, f) =
+group_or_fails g c d at (error.Context (context_error.Type type_error.Supertype) offset) known (_, _, added, _) (_, (_, f)) = f added.start added.is_first added.fits
+group_or_fails g c d at (error.Context (context_error.Type type_error.Invalid) offset) known (_, _, added, valid) (_, (_, f)) =
     f added.start added.is_first (subst (λ l. AreValid l (length c.types)) added.all valid)
 group_or_fails g c d at (error.Context (context_error.Unsupported what) offset) known (fine, _) (_, f) = cc (fine, f)
 group_or_fails g c d at (error.Context e offset) known adds (_, f) = absurd f
