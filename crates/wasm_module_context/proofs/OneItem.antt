@@ -56,7 +56,7 @@ group_or_fails g c d at (error.Context (context_error.Type type_error.TooManyTyp
 group_or_fails g c d at (error.Context (context_error.Type type_error.Supertype) offset) known (_, _, added, _) (_, (_, f)) = f added.start added.is_first added.fits
 group_or_fails g c d at (error.Context (context_error.Type type_error.Invalid) offset) known (_, _, added, valid) (_, (_, f)) =
     f added.start added.is_first (subst (λ l. AreValid l (length c.types)) added.all valid)
-group_or_fails g c d at (error.Context (context_error.Unsupported what) offset) known (fine, _) (_, f) = cc (fine, f)
+group_or_fails g c d at (error.Context (context_error.Unsupported what) offset) known (fine, _, _, _) (_, f) = cc (fine, f)
 group_or_fails g c d at (error.Context e offset) known adds (_, f) = absurd f
 group_or_fails g c d at e known adds f = absurd f
 
