@@ -1,5 +1,5 @@
 #!/usr/bin/env python3
-"""Writes the static library for C, crates/wasm_c_exports/src/lib.rt, from the calls of wasm_c and the crates beside it.
+"""Writes the static library for C, crates/wasm_c_exports/src/lib.rt, from the calls of wasm_c and its sister crates.
 
     tools/exports.py            writes the file
     tools/exports.py --check    fails if the file is not what crates/wasm_c/src/lib.rt and .. give
