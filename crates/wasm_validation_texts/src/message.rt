@@ -3,10 +3,11 @@ use crate::reason::{Reason, invalid_type};
 use crate::section::Refusal;
 use std::alloc::Global;
 use std::fmt;
-use wasm_below::{Error, Message};
+use wasm_below::{Error, Message, ValType};
 use wasm_check::CheckError;
 use wasm_context::ContextError;
 use wasm_module_context::PayloadError;
+use wasm_typing::ValueType;
 use wasm_validation::{Fault, FaultyBody};
 
 /// The message of a fault. Most have wasmparser's words.
@@ -93,7 +94,10 @@ fn of_section(error: &PayloadError) -> FaultMessage {
             found,
             expected,
             ..
-        } => FaultMessage::Reason(Reason::Elements(found, expected)),
+        } => FaultMessage::Reason(Reason::Elements(
+            ValueType::new(ValType::Ref(found)),
+            ValueType::new(ValType::Ref(expected)),
+        )),
         PayloadError::UnknownSection(id, _) => of_unknown(id),
         PayloadError::Context(error, _) => FaultMessage::Section(error),
     }

@@ -1,5 +1,5 @@
 use std::fmt;
-use wasm_below::{AbstractHeapType, HeapType, RefType, ValType};
+use wasm_below::{AbstractHeapType, HeapType, ValType};
 use wasm_check::{CompositeKind, Mismatch, ModuleContext};
 use wasm_imm::{BlockType, MemArg, MemArgTarget, Proposal};
 use wasm_instr_ops::{GcOperator, MiscOperator};
@@ -23,7 +23,7 @@ pub enum Reason {
     Index(&'static str, u32, &'static str),
     Text(&'static str),
     /// The type of an element segment, and the element type of its table.
-    Elements(RefType, RefType),
+    Elements(ValueType, ValueType),
 }
 
 /// Returns the name of an abstract heap type, and the name of nullable references to it.
@@ -97,8 +97,8 @@ impl fmt::Display for Reason {
             Reason::Index(before, index, after) => write!(f, "{before}{index}{after}"),
             Reason::Text(text) => f.write_str(text),
             Reason::Elements(found, expected) => {
-                let found = Named(ValueType::new(ValType::Ref(*found)));
-                let expected = Named(ValueType::new(ValType::Ref(*expected)));
+                let found = Named(*found);
+                let expected = Named(*expected);
                 write!(
                     f,
                     "type mismatch: invalid element type `{found}` for table type `{expected}`"
