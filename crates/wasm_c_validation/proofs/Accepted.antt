@@ -22,5 +22,5 @@ kind_numbered (kind.Invalid offset) zero = omega (arith, zero)
 
 pub accepted : (r : WasmRefusal) (bytes : Reader) (function : ℕ) → ReturnsVerdict r bytes function → r.number ≡ 0 → IsValidModule bytes
 accepted r bytes function (inl (none, no_function, typed)) zero = typed
-accepted r bytes function (inr (f, first, whole, is, function_is)) zero =
+accepted r bytes function (inr (f, first, is, function_is)) zero =
     absurd (kind_numbered (kind_of f) (sym (ap (λ (refusal : WasmRefusal). refusal.number) is) ∙ zero))

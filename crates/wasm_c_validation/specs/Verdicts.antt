@@ -5,7 +5,7 @@ use Rattle.wasm_c.specs.declared.refusal.WasmRefusal.{WasmRefusal}
 use Rattle.wasm_c.specs.Refused.{misuse, no_refusal, refusal_of}
 use Rattle.wasm_validation.specs.declared.fault.Fault.{Fault}
 use Rattle.wasm_validation.specs.Valid.{IsValidModule}
-use Rattle.wasm_validation.specs.Faults.{IsExhausted, IsFirstFault}
+use Rattle.wasm_validation.specs.Faults.{IsFirstFault}
 use Rattle.wasm_validation_texts.specs.declared.kind.FaultKind.{FaultKind}
 use Rattle.wasm_validation_texts.specs.declared.kind.FaultKind.TheVariants as kind
 use Rattle.wasm_validation_texts.specs.Kinds.{kind_of, function_of}
@@ -29,10 +29,9 @@ refusal_of_kind (kind.Invalid offset) = misuse 113 offset
 abbrev pub Accepts : WasmRefusal → Reader → ℕ → Type 0
 Accepts r bytes function = (r ≡ no_refusal (length bytes.buffer)) × (function ≡ no_function) × IsValidModule bytes
 
--- The error is that of the first payload that cannot be read or is not valid. The module is not valid,
--- unless allocation failed or there are too many types.
+-- The error is that of the first payload that cannot be read or is not valid.
 abbrev pub Rejects : WasmRefusal → Reader → ℕ → Type 0
-Rejects r bytes function = (f : Fault) × IsFirstFault bytes f × ((IsExhausted f → ⊥) → IsValidModule bytes → ⊥) × (r ≡ refusal_of_kind (kind_of f)) × (function ≡ function_number (function_of f))
+Rejects r bytes function = (f : Fault) × IsFirstFault bytes f × (r ≡ refusal_of_kind (kind_of f)) × (function ≡ function_number (function_of f))
 
 -- `wasm_validate_module` accepts a module or rejects it. The message is not determined.
 abbrev pub ReturnsVerdict : WasmRefusal → Reader → ℕ → Type 0
