@@ -1,8 +1,8 @@
-//! Tables, memories, globals, tags, element and data segments of a module for C, and for languages that
-//! call C. No call has a `requires`.
+//! Types, tables, memories, globals, tags, element and data segments of a module for C, and for
+//! languages that call C. No call has a `requires`.
 //!
-//! Each call returns 0, or the number of its error, and
-//! sets `refusal`. On failure, nothing else changes. If allocation fails, the number is 3.
+//! Each call returns 0, or the number of its error, and sets `refusal`. On failure, nothing else
+//! changes. If allocation fails, the number is 3.
 #![tactic(auto)]
 
 ghost use Rattle.std.specs.Prelude.{◌≡◌};

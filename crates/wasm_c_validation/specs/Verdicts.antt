@@ -29,7 +29,7 @@ refusal_of_kind (kind.Invalid offset) = misuse 113 offset
 abbrev pub Accepts : WasmRefusal → Reader → ℕ → Type 0
 Accepts r bytes function = (r ≡ no_refusal (length bytes.buffer)) × (function ≡ no_function) × IsValidModule bytes
 
--- The error is that of the first payload that cannot be read or is not valid.
+-- The first payload that cannot be read or is not valid gives the error.
 abbrev pub Rejects : WasmRefusal → Reader → ℕ → Type 0
 Rejects r bytes function = (f : Fault) × IsFirstFault bytes f × (r ≡ refusal_of_kind (kind_of f)) × (function ≡ function_number (function_of f))
 

@@ -74,7 +74,7 @@ fn push_indirect(
     out.push_str(")")
 }
 
-/// Returns the first byte, or 0 if there is none.
+/// Returns the first byte, or 0 without bytes.
 fn opcode_of(bytes: &[u8]) -> u8
     ensures { result ≡ slice_index bytes.now 0 }
 {

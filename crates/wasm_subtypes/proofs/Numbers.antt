@@ -1,4 +1,4 @@
--- Types are alike if and only if they have the same numbers.
+-- Types are equal if and only if they have the same numbers.
 use Rattle.std.proofs.Common.{◌≡◌, ℕ, suc, ◌+◌, ◌*◌, Bool, true, false, List, [], ◌∷◌, ◌++◌, map, length, Option, Some, None, refl, sym, ap, ◌∙◌, append_assoc, arith}
 use Rattle.std.specs.Prelude.{◌==◌, if◌then◌else◌}
 use Rattle.wasm_below.specs.Reference.{Reference}
