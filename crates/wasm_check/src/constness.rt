@@ -66,6 +66,7 @@ fn is_constant<M: ModuleContext>(context: &M, op: &Operator<'_>) -> bool
 }
 
 /// Returns whether an operator may occur: if the expression has to be constant, only constant ones.
+#[inline(always)]
 pub fn may_occur<M: ModuleContext>(constant: bool, context: &M, op: &Operator<'_>) -> bool
     ensures { result ≡ may_occur constant (M.environment context.now) op.now }
 {

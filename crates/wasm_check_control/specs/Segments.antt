@@ -1,8 +1,9 @@
 -- The operand stack in segments, one for each control frame, the innermost first. A segment has the
 -- top first.
-use Rattle.std.specs.Prelude.{◌≡◌, ℕ, ◌-◌, ◌≤◌, List, [], ◌∷◌, length, take, drop, Option, Some, None, reverse}
+use Rattle.std.specs.Prelude.{◌≡◌, Bool, true, false, ℕ, ◌-◌, ◌≤◌, List, [], ◌∷◌, length, take, drop, Option, Some, None, reverse}
 use Rattle.wasm_typing.specs.declared.value_type.ValueType.{ValueType}
 use Rattle.wasm_typing.specs.Types.{Stack}
+use Rattle.wasm_check_control.specs.Selects.{same_number}
 
 -- The segments of operands above these heights, the highest first.
 abbrev pub segments : List ℕ → Stack → List Stack
@@ -43,3 +44,8 @@ with_innermost s (first ∷ others) = s ∷ others
 abbrev pub Popped : Option ValueType → List Stack → List Stack → Type 0
 Popped None old new = (innermost old ≡ []) × (new ≡ old)
 Popped (Some v) old new = (rest : Stack) × (innermost old ≡ v ∷ rest) × (new ≡ with_innermost rest old)
+
+-- As `Popped`, if the operand on top has this type, which is a number type or v128. Otherwise nothing changes.
+abbrev pub PoppedSame : Bool → ValueType → List Stack → List Stack → Type 0
+PoppedSame true ty old new = (same_number ty ty ≡ true) × Popped (Some ty) old new
+PoppedSame false ty old new = new ≡ old

@@ -62,9 +62,21 @@ impl<'m> Control<'m> {
     }
 
     /// Takes an operand of this type. Returns whether there is one.
+    #[inline(always)]
     pub fn expect<M: ModuleContext>(&mut self, context: &M, ty: ValueType) -> bool
         ensures { Answers result (taken (M.environment context.now).order (ty ∷ []) self.old) self.new }
     {
+        if self.operands.pop_same(&ty) {
+            return true;
+        }
+        self.expect_matching(context, &ty)
+    }
+
+    /// Takes an operand that matches this type. `expect` first takes one of the same number type.
+    fn expect_matching<M: ModuleContext>(&mut self, context: &M, ty: &ValueType) -> bool
+        ensures { Answers result (taken (M.environment context.now).order (ty.now ∷ []) self.old) self.new }
+    {
+        let ty = *ty;
         let Some(frame) = self.current else {
             return false;
         };
@@ -109,6 +121,7 @@ impl<'m> Control<'m> {
     }
 
     /// Takes operands of these types. The last is on top.
+    #[inline(always)]
     pub fn expect_values<M: ModuleContext>(&mut self, context: &M, types: &[ValueType]) -> bool
         ensures { Answers result (taken (M.environment context.now).order (reverse types.now) self.old) self.new }
     {
@@ -158,6 +171,7 @@ impl<'m> Control<'m> {
     }
 
     /// Leaves an operand of this type.
+    #[inline(always)]
     pub fn give(&mut self, ty: ValueType) -> Result<(), AllocError>
         ensures { OnOk result (self.new ≡ receives (ty ∷ []) self.old) }
     {
@@ -175,6 +189,7 @@ impl<'m> Control<'m> {
     }
 
     /// Leaves operands of these types. The last is on top.
+    #[inline(always)]
     pub fn give_values(&mut self, types: &[ValueType]) -> Result<(), AllocError>
         ensures { OnOk result (self.new ≡ receives (reverse types.now) self.old) }
     {

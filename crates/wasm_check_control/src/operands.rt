@@ -1,7 +1,8 @@
 ghost use Rattle.std.specs.Prelude.{◌≡◌, ◌↔◌, [], ◌∷◌, OnOk, OnErr, IsTrue};
 ghost use Rattle.wasm_typing.specs.Rules.{at};
-ghost use Rattle.wasm_check_control.specs.Segments.{innermost, outer, with_innermost, Popped};
+ghost use Rattle.wasm_check_control.specs.Segments.{innermost, outer, with_innermost, Popped, PoppedSame};
 
+use crate::value_matches::same_number;
 use std::alloc::{AllocError, Global};
 use std::marker::Model;
 use wasm_typing::ValueType;
@@ -39,6 +40,7 @@ impl Operands {
     }
 
     /// Adds an operand on top of the innermost segment.
+    #[inline(always)]
     pub fn push(&mut self, ty: ValueType) -> Result<(), AllocError>
         ensures pushed { OnOk result (self.new ≡ with_innermost (ty ∷ innermost self.old) self.old) }
         ensures unchanged { OnErr result (self.new ≡ self.old) }
@@ -48,6 +50,7 @@ impl Operands {
     }
 
     /// Removes the operand on top of the innermost segment.
+    #[inline(always)]
     pub fn pop(&mut self) -> Option<ValueType>
         ensures { Popped result self.old self.new }
     {
@@ -60,7 +63,24 @@ impl Operands {
         self.items.pop()
     }
 
+    /// Removes the operand on top of the innermost segment if it has this type, and this is a number
+    /// type or `v128`. Returns whether it does.
+    #[inline(always)]
+    pub fn pop_same(&mut self, ty: &ValueType) -> bool
+        ensures { PoppedSame result ty.now self.old self.new }
+    {
+        let Some(top) = self.peek(0) else {
+            return false;
+        };
+        if !same_number(&top, ty) {
+            return false;
+        }
+        self.pop();
+        true
+    }
+
     /// Returns the operand of the innermost segment that has `depth` operands above it.
+    #[inline(always)]
     pub fn peek(&self, depth: usize) -> Option<ValueType>
         ensures { result ≡ at (innermost self.now) depth }
     {
@@ -74,6 +94,7 @@ impl Operands {
     }
 
     /// Returns whether the innermost segment is empty.
+    #[inline(always)]
     pub fn is_empty(&self) -> bool
         ensures { IsTrue result ↔ (innermost self.now ≡ []) }
     {

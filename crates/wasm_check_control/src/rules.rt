@@ -30,6 +30,7 @@ impl<'m> Control<'m> {
     }
 
     /// The same for types that are not in a module.
+    #[inline(always)]
     pub fn values<M: ModuleContext>(
         &mut self,
         context: &M,

@@ -1,3 +1,4 @@
+pub mod ByCode
 pub mod Clauses
 pub mod Defaults
 pub mod Lanes
@@ -5,4 +6,5 @@ pub mod Matched
 pub mod Needs
 pub mod Others
 pub mod Outcomes
+pub mod RowSteps
 pub mod Targets

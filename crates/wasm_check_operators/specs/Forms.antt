@@ -82,6 +82,11 @@ abbrev pub by_typing : (InstructionType → Rule) → OperatorTyping → Rule
 by_typing r (determined f) = r f
 by_typing r _ = invalid
 
+-- The operator determines its types.
+abbrev pub IsFixed : OperatorTyping → Type 0
+IsFixed (determined f) = Unit {0}
+IsFixed _ = ⊥
+
 -- A load or a store with this typing.
 abbrev pub access : Environment → MemArgTarget → MemArg → OperatorTyping → Rule
 access E (target.Memory x) m t = or_invalid (λ (is_64 : Bool). only_if (is_valid_argument m is_64) (by_typing (fixed_at is_64) t)) (E.memories x)

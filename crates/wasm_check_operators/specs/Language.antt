@@ -1,12 +1,14 @@
 -- The rule of each operator. WebAssembly Core Specification 3.0: Validation, Instructions.
 -- Operators without a clause have no rule here.
-use Rattle.std.specs.Prelude.{ℕ, Bool, true, false, if◌then◌else◌, List, [], ◌∷◌, Option, Some, None, Result, IfOk}
+use Rattle.std.specs.Prelude.{◌≡◌, ℕ, Bool, true, false, if◌then◌else◌, List, [], ◌∷◌, Option, Some, None, Result, IfOk}
 use Rattle.wasm_below.specs.Reference.{Reference}
 use Rattle.wasm_imm.specs.BranchTables.{numbers_of}
 use Rattle.wasm_imm.specs.declared.block_type.BlockType.{BlockType}
 use Rattle.wasm_imm.specs.declared.block_type.BlockType.TheVariants as block
+use Rattle.wasm_imm.specs.declared.memory_argument.MemArg.{MemArg}
 use Rattle.wasm_instr.specs.declared.operator.Operator.{Operator}
 use Rattle.wasm_instr.specs.declared.operator.Operator.TheVariants as operator
+use Rattle.wasm_instr.specs.Roles.{role_of}
 use Rattle.wasm_instr_ops.specs.declared.misc.MiscOperator.{MiscOperator}
 use Rattle.wasm_instr_ops.specs.declared.misc.MiscOperator.TheVariants as misc
 use Rattle.wasm_signatures.specs.Misc.{misc_typing}
@@ -16,9 +18,9 @@ use Rattle.wasm_typing.specs.declared.value_type.ValueType.TheVariants.{I32, Ref
 use Rattle.wasm_typing.specs.Types.{Stack, FunctionType, value_type}
 use Rattle.wasm_typing.specs.Matching.{matches, defined}
 use Rattle.wasm_typing.specs.Rules.{Rule, fixed, jumps, drops, selects, tests_null, makes_non_null, branches_on_null, invalid, at, or_invalid, Rules}
-use Rattle.wasm_typing.specs.Steps.{Frame}
+use Rattle.wasm_typing.specs.Steps.{Frame, step}
 use Rattle.wasm_check_control.specs.Environment.{Environment, Table}
-use Rattle.wasm_check_control.specs.State.{all_set, Answers, by_rule}
+use Rattle.wasm_check_control.specs.State.{all_set, Answers, by_rule, outermost}
 use Rattle.wasm_check_control.specs.Switches.{switch}
 use Rattle.wasm_check_operators.specs.Calls.{tail_call}
 use Rattle.wasm_check_operators.specs.Casts.{gc_rule}
@@ -158,3 +160,44 @@ rules_of E =
 -- The result says whether an operator with this rule has a type, and if so, the frames after it.
 abbrev pub Follows : {X : Type 0} → Environment → Rule → List Frame → Result Bool X → List Frame → Type 0
 Follows E r old result new = IfOk result (λ yes. Answers yes (by_rule E.order r old) new)
+
+-- The result says whether an operator has a type, and if so, the frames after it, with the locals
+-- that are set.
+abbrev pub StepsOn : {X : Type 0} → Environment → Operator → List Frame → Result Bool X → List Frame → Type 0
+StepsOn E op old result new = IfOk result (λ yes. Answers yes (step (outermost (rules_of E)) old (role_of op)) new)
+
+-- A constant or a numeric operator with a one-byte opcode.
+abbrev pub IsDetermined : Operator → Type 0
+IsDetermined (operator.I32Const c) = Unit {0}
+IsDetermined (operator.I64Const c) = Unit {0}
+IsDetermined (operator.F32Const c) = Unit {0}
+IsDetermined (operator.F64Const c) = Unit {0}
+IsDetermined (operator.Numeric op) = Unit {0}
+IsDetermined _ = ⊥
+
+-- A load or a store with a one-byte opcode and this memory argument.
+abbrev pub IsAccess : Operator → MemArg → Type 0
+IsAccess (operator.I32Load m) memarg = m ≡ memarg
+IsAccess (operator.I64Load m) memarg = m ≡ memarg
+IsAccess (operator.F32Load m) memarg = m ≡ memarg
+IsAccess (operator.F64Load m) memarg = m ≡ memarg
+IsAccess (operator.I32Load8S m) memarg = m ≡ memarg
+IsAccess (operator.I32Load8U m) memarg = m ≡ memarg
+IsAccess (operator.I32Load16S m) memarg = m ≡ memarg
+IsAccess (operator.I32Load16U m) memarg = m ≡ memarg
+IsAccess (operator.I64Load8S m) memarg = m ≡ memarg
+IsAccess (operator.I64Load8U m) memarg = m ≡ memarg
+IsAccess (operator.I64Load16S m) memarg = m ≡ memarg
+IsAccess (operator.I64Load16U m) memarg = m ≡ memarg
+IsAccess (operator.I64Load32S m) memarg = m ≡ memarg
+IsAccess (operator.I64Load32U m) memarg = m ≡ memarg
+IsAccess (operator.I32Store m) memarg = m ≡ memarg
+IsAccess (operator.I64Store m) memarg = m ≡ memarg
+IsAccess (operator.F32Store m) memarg = m ≡ memarg
+IsAccess (operator.F64Store m) memarg = m ≡ memarg
+IsAccess (operator.I32Store8 m) memarg = m ≡ memarg
+IsAccess (operator.I32Store16 m) memarg = m ≡ memarg
+IsAccess (operator.I64Store8 m) memarg = m ≡ memarg
+IsAccess (operator.I64Store16 m) memarg = m ≡ memarg
+IsAccess (operator.I64Store32 m) memarg = m ≡ memarg
+IsAccess _ memarg = ⊥

@@ -1,14 +1,17 @@
 ghost use Rattle.std.specs.Prelude.{◌≡◌, ◌∷◌, Some, None, IfOk, if◌then◌else◌};
+ghost use Rattle.wasm_instr.specs.declared.operator.Operator.{Operator};
 ghost use Rattle.wasm_instr.specs.Roles.{role_of};
+ghost use Rattle.wasm_instr.specs.Row.{prefix_of, opcode_of};
 ghost use Rattle.wasm_typing.specs.Rules.{is_ready};
 ghost use Rattle.wasm_typing.specs.Steps.{step, started};
 ghost use Rattle.wasm_check_control.specs.SetLocals.{set_now, set_outside, set_also, set_in_else, with_set, next_with};
 ghost use Rattle.wasm_check_control.specs.State.{Answers, outermost, around};
-ghost use Rattle.wasm_check_operators.specs.Language.{rules_of, rules_if_set};
+ghost use Rattle.wasm_check_operators.specs.Language.{rules_of, rules_if_set, StepsOn, IsDetermined, IsAccess};
 
 use crate::checker::Checker;
 use std::alloc::{AllocError, Global};
 use wasm_check_control::{Control, FrameKind, ModuleContext, SetLocals};
+use wasm_imm::MemArg;
 use wasm_instr::Operator;
 
 /// The type checker of an expression: a checker of operators, and the locals that are set.
@@ -36,6 +39,7 @@ impl<'m, M: ModuleContext> BodyChecker<'m, M> {
         })
     }
 
+    #[inline(always)]
     fn is_set(&self, local: u32) -> bool
         ensures { result ≡ is_ready (outermost (rules_of (M.environment self.now.operators.context.now))) (Some local) (set_now self.now.locals) }
     {
@@ -132,6 +136,74 @@ impl<'m, M: ModuleContext> BodyChecker<'m, M> {
         }
         self.locals.add(local)?;
         Ok(true)
+    }
+
+    /// `local.get`.
+    pub fn local_get(&mut self, index: u32) -> Result<bool, AllocError>
+        ensures same { self.new.operators.context ≡ self.old.operators.context }
+        ensures steps { StepsOn (M.environment self.old.operators.context.now) (Operator.LocalGet index) (with_set self.old.operators.control self.old.locals) result (with_set self.new.operators.control self.new.locals) }
+    {
+        if !self.is_set(index) {
+            return Ok(false);
+        }
+        self.operators.local_get(index)
+    }
+
+    /// `local.set`.
+    pub fn local_set(&mut self, index: u32) -> Result<bool, AllocError>
+        ensures same { self.new.operators.context ≡ self.old.operators.context }
+        ensures steps { StepsOn (M.environment self.old.operators.context.now) (Operator.LocalSet index) (with_set self.old.operators.control self.old.locals) result (with_set self.new.operators.control self.new.locals) }
+    {
+        if !self.operators.local_set(index)? {
+            return Ok(false);
+        }
+        if self.is_set(index) {
+            return Ok(true);
+        }
+        self.locals.add(index)?;
+        Ok(true)
+    }
+
+    /// `local.tee`.
+    pub fn local_tee(&mut self, index: u32) -> Result<bool, AllocError>
+        ensures same { self.new.operators.context ≡ self.old.operators.context }
+        ensures steps { StepsOn (M.environment self.old.operators.context.now) (Operator.LocalTee index) (with_set self.old.operators.control self.old.locals) result (with_set self.new.operators.control self.new.locals) }
+    {
+        if !self.operators.local_tee(index)? {
+            return Ok(false);
+        }
+        if self.is_set(index) {
+            return Ok(true);
+        }
+        self.locals.add(index)?;
+        Ok(true)
+    }
+
+    /// A numeric operator or a constant, by its opcode.
+    #[inline(always)]
+    pub fn by_code(&mut self, op: &Operator<'_>, code: u8) -> Result<bool, AllocError>
+        requires opcode { (prefix_of op.now ≡ None) × (opcode_of op.now ≡ code) }
+        requires determined { IsDetermined op.now }
+        ensures same { self.new.operators.context ≡ self.old.operators.context }
+        ensures steps { StepsOn (M.environment self.old.operators.context.now) op.now (with_set self.old.operators.control self.old.locals) result (with_set self.new.operators.control self.new.locals) }
+    {
+        self.operators.by_code(op, code)
+    }
+
+    /// A load or a store, by its opcode.
+    #[inline(always)]
+    pub fn access_by_code(
+        &mut self,
+        memarg: &MemArg,
+        op: &Operator<'_>,
+        code: u8,
+    ) -> Result<bool, AllocError>
+        requires opcode { (prefix_of op.now ≡ None) × (opcode_of op.now ≡ code) }
+        requires access { IsAccess op.now memarg.now }
+        ensures same { self.new.operators.context ≡ self.old.operators.context }
+        ensures steps { StepsOn (M.environment self.old.operators.context.now) op.now (with_set self.old.operators.control self.old.locals) result (with_set self.new.operators.control self.new.locals) }
+    {
+        self.operators.access_by_code(memarg, op, code)
     }
 
     /// Checks one operator.

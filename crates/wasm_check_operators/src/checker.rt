@@ -1,20 +1,22 @@
-ghost use Rattle.std.specs.Prelude.{◌≡◌, [], ◌∷◌, IfOk, false};
+ghost use Rattle.std.specs.Prelude.{◌≡◌, [], ◌∷◌, None, IfOk, false};
 ghost use Rattle.wasm_instr.specs.Roles.{role_of};
+ghost use Rattle.wasm_instr.specs.Row.{prefix_of, opcode_of};
 ghost use Rattle.wasm_typing.specs.Rules.{or_invalid, jumps, fixed, invalid, at};
 ghost use Rattle.wasm_typing.specs.Types.{value_type};
 ghost use Rattle.wasm_typing.specs.Steps.{step, labels_of};
 ghost use Rattle.wasm_check_control.specs.State.{Answers, opens_by, construct_of, first_of, outermost, by_rule};
 ghost use Rattle.wasm_signatures.specs.Own.{operator_typing};
-ghost use Rattle.wasm_check_operators.specs.Forms.{only_if, is_valid, by_typing, fixed_at, exception};
+ghost use Rattle.wasm_check_operators.specs.Forms.{IsFixed, only_if, access, is_valid, by_typing, fixed_at, exception};
 ghost use Rattle.wasm_check_operators.specs.Language.{block_type, rule, rules_if_set, Follows};
 
-use crate::signatures::determined;
+use crate::premises::is_valid_argument;
+use crate::signatures::{by_code, determined};
 use crate::types::abstract_type;
 use crate::validity::is_valid;
 use std::alloc::AllocError;
 use wasm_below::{AbstractHeapType, ValType};
 use wasm_check_control::{Control, FrameKind, ModuleContext};
-use wasm_imm::BlockType;
+use wasm_imm::{BlockType, MemArg, MemArgTarget};
 use wasm_instr::Operator;
 use wasm_typing::ValueType;
 
@@ -98,6 +100,42 @@ impl<'m, M: ModuleContext> Checker<'m, M> {
         ensures steps { Follows (M.environment self.old.context.now) (by_typing (fixed_at false) (operator_typing op.now)) self.old.control result self.new.control }
     {
         determined(&mut self.control, self.context, op, false)
+    }
+
+    /// An operator of one byte that determines its types, by its opcode.
+    pub(crate) fn by_code(&mut self, op: &Operator<'_>, code: u8) -> Result<bool, AllocError>
+        requires opcode { (prefix_of op.now ≡ None) × (opcode_of op.now ≡ code) }
+        requires determined { IsFixed (operator_typing op.now) }
+        ensures same { self.new.context ≡ self.old.context }
+        ensures steps { Follows (M.environment self.old.context.now) (by_typing (fixed_at false) (operator_typing op.now)) self.old.control result self.new.control }
+    {
+        by_code(&mut self.control, self.context, op, code, false)
+    }
+
+    /// A load or a store of the default group, by its opcode.
+    pub(crate) fn access_by_code(
+        &mut self,
+        memarg: &MemArg,
+        op: &Operator<'_>,
+        code: u8,
+    ) -> Result<bool, AllocError>
+        requires opcode { (prefix_of op.now ≡ None) × (opcode_of op.now ≡ code) }
+        requires determined { IsFixed (operator_typing op.now) }
+        ensures same { self.new.context ≡ self.old.context }
+        ensures steps { Follows (M.environment self.old.context.now) (access (M.environment self.old.context.now) memarg.now.target memarg.now (operator_typing op.now)) self.old.control result self.new.control }
+    {
+        match memarg.target {
+            MemArgTarget::Memory(index) => {
+                let Some(is_64) = self.context.memory64(index) else {
+                    return Ok(false);
+                };
+                if !is_valid_argument(memarg, is_64) {
+                    return Ok(false);
+                }
+                by_code(&mut self.control, self.context, op, code, is_64)
+            }
+            MemArgTarget::Array(_) => Ok(false),
+        }
     }
 
     /// An operator without a rule.

@@ -12,6 +12,7 @@ use wasm_typing::ValueType;
 
 /// Variable instructions.
 impl<'m, M: ModuleContext> Checker<'m, M> {
+    #[inline(always)]
     pub(crate) fn local_get(&mut self, index: u32) -> Result<bool, AllocError>
         ensures same { self.new.context ≡ self.old.context }
         ensures steps { Follows (M.environment self.old.context.now) (or_invalid local_get ((M.environment self.old.context.now).locals index)) self.old.control result self.new.control }
@@ -23,6 +24,7 @@ impl<'m, M: ModuleContext> Checker<'m, M> {
             .values(self.context, &[], &[ValueType::new(local.content_type)])
     }
 
+    #[inline(always)]
     pub(crate) fn local_set(&mut self, index: u32) -> Result<bool, AllocError>
         ensures same { self.new.context ≡ self.old.context }
         ensures steps { Follows (M.environment self.old.context.now) (or_invalid local_set ((M.environment self.old.context.now).locals index)) self.old.control result self.new.control }
@@ -34,6 +36,7 @@ impl<'m, M: ModuleContext> Checker<'m, M> {
             .values(self.context, &[ValueType::new(local.content_type)], &[])
     }
 
+    #[inline(always)]
     pub(crate) fn local_tee(&mut self, index: u32) -> Result<bool, AllocError>
         ensures same { self.new.context ≡ self.old.context }
         ensures steps { Follows (M.environment self.old.context.now) (or_invalid local_tee ((M.environment self.old.context.now).locals index)) self.old.control result self.new.control }
