@@ -45,7 +45,7 @@ pub fn write_operator(
 }
 
 /// Appends an operator, like `write_operator`, which calls this if `write_common` returns false.
-#[inline(never)]
+#[inline(always)]
 fn write_other(
     out: &mut Vec<u8>,
     features: WasmFeatures,
