@@ -4,7 +4,7 @@ from immediates import COMBINATIONS, FORMS, KINDS, ROW_WORDS
 from plain import BOUND, bound
 from source import joined_arm, rust_pattern
 from table import ENUMS, held, imported
-from templates import filled, with_uses
+from templates import filled, filled_file, with_uses
 
 CRATE = "crates/wasm_encode_operators"
 # The prover's search finds no proof of an arm of this many operators or more, nor of an arm with immediates of these
@@ -131,6 +131,7 @@ def codes_source(ops):
         of_enum = [op for op in ops if op.group == enum.group]
         lines += ["", *filled(
             "encode/enum_codes.rt",
+            visibility="" if enum.prefix else "pub ",
             module=enum.module,
             what="subopcode" if enum.prefix else "opcode",
             type=enum.type,
@@ -139,6 +140,27 @@ def codes_source(ops):
             arms=tail_arms(of_enum, enum.type, str),
         )]
     return "\n".join(lines) + "\n"
+
+
+# The variant of `Form` by kinds of immediates.
+COMMON = {
+    (): "Byte", ("unsigned",): "Unsigned", ("signed_32",): "Signed32", ("signed_64",): "Signed64", ("block_type",): "Block",
+    ("memory",): "Access",
+}
+
+
+def form(op):
+    """Returns the operator's common form over its bound fields, or None."""
+    if op.feature or op.kinds not in COMMON:
+        return None
+    fields = [f"*{to}" for _, _, to in bound(op)]
+    align = [op.align] if "memory" in op.kinds else []
+    return f"Form::{COMMON[op.kinds]}({', '.join([op.hex(), *fields, *align])})"
+
+
+def forms_source(own):
+    arms = [f"{pattern(op, 'Operator')} => {form(op)}," for op in own if form(op)]
+    return filled_file("encode/forms.rt", arms=arms)
 
 
 # ---- proofs
@@ -219,6 +241,7 @@ def encode_files(ops):
     proofs = f"{CRATE}/proofs/immediates"
     out = {
         f"{CRATE}/src/codes.rt": codes_source(ops),
+        f"{CRATE}/src/forms.rt": forms_source(own),
         f"{CRATE}/src/immediates/own.rt": own_source(own, ops),
         f"{proofs}/own/write_immediates/Answers.antt": answers(
             own, "own", "write_immediates", "wasm_instr.specs.Row.immediates_of", "c.args.op.now", True,

@@ -27,6 +27,18 @@ class Arms(unittest.TestCase):
         found = encode.alike(gc, False)
         self.assertEqual(sorted(op.name for those, _ in found for op in those), sorted(op.name for op in gc))
 
+    def test_common_forms(self):
+        found = {name: encode.form(OPS[name]) for name in ("End", "LocalGet", "I64Store8", "I64Const", "Block", "Rethrow")}
+        self.assertEqual(found, {
+            "End": "Form::Byte(0x0b)",
+            "LocalGet": "Form::Unsigned(0x20, *a)",
+            "I64Store8": "Form::Access(0x3c, *a, 0)",
+            "I64Const": "Form::Signed64(0x42, *a)",
+            "Block": "Form::Block(0x02, *a)",
+            "Rethrow": "Form::Unsigned(0x09, *a)",
+        })
+        self.assertEqual([encode.form(OPS[name]) for name in ("Try", "Catch", "CatchAll", "CallIndirect", "BrTable")], [None] * 5)
+
 
 class Answers(unittest.TestCase):
     def test_cases(self):

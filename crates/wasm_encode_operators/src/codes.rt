@@ -108,7 +108,7 @@ pub fn code_of(op: &Operator<'_>) -> Opcode
 
 /// Returns the opcode.
 #[inline(always)]
-fn numeric(op: NumericOperator) -> u8
+pub fn numeric(op: NumericOperator) -> u8
     ensures { result ≡ numeric_opcode op }
 {
     match op {

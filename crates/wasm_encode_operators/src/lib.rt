@@ -3,6 +3,8 @@
 #![tactic(auto)]
 
 mod codes;
+mod common;
+mod forms;
 mod immediates;
 mod opcode;
 mod operator;

@@ -5,6 +5,7 @@ ghost use Rattle.wasm_instr.specs.Row.{immediates_of};
 ghost use Rattle.wasm_encode_immediates.specs.Reasons.{HoldList};
 ghost use Rattle.wasm_encode_operators.specs.Encoding.{WritesOperator};
 
+use crate::common::write_common;
 use crate::immediates::own::write_immediates;
 use crate::opcode::write_opcode;
 use wasm_below::WasmFeatures;
@@ -32,6 +33,29 @@ pub fn write_operator(
         → (vec_capacity out.old < vec_len out.old + 44) ⊎ HoldList (immediates_of op.now)) }
     ensures kept { vec_capacity out.old ≤ vec_capacity out.new }
 {
+    match out.reserve(MOST) {
+        Ok(()) => {
+            if write_common(out, op) {
+                return Ok(());
+            }
+            write_other(out, features, op)
+        }
+        Err(_) => Err(Unwritable::OutOfMemory),
+    }
+}
+
+/// Appends an operator, like `write_operator`, which calls this if `write_common` returns false.
+#[inline(always)]
+fn write_other(
+    out: &mut Vec<u8>,
+    features: WasmFeatures,
+    op: &Operator<'_>,
+) -> Result<(), Unwritable>
+    requires { vec_len out.old + 44 ≤ vec_capacity out.old }
+    ensures written { WritesOperator features op.now result out.old.items out.new.items }
+    ensures memory { IfErr result (λ e. e ≡ Unwritable.OutOfMemory → HoldList (immediates_of op.now)) }
+    ensures kept { vec_capacity out.old ≤ vec_capacity out.new }
+{
     match check_enabled(features, op) {
         Ok(()) => write_enabled(out, features, op),
         Err(e) => Err(e),
@@ -56,31 +80,26 @@ fn check_enabled(features: WasmFeatures, op: &Operator<'_>) -> Result<(), Unwrit
     }
 }
 
-/// Appends an enabled operator, like `write_operator`.
+/// Appends an enabled operator, like `write_other`.
 #[inline(always)]
 fn write_enabled(
     out: &mut Vec<u8>,
     features: WasmFeatures,
     op: &Operator<'_>,
 ) -> Result<(), Unwritable>
-    requires { IsEnabled features op.now }
+    requires enabled { IsEnabled features op.now }
+    requires space { vec_len out.old + 44 ≤ vec_capacity out.old }
     ensures written { WritesOperator features op.now result out.old.items out.new.items }
-    ensures memory { IfErr result (λ e. e ≡ Unwritable.OutOfMemory
-        → (vec_capacity out.old < vec_len out.old + 44) ⊎ HoldList (immediates_of op.now)) }
+    ensures memory { IfErr result (λ e. e ≡ Unwritable.OutOfMemory → HoldList (immediates_of op.now)) }
     ensures kept { vec_capacity out.old ≤ vec_capacity out.new }
 {
-    match out.reserve(MOST) {
-        Ok(()) => {
-            let start = out.len();
-            write_opcode(out, op);
-            match write_immediates(out, features, op) {
-                Ok(()) => Ok(()),
-                Err(e) => {
-                    out.truncate(start);
-                    Err(e)
-                }
-            }
+    let start = out.len();
+    write_opcode(out, op);
+    match write_immediates(out, features, op) {
+        Ok(()) => Ok(()),
+        Err(e) => {
+            out.truncate(start);
+            Err(e)
         }
-        Err(_) => Err(Unwritable::OutOfMemory),
     }
 }
