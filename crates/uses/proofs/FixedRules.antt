@@ -26,7 +26,7 @@ use Rattle.wasm_check_operators.specs.Casts.{gc_rule}
 use Rattle.wasm_check_operators.specs.Forms.{only_if, address, address_value, typed, fixed_at, by_typing, access, by_argument, has_lanes, is_valid_argument, is_atomic_argument, atomic_access, is_ordered}
 use Rattle.wasm_check_operators.specs.Language.{rule, misc_rule}
 
--- The rule takes and leaves as many operands as the type, or is none.
+-- The rule takes and leaves as many operands as the type, or is `invalid`.
 abbrev pub HasCounts : Rule → InstructionType → Type 0
 HasCounts (fixed takes leaves) f = (length takes ≡ length f.takes) × (length leaves ≡ length f.leaves)
 HasCounts invalid f = Unit {0}
