@@ -10,8 +10,8 @@ Each row is a run, in the folder `crates/NAME/data` if there is one. Its columns
     words      the arguments, with spaces between them; `""` is an empty argument, and \\xNN a byte
     input      standard input, in hexadecimal, or `unreadable` for a folder
     status     the exit status
-    output     what it writes, with \\n for a line feed and \\t for a tab; `unwritable` if the device is full, `closed` if
-               nothing reads the pipe
+    output     what it writes, with \\n for a line feed and \\t for a tab, and `<time>` for a time in milliseconds;
+               `unwritable` if the device is full, `closed` if nothing reads the pipe
     complaint  what it writes to standard error, without the last line feed
 """
 
@@ -29,6 +29,8 @@ from testing.built import over_programs
 
 COLUMNS = ["case", "words", "input", "status", "output", "complaint"]
 SECONDS = 60
+# A time, which differs from run to run.
+TIME = re.compile(r"\b[0-9]+\.[0-9]{3} ms\b")
 
 
 def cases_of(path):
@@ -75,7 +77,7 @@ def ended(program, case, data=None):
         wrote = case["output"].encode() if is_lost else Path(taken).read_bytes()
     texts = [wrote.decode(errors="replace"), ran.stderr.decode(errors="replace")]
     wrote, complained = [text.replace("\n", "\\n").replace("\t", "\\t") for text in texts]
-    return str(ran.returncode), wrote, complained.removesuffix("\\n")
+    return str(ran.returncode), TIME.sub("<time>", wrote), complained.removesuffix("\\n")
 
 
 def run_cases(program, path):

@@ -25,3 +25,5 @@ pub mod Splits
 pub mod Steps
 pub mod Tallied
 pub mod Teed
+pub mod FixedRules
+pub mod TypedHeights

@@ -11,7 +11,7 @@ use Rattle.wasm_encode.specs.immediate_specs.declared.unwritable.Unwritable.{Unw
 use Rattle.wasm_encode.specs.Writing.{WritesOperators}
 use Rattle.uses.specs.Peephole.{AreTeed, kept, joined, AreSetAndGet, StartWithPair, WritesTeed}
 
-first_of_rest : (ops : Placed) (at : ℕ) (p : Operator × ℕ) → at < length ops → p ≡ get_or ops at p → operators (drop at ops) ≡ p.0 ∷ operators (drop (at + 1) ops)
+pub first_of_rest : (ops : Placed) (at : ℕ) (p : Operator × ℕ) → at < length ops → p ≡ get_or ops at p → operators (drop at ops) ≡ p.0 ∷ operators (drop (at + 1) ops)
 first_of_rest ops at p lt is =
     let next : suc at ≡ at + 1 = omega arith in
     ap operators (drop-cons ops at p lt) ∙ ap (λ z. z.0 ∷ operators (drop (suc at) ops)) (sym is) ∙ ap (λ k. p.0 ∷ operators (drop k ops)) next

@@ -15,3 +15,4 @@ pub mod Places
 pub mod Rest
 pub mod Tallies
 pub mod Peephole
+pub mod TypedHeights

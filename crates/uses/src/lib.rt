@@ -1,4 +1,4 @@
-//! Proved callers of `wasm_operators` and `wasm_encode`, which cite public contracts and laws only.
+//! Proved callers of `wasm_operators`, `wasm_encode` and `wasm_check`, which cite public contracts and laws only.
 //!
 //! A call that allocates may fail with `OutOfMemory`.
 #![tactic(auto)]
@@ -32,6 +32,7 @@ mod single_steps;
 mod skipping;
 mod step_simd;
 mod tally;
+mod typed_heights;
 mod vectors;
 
 pub use again::operators_again;
@@ -75,4 +76,5 @@ pub use single_steps::{
 pub use skipping::skip_operators;
 pub use step_simd::{count_before_simd, has_simd};
 pub use tally::{Tally, tally_list, tally_next, tally_next_scalar, tally_owned, tally_scalar};
+pub use typed_heights::{NoHeights, heights_of_typed_body};
 pub use vectors::{number_of, signed_number_of, vector_of, vector_of_signed};

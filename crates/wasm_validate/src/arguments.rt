@@ -7,6 +7,8 @@ use wasm_programs::{Argument, Choice, Kind, Mistake, add, named_features, read_a
 pub struct Options {
     /// The features that the functions are read with.
     pub features: WasmFeatures,
+    /// Whether a line is printed for each section.
+    pub verbose: bool,
     /// The paths of the modules; `-` is standard input.
     pub files: Vec<String>,
 }
@@ -19,12 +21,16 @@ pub enum Request {
     Options(Options),
 }
 
-const CHOICES: [Choice; 1] = [Choice("--features", None, Kind::Value)];
+const CHOICES: [Choice; 2] = [
+    Choice("--features", None, Kind::Value),
+    Choice("--verbose", Some('v'), Kind::Flag),
+];
 
 /// Reads the arguments after the program's name.
 pub fn read_request(alloc: Global, words: Vec<String>) -> Result<Request, Mistake> {
     let mut options = Options {
         features: WasmFeatures::all(),
+        verbose: false,
         files: Vec::new(alloc),
     };
     for argument in read_arguments(alloc, &CHOICES, words)? {
@@ -36,7 +42,7 @@ pub fn read_request(alloc: Global, words: Vec<String>) -> Result<Request, Mistak
                 Some(features) => options.features = features,
                 None => return Err(Mistake::Word("unknown features", word)),
             },
-            Argument::Option(_) => {}
+            Argument::Option(_) => options.verbose = true,
         }
     }
     if options.files.is_empty() {

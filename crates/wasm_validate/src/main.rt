@@ -1,13 +1,16 @@
 //! Validates WebAssembly modules.
 //!
-//! The main theorem is the contract of `validate_module` of `wasm_validation`.
+//! The main theorem is the contract of `validate_module` of `wasm_validation`. With `-v`, the payloads
+//! are validated one by one, by `Validator::payload`.
 #![tactic(auto)]
 
 mod arguments;
 mod reports;
+mod timed;
 
 use crate::arguments::{Options, Request, read_request};
 use crate::reports::{PROGRAM, report};
+use crate::timed::validate_timed;
 use std::process::ExitCode;
 use wasm_operators::BinaryReader;
 use wasm_programs::{
@@ -19,6 +22,8 @@ const HELP: &str = "Usage: wasm_validate [OPTION].. FILE..
 
 Validates WebAssembly modules. Reads standard input for a FILE that is `-`.
 
+  -v, --verbose        print the name of each section that is valid, and the milliseconds that reading
+                       and validating it took
       --features WORD  all (the default), none, or names separated by commas: multi_memory,
                        memory64, call_indirect_overlong, legacy_exceptions,
                        acquire_release_atomics, multibyte_array_access
@@ -26,9 +31,11 @@ Validates WebAssembly modules. Reads standard input for a FILE that is `-`.
       --version        print the version
       --               treat the other arguments as files
 
-Nothing is printed of a file without an error. The exit status is 0 if there is none, 1 if a module
-has an error, 2 if an argument is wrong, and 3 if input or allocation fails. For several files it is
-the largest. It is 141 if the output is a closed pipe.
+Without -v, nothing is printed of a file without an error.
+
+The exit status is 0 if no module has an error, 1 if one has, 2 if an argument is wrong, and 3 if
+input, output or allocation fails. For several files it is the largest. It is 141 if the output is a
+closed pipe.
 ";
 
 const VERSION: &str = "wasm_validate 0.1.0, follows wasmparser 0.263.0\n";
@@ -40,6 +47,9 @@ fn validate(rt: &HostRuntime, options: &Options, path: &str) -> u8 {
         Ok(bytes) => bytes,
         Err(error) => return complain_input(rt, PROGRAM, shown, error),
     };
+    if options.verbose {
+        return validate_timed(rt, options.features, shown, bytes.as_slice());
+    }
     let reader = BinaryReader::new_features(bytes.as_slice(), 0, options.features);
     match validate_module(rt.alloc(), reader) {
         Ok(()) => 0,

@@ -8,4 +8,4 @@ mod fault;
 mod modules;
 
 pub use fault::{Fault, FaultyBody};
-pub use modules::validate_module;
+pub use modules::{Validator, validate_module};

@@ -14,35 +14,53 @@ use wasm_module_context::add_payload;
 use wasm_payloads::{Parser, Payload, parse_all};
 use wasm_subtypes::Types;
 
-/// The context that the payloads so far give, and the index of the function whose body is next.
+/// Validates the payloads of a module, one after the other: the context that the payloads so far give,
+/// and the index of the function whose body is next.
 #[derive(Drop)]
-struct Stage {
+pub struct Validator {
     context: Context,
     next: u64,
 }
 
-impl Model for Stage {
-    ghost use Rattle.wasm_validation.specs.Valid as valid;
+impl Model for Validator {
+    ghost use Rattle.wasm_validation.specs.Valid.{Stage};
 
-    ghost Value = { valid.Stage };
+    ghost Value = { Stage };
 
     ghost view = { λ s. record { context = s.context; next = s.next } };
 }
 
-fn first_stage(alloc: Global) -> Stage
-    ensures { result ≡ first }
-{
-    Stage {
-        context: Context::new(alloc, Types::new(alloc)),
-        next: 0,
+impl Validator {
+    /// Creates a validator for the first payload of a module.
+    pub fn new(alloc: Global) -> Validator
+        ensures { result ≡ first }
+    {
+        Validator {
+            context: Context::new(alloc, Types::new(alloc)),
+            next: 0,
+        }
+    }
+
+    /// Validates the next payload that `Parser` gives. Returns the validator for the one after it.
+    pub fn payload<'a>(self, alloc: Global, payload: Payload<'a>) -> Result<Validator, Fault<'a>>
+        // On `Ok`, the payload is valid in the context of those before it.
+        ensures valid { IfOk result (λ new. IsValid payload.entry self new) }
+        // On an error, allocation failed, or the payload is not valid for the reason that the error names.
+        ensures error { IfErr result (λ f. Refuses payload.entry self f) }
+    {
+        check_payload(alloc, self, payload)
     }
 }
 
-fn check_entry<'a>(alloc: Global, stage: Stage, body: BinaryReader<'a>) -> Result<Stage, Fault<'a>>
+fn check_entry<'a>(
+    alloc: Global,
+    stage: Validator,
+    body: BinaryReader<'a>,
+) -> Result<Validator, Fault<'a>>
     ensures checked { IfOk result (λ new. IsValid (payload.CodeSectionEntry body.entry) stage new) }
     ensures refused { IfErr result (λ f. Refuses (payload.CodeSectionEntry body.entry) stage f) }
 {
-    let Stage { context, next } = stage;
+    let Validator { context, next } = stage;
     let Ok(function) = u32::try_from(next) else {
         return Err(Fault::NoFunction(body.original_position()));
     };
@@ -51,7 +69,7 @@ fn check_entry<'a>(alloc: Global, stage: Stage, body: BinaryReader<'a>) -> Resul
         None => return Err(Fault::NoFunction(body.original_position())),
     };
     match checked {
-        Ok(()) => Ok(Stage {
+        Ok(()) => Ok(Validator {
             context,
             next: next + 1,
         }),
@@ -69,18 +87,22 @@ fn add<'a>(
     context: Context,
     next: u64,
     payload: Payload<'a>,
-) -> Result<Stage, Fault<'a>>
+) -> Result<Validator, Fault<'a>>
     ensures added { IfOk result (λ new. AddsPayload payload.entry context new.context) }
     ensures next { IfOk result (λ new. new.next ≡ next) }
     ensures refused { IfErr result (λ f. FailsToAdd payload.entry context f) }
 {
     match add_payload(alloc, context, payload) {
-        Ok(context) => Ok(Stage { context, next }),
+        Ok(context) => Ok(Validator { context, next }),
         Err(e) => Err(Fault::Section(e)),
     }
 }
 
-fn check_payload<'a>(alloc: Global, stage: Stage, payload: Payload<'a>) -> Result<Stage, Fault<'a>>
+fn check_payload<'a>(
+    alloc: Global,
+    stage: Validator,
+    payload: Payload<'a>,
+) -> Result<Validator, Fault<'a>>
     ensures checked { IfOk result (λ new. IsValid payload.entry stage new) }
     ensures refused { IfErr result (λ f. Refuses payload.entry stage f) }
 {
@@ -112,7 +134,7 @@ fn check_payload<'a>(alloc: Global, stage: Stage, payload: Payload<'a>) -> Resul
 }
 
 /// Checks the payloads from a stage on.
-fn check_payloads<'a>(alloc: Global, parser: Parser<'a>, stage: Stage) -> Result<(), Fault<'a>>
+fn check_payloads<'a>(alloc: Global, parser: Parser<'a>, stage: Validator) -> Result<(), Fault<'a>>
     ensures checked { OnOk result (IsValidFrom parser.entry stage) }
     ensures refused { IfErr result (λ f. StopsLater parser.entry stage f) }
 {
@@ -142,5 +164,5 @@ pub fn validate_module<'a>(alloc: Global, reader: BinaryReader<'a>) -> Result<()
     // The error of the first payload that can't be read or is not valid is returned.
     ensures error { IfErr result (λ f. IsFirstFault reader.entry f) }
 {
-    check_payloads(alloc, parse_all(alloc, reader), first_stage(alloc))
+    check_payloads(alloc, parse_all(alloc, reader), Validator::new(alloc))
 }

@@ -19,6 +19,8 @@ pub struct Around {
 pub enum Reason {
     /// The operand that it takes is not on top of the stack.
     Operand(Mismatch),
+    /// The reference that it takes is not on top of the stack.
+    Reference(Mismatch),
     /// An index, between these texts.
     Index(&'static str, u32, &'static str),
     Text(&'static str),
@@ -92,6 +94,23 @@ impl fmt::Display for Reason {
                         write!(f, "type mismatch: expected {expected}, found {found}")
                     }
                     None => write!(f, "type mismatch: expected {expected} but nothing on stack"),
+                }
+            }
+            Reason::Reference(mismatch) => {
+                let expected = Named(mismatch.expected);
+                match mismatch.found {
+                    Some(ValueType::Ref { nullable, heap }) => {
+                        let found = Named(ValueType::Ref { nullable, heap });
+                        write!(
+                            f,
+                            "type mismatch: expected subtype of {expected}, found {found}"
+                        )
+                    }
+                    Some(found) => {
+                        let found = Named(found);
+                        write!(f, "type mismatch: expected ref but found {found}")
+                    }
+                    None => f.write_str("type mismatch: expected a type but nothing on stack"),
                 }
             }
             Reason::Index(before, index, after) => write!(f, "{before}{index}{after}"),
@@ -203,7 +222,8 @@ fn of_type<M: ModuleContext>(context: &M, index: u32, kind: CompositeKind) -> Op
     Some(Reason::Index(before, index, ", found another"))
 }
 
-fn of_field<M: ModuleContext>(context: &M, index: u32, field: u32) -> Reason {
+/// A field of a structure type that exists does not allow this access for the reason `denied`.
+fn of_field<M: ModuleContext>(context: &M, index: u32, field: u32, denied: &'static str) -> Reason {
     let Some(structure) = context.struct_type(index) else {
         return match of_type(context, index, CompositeKind::Struct) {
             Some(reason) => reason,
@@ -211,7 +231,7 @@ fn of_field<M: ModuleContext>(context: &M, index: u32, field: u32) -> Reason {
         };
     };
     match structure.fields.get(field as usize) {
-        Some(_) => Reason::Text("the field's type does not allow this access"),
+        Some(_) => Reason::Text(denied),
         None => Reason::Text("unknown field: field index out of bounds"),
     }
 }
@@ -221,19 +241,39 @@ fn of_gc<M: ModuleContext>(context: &M, op: GcOperator) -> Option<Reason> {
         GcOperator::StructGet {
             struct_type_index,
             field_index,
-        }
-        | GcOperator::StructGetS {
+        } => Some(of_field(
+            context,
             struct_type_index,
             field_index,
-        }
-        | GcOperator::StructGetU {
+            "can only use struct `get` with non-packed storage types",
+        )),
+        GcOperator::StructGetS {
             struct_type_index,
             field_index,
-        }
-        | GcOperator::StructSet {
+        } => Some(of_field(
+            context,
             struct_type_index,
             field_index,
-        } => Some(of_field(context, struct_type_index, field_index)),
+            "cannot use struct.get_s with non-packed storage types",
+        )),
+        GcOperator::StructGetU {
+            struct_type_index,
+            field_index,
+        } => Some(of_field(
+            context,
+            struct_type_index,
+            field_index,
+            "cannot use struct.get_u with non-packed storage types",
+        )),
+        GcOperator::StructSet {
+            struct_type_index,
+            field_index,
+        } => Some(of_field(
+            context,
+            struct_type_index,
+            field_index,
+            "invalid struct modification: struct field is immutable",
+        )),
         GcOperator::StructNew { struct_type_index }
         | GcOperator::StructNewDefault { struct_type_index } => of_type(
             context,
@@ -246,12 +286,20 @@ fn of_gc<M: ModuleContext>(context: &M, op: GcOperator) -> Option<Reason> {
             array_type_index,
             ..
         }
-        | GcOperator::ArrayGet { array_type_index }
-        | GcOperator::ArrayGetS { array_type_index }
-        | GcOperator::ArrayGetU { array_type_index } => of_type(
+        | GcOperator::ArrayGet { array_type_index } => of_type(
             context,
             array_type_index,
             CompositeKind::Array,
+        ),
+        GcOperator::ArrayGetS { array_type_index } => of_read(
+            context,
+            array_type_index,
+            "cannot use array.get_s with non-packed storage types",
+        ),
+        GcOperator::ArrayGetU { array_type_index } => of_read(
+            context,
+            array_type_index,
+            "cannot use array.get_u with non-packed storage types",
         ),
         GcOperator::ArraySet { array_type_index } | GcOperator::ArrayFill { array_type_index } =>
             of_written(context, array_type_index),
@@ -286,6 +334,11 @@ fn of_gc<M: ModuleContext>(context: &M, op: GcOperator) -> Option<Reason> {
         } => of_written(context, array_type_index).or(of_segment(context, array_elem_index)),
         _ => None,
     }
+}
+
+/// An array whose elements do not allow this access for the reason `denied`.
+fn of_read<M: ModuleContext>(context: &M, index: u32, denied: &'static str) -> Option<Reason> {
+    of_type(context, index, CompositeKind::Array).or(Some(Reason::Text(denied)))
 }
 
 /// An array whose elements are written.
@@ -343,11 +396,17 @@ fn of_plain<M: ModuleContext>(context: &M, op: &Operator<'_>, around: Around) ->
         Operator::CallIndirect {
             type_index,
             table_index,
-        }
-        | Operator::ReturnCallIndirect {
+        } => of_table(context, *table_index)
+            .or(of_type(context, *type_index, CompositeKind::Func))
+            .or(Some(Reason::Text(
+                "type mismatch: indirect calls must go through a table with type <= funcref",
+            ))),
+        Operator::ReturnCallIndirect {
             type_index,
             table_index,
         } => of_table(context, *table_index).or(of_type(context, *type_index, CompositeKind::Func)),
+        Operator::Drop => Some(Reason::Text("type mismatch: expected a type but nothing on stack")),
+        Operator::RefNull { hty } => of_heap_type(*hty),
         Operator::CallRef { type_index } | Operator::ReturnCallRef { type_index } => {
             of_type(context, *type_index, CompositeKind::Func)
         }
@@ -367,6 +426,31 @@ fn of_plain<M: ModuleContext>(context: &M, op: &Operator<'_>, around: Around) ->
         Operator::Simd(_) => Some(Reason::Text("SIMD index out of bounds")),
         _ => None,
     }
+}
+
+/// A heap type that is not valid.
+fn of_heap_type(ty: HeapType) -> Option<Reason> {
+    match ty {
+        HeapType::Concrete(index) | HeapType::Exact(index) => Some(Reason::Index(
+            "unknown type ",
+            index,
+            ": type index out of bounds",
+        )),
+        HeapType::Abstract { .. } => None,
+    }
+}
+
+/// Returns whether an operator takes references to an abstract heap type or its subtypes.
+fn takes_reference(op: &Operator<'_>) -> bool {
+    matches!(
+        op,
+        Operator::RefEq
+            | Operator::Gc(GcOperator::ArrayLen)
+            | Operator::Gc(GcOperator::I31GetS)
+            | Operator::Gc(GcOperator::I31GetU)
+            | Operator::Gc(GcOperator::ExternConvertAny)
+            | Operator::Gc(GcOperator::AnyConvertExtern)
+    )
 }
 
 /// Returns the label that an operator names, if it is one.
@@ -409,6 +493,9 @@ pub fn reason_of<M: ModuleContext>(
     mismatch: Option<Mismatch>,
 ) -> Reason {
     if let Some(mismatch) = mismatch {
+        if takes_reference(op) {
+            return Reason::Reference(mismatch);
+        }
         return Reason::Operand(mismatch);
     }
     if let Some(label) = label_of(op) {
