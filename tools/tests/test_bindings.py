@@ -3,7 +3,6 @@ import unittest
 from pathlib import Path
 
 import cargo
-import doc_examples
 import header
 from table import shared, table
 
@@ -32,24 +31,6 @@ class Bindings(unittest.TestCase):
 
     def test_each_field_is_described(self):
         self.assertEqual(cargo.FIELDS.keys(), {name for op in table() for name, _ in op.fields})
-
-    def test_examples_in_doc_comments(self):
-        source = """\
-/// Reads.
-///
-/// ```
-/// let one = 1;
-/// ```
-fn one() {}
-    /// ```text
-    /// not code
-    /// ```
-    //! ```rust
-    //! two();
-    //! ```
-"""
-        found = [(3, ["let one = 1;"]), (10, ["two();"])]
-        self.assertEqual(doc_examples.examples(source), found)
 
     def test_lists_replace_lists(self):
         lines = HEADER.splitlines(keepends=True)
@@ -93,7 +74,3 @@ fn one() {}
             crate.split("const VERSION: u32 = ")[1].split(";")[0],
         ]
         self.assertEqual(len(set(versions)), 1, versions)
-
-
-if __name__ == "__main__":
-    unittest.main()

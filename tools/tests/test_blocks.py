@@ -4,7 +4,7 @@ from pathlib import Path
 
 import blocks
 import contracts
-from pages.blocks import EXCEPTED, Block, blocks_of, left_out
+from pages.blocks import EXCEPTED, Block, blocks_of
 
 PAGE = """\
 Run `rt version`, then `tools/run edges` or `tools/test`; `tools/operators.tsv` is a table.
@@ -78,11 +78,6 @@ class Finding(unittest.TestCase):
         self.assertIn("the command rt version", next(blocks.unknown("page", found, commands, given[:3] + given[4:])))
         self.assertEqual(list(blocks.unknown("page", found[:2], commands, given)), ["page has no block first"])
 
-    def test_a_changed_line_is_found(self):
-        self.assertEqual(left_out(["a", "c"], ["a", "b"]), "c")
-        self.assertEqual(left_out(["b", "a"], ["a", "b"]), "a")
-        self.assertIsNone(left_out(["a", "c"], ["a", "b", "c"]))
-
     def test_what_runs_elsewhere(self):
         self.assertTrue(blocks.is_run_elsewhere("tools/test      # all"))
         self.assertTrue(blocks.is_run_elsewhere("(cd crates/wasm_objdump && rt try -- data/gcd.wasm)"))
@@ -126,7 +121,3 @@ fn Reader::next(&mut self, limit: usize) -> Result<u8> where Self: Sized
         for names in ("low/src/lib.rt Reader: gone", "low/src/lib.rt Reader: unsaid", "low/src/gone.rt Reader: next"):
             with self.assertRaises(contracts.Wrong):
                 contracts.quoted(names, self.top)
-
-
-if __name__ == "__main__":
-    unittest.main()

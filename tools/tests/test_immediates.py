@@ -65,7 +65,3 @@ class Records(unittest.TestCase):
         }.items():
             source = (TOP / "crates" / path).read_text(encoding="utf-8")
             self.assertEqual({name for name in names if not re.search(rf"^pub fn {name}\(", source, re.M)}, set(), path)
-
-
-if __name__ == "__main__":
-    unittest.main()

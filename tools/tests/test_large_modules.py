@@ -29,7 +29,3 @@ class LargeModules(unittest.TestCase):
         self.assertEqual(large_modules.equal(2).hex(), header + "010702600000600000")
         self.assertEqual(large_modules.one_group(1).hex(), header + "0108014e015f01630001")
         self.assertEqual(large_modules.nested(1).hex(), header + "010401600000" + "03020100" + "0a070105000240" + "0b0b")
-
-
-if __name__ == "__main__":
-    unittest.main()

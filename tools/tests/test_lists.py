@@ -49,9 +49,6 @@ def files_with(*rows):
 
 @unittest.skipUnless(layout.is_here(), "rt, which lays files out, is not on this machine")
 class Generated(unittest.TestCase):
-    def test_nothing_is_stale(self):
-        self.assertEqual(stale(files(table())), [])
-
     def test_each_kind_in_each_group(self):
         rows = [
             row_of(kind, group, number)
@@ -101,14 +98,6 @@ class Generated(unittest.TestCase):
         self.assertIn("fixed_arity (operator.Misc op) = misc_pair op", specs)
         source = out["crates/wasm_instr/src/fixed_arity.rt"]
         self.assertIn("Operator::Misc(op) => misc_fixed_arity(op)", source)
-
-    def test_argument_by_another_name(self):
-        row = cells_of(
-            proposal="bulk_memory", name="Trial", visit="visit_trial", prefix="fc", code="100",
-            fields="mem_place: MemArg, lane: u8", immediates="memory Op 2, lane_index", signature="[addr i32] -> [i32]",
-        )
-        out = files_with(row)
-        self.assertIn("misc_pair (misc.Trial mem_place _) = (reaching mem_place 2, 1)", out["crates/wasm_instr/specs/FixedArity.antt"])
 
     def test_long_names(self):
         long = "VeryLongNameOfAnOperatorThatNoLineOfOneHundredColumnsHasRoomForWithAllOfItsFields"

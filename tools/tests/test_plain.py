@@ -13,7 +13,3 @@ class Plain(unittest.TestCase):
         _, second = shared(ops)
         numbers = [plain.number(op) for op in ops if op is not second]
         self.assertEqual(len(numbers), len(set(numbers)))
-
-
-if __name__ == "__main__":
-    unittest.main()

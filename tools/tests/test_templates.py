@@ -1,6 +1,6 @@
 import unittest
 
-from templates import FOLDER, filled, used
+from templates import FOLDER
 
 
 class Templates(unittest.TestCase):
@@ -13,18 +13,3 @@ class Templates(unittest.TestCase):
         top = FOLDER.parents[2]
         sources = [it for suffix in ("rt", "antt") for folder in ("tools", "docs") for it in (top / folder).rglob(f"*.{suffix}")]
         self.assertEqual(sources, [])
-
-    def test_a_value_that_lacks(self):
-        with self.assertRaises(KeyError):
-            filled("own_visits/counted.rt", type="MiscOperator", trait="VisitMisc")
-
-    def test_names_that_occur(self):
-        lines = ["-- use A.{one}", "use A.{one, two, ◌∷◌, ◌≡◌}", "use B.{three}", "use C as kind", "use E as other", "ghost use d::four;"]
-        self.assertEqual(
-            used(lines, "one.two ∷\nkind.Plain four(three_more)"),
-            ["-- use A.{one}", "use A.{one, ◌∷◌}", "use C as kind", "ghost use d::four;"],
-        )
-
-
-if __name__ == "__main__":
-    unittest.main()

@@ -1,4 +1,3 @@
-import json
 import tempfile
 import unittest
 from collections import Counter
@@ -24,18 +23,6 @@ def program(folder, text):
 
 
 class Table(unittest.TestCase):
-    def test_rows_are_read_back(self):
-        with tempfile.TemporaryDirectory() as folder:
-            path = Path(folder) / "cases.tsv"
-            path.write_text(typing.text_of(CASES), encoding="utf-8")
-            self.assertEqual(typing.cases_of(path), CASES)
-
-    def test_packed(self):
-        self.assertEqual(typing.packed(b"abxcd", b"abycd"), "2,2,78")
-        self.assertEqual(typing.packed(b"aa", b"a"), "1,0,61")
-        self.assertEqual(typing.unpacked("2,2,78", b"abycd"), b"abxcd")
-        self.assertEqual(typing.unpacked("1,0,61", b"a"), b"aa")
-
     def test_the_cases(self):
         cases = typing.cases_of()
         self.assertEqual(Counter(it.verdict for it in cases), {"invalid": 5835, "valid": 1421, "unsupported": 68})
@@ -59,18 +46,3 @@ class Compared(unittest.TestCase):
         with tempfile.TemporaryDirectory() as folder:
             found = typing.compared(program(folder, ""), CASES, False)
             self.assertEqual([it.split(":")[0] for it in found], ["Nop, more", "Drop, more", "Try, ok"])
-
-
-class Written(unittest.TestCase):
-    def test_from_a_folder(self):
-        with tempfile.TemporaryDirectory() as folder:
-            for name in typing.FILES:
-                rows = [[name, "ok", True, CASES[0].module.hex()]] if name in ("fixed", "unsup") else []
-                (Path(folder) / f"{name}.json").write_text(json.dumps(rows), encoding="utf-8")
-            text = "*_, it = sys.argv[1:]\nprint(f'{it} 0x8 default' if '--default' in sys.argv else f'{it} ok')\n"
-            found = typing.written(folder, program(folder, text))
-            self.assertEqual([(it.verdict, it.message) for it in found], [("valid", ""), ("unsupported", "default")])
-
-
-if __name__ == "__main__":
-    unittest.main()

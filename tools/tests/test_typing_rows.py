@@ -44,7 +44,3 @@ class Rows(unittest.TestCase):
     def test_locals(self):
         row = typing_rows.row_of_locals("two", "i32>", "128 7f, 1 7e", "valid")
         self.assertTrue(row.endswith("\t0\t0\t0280017f017e0b\tvalid"))
-
-
-if __name__ == "__main__":
-    unittest.main()

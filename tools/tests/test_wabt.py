@@ -54,51 +54,9 @@ class Stored(unittest.TestCase):
         self.assertEqual(len(self.faults(b"za", b"za")[0]), 2)
 
 
-class Compared(unittest.TestCase):
-    def kinds(self, ours, theirs):
-        return wabt.kinds_of(ours, theirs)
-
-    def test_names(self):
-        ours = " 000030: 10 00                      | call 0"
-        self.assertEqual(self.kinds(ours, ours + " <env.print>"), ["other"])
-
-    def test_tail_calls(self):
-        ours = " 000030: 13 01 00                   | return_call_indirect 0 (type 1)"
-        theirs = " 000030: 13 01 00                   | return_call_indirect 1 0"
-        self.assertEqual(self.kinds(ours, theirs), ["tail calls"])
-        self.assertEqual(self.kinds(ours, theirs.replace("1 0", "0 1")), ["other"])
-
-    def test_signs(self):
-        ours = " 00003b: 41 7f                      |   i32.const -1"
-        theirs = " 00003b: 41 7f                      |   i32.const 4294967295"
-        self.assertEqual(self.kinds(ours, theirs), ["signs"])
-        self.assertEqual(self.kinds(ours, theirs.replace("i32", "i64")), ["other"])
-
-    def test_locals(self):
-        ours = " 000031: 02 7e                      | local[3..4] type=i64"
-        self.assertEqual(self.kinds(ours, " 000031: 02 7e                      | local[0..1] type=i64"), ["locals"])
-        self.assertEqual(self.kinds(ours, " 000031: 02 7e                      | local[0..2] type=i64"), ["other"])
-
-    def test_counted(self):
-        counts, others = wabt.differences(["a", "b", "c"], ["a", "d"])
-        self.assertEqual((counts["lines"], counts["other"]), (3, 2))
-        self.assertEqual(others, ["line 2: 'b', and wabt has 'd'", "line 3: 'c', and wabt has None"])
-
-    def test_runs(self):
-        with tempfile.TemporaryDirectory() as folder:
-            status, seconds, memory = wabt.ran(["sh", "-c", "echo a; exit 3"], f"{folder}/text")
-            self.assertEqual(list(wabt.lines_of(f"{folder}/text")), ["a"])
-        self.assertEqual(status, 3)
-        self.assertTrue(0 <= seconds < 10 and 0 < memory < 100)
-
-
 class Modules(unittest.TestCase):
     def test_each_has_a_compiler(self):
         for name, (source, words) in wabt.MODULES.items():
             path = wabt.SOURCES / source
             self.assertIn(words[0], {".c": "clang", ".cc": "clang++", ".wat": "wat2wasm"}[path.suffix], name)
             self.assertTrue(path.exists(), name)
-
-
-if __name__ == "__main__":
-    unittest.main()
