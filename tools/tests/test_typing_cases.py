@@ -4,6 +4,7 @@ from collections import Counter
 from pathlib import Path
 
 import typing_cases as typing
+from shared.crates import TOP
 from typing_cases import Case
 
 HEAD = bytes.fromhex("0061736d01000000")
@@ -30,6 +31,18 @@ class Table(unittest.TestCase):
             self.assertTrue(it.module.startswith(HEAD))
             self.assertFalse(it.verdict == "valid" and it.offset)
             self.assertFalse(it.verdict == "invalid" and not it.message)
+
+    def test_rows_of_the_checker(self):
+        """A row of wasm_tests_check has the verdict of its case, and a body of its module."""
+        cases = {f"{it.name}, {it.label}": it for it in typing.cases_of()}
+        rows = [line.split("\t") for line in (TOP / "crates/wasm_tests_check/stdin").read_text(encoding="utf-8").splitlines()]
+        by_hand = [cells for cells in rows if cells[0] not in cases]
+        self.assertEqual({cells[0].split(", ")[0] for cells in by_hand}, {"locals", "constant"})
+        self.assertEqual((len(rows), len(by_hand)), (6123, 26))
+        for cells in (it for it in rows if it[0] in cases):
+            case = cases[cells[0]]
+            self.assertEqual(cells[-1], "valid" if case.is_valid else "invalid", cells[0])
+            self.assertIn(bytes.fromhex(cells[-2]), case.module, cells[0])
 
 
 class Compared(unittest.TestCase):
