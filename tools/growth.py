@@ -15,11 +15,11 @@ import sys
 import tempfile
 from html import escape
 
-import large_bodies
+import large
 from shared import svg
 from shared.arguments import read
 
-FIGURE = large_bodies.TOP / "docs" / "growth.svg"
+FIGURE = large.TOP / "docs" / "growth.svg"
 ROUNDS = 20
 PASSES = 3
 # Title, unit of time, sizes.
@@ -100,10 +100,10 @@ def figure(series):
 
 def main():
     given = read(__doc__, "--rounds N", "--passes N", "--figure FILE")
-    if not large_bodies.LIBRARY.exists():
-        sys.exit(f"{large_bodies.LIBRARY}: not built; run `rt lib` in crates/wasm_bench")
+    if not large.LIBRARY.exists():
+        sys.exit(f"{large.LIBRARY}: not built; run `rt lib` in crates/wasm_bench")
     with tempfile.TemporaryDirectory() as folder:
-        driver = large_bodies.built_driver(folder)
+        driver = large.built_driver(folder)
         series = passes(given.passes or PASSES, lambda name: measured(driver, name, given.rounds or ROUNDS))
     print("| Body | Bytes | Time | Memory without the body |\n|---|---|---|---|")
     print("\n".join(row for name, found in series.items() for row in rows(name, found)))
