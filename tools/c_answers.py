@@ -28,10 +28,9 @@ by hand, code sections by the rules of the standard (Binary Format, Modules, Cod
 
 import re
 
-from shared import leb128
+from shared import leb128, modules
 from shared.arguments import read
 from shared.crates import TOP
-from shared.leb128 import unsigned
 from shared.tables import rows_of
 from shared.written import write_or_check
 from typing_cases import cases_of
@@ -94,7 +93,6 @@ CODE = (
 
 # Every so many cases of typing_cases.tsv are validated.
 EACH_CASE = 313
-SECTION_OF_CODE = 10
 # Modules and their verdicts.
 VALIDATIONS = (
     ("0061736d01000000", "ok"),
@@ -207,25 +205,21 @@ def encode_lines(text):
 def code_lines():
     lines = []
     for locals_, declared, operators in CODE:
-        body = bytes.fromhex(declared + operators)
-        entries = unsigned(1) + unsigned(len(body)) + body
-        lines.append(f"code\t{locals_}\t{operators}\t{(bytes([10]) + unsigned(len(entries)) + entries).hex()}")
+        entries = modules.vector([modules.sized(bytes.fromhex(declared + operators))])
+        lines.append(f"code\t{locals_}\t{operators}\t{modules.section(modules.CODE, entries).hex()}")
     return lines
 
 
 def function_at(module, offset):
     """Returns the index of the function whose body has an offset, in a module without imports, or `-` if none has it."""
-    at = 8
-    while at < len(module):
-        size, start = leb128.read(module, at + 1)
-        if module[at] == SECTION_OF_CODE and start <= offset:
-            count, next_ = leb128.read(module, start)
+    for number, _, start, _ in modules.sections(module):
+        if number == modules.CODE and start <= offset:
+            count, at = leb128.read(module, start)
             for index in range(count):
-                length, body = leb128.read(module, next_)
-                next_ = body + length
-                if body <= offset <= next_:
+                length, body = leb128.read(module, at)
+                at = body + length
+                if body <= offset <= at:
                     return index
-        at = start + size
     return "-"
 
 
