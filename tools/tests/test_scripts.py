@@ -36,8 +36,6 @@ class GateTable(unittest.TestCase):
         self.assertIn("| all | 7 | 2.0 | | 0.5 | 1 |", page)
         self.assertIn("took 2.1 minutes wall-clock on 4 processors, and 3.1 CPU minutes", page)
         self.assertIn("`2 passed, 1 failed`. Alone.\n", page)
-        self.assertIn("A proof takes 17.1 seconds per function.", page)
-        self.assertIn("About 0 of the minutes of edits", page)
         self.assertEqual(page.count("| all |"), 1)
 
     def test_ten_rows(self):
@@ -48,8 +46,6 @@ class GateTable(unittest.TestCase):
 
     def test_of_two_runs(self):
         behind = "cost wasm_low proof 60 30\ncost all 60 60 4\n3 passed, 0 failed\n"
-        other = "rt: must-fail wasm_low/lost.edit: refused, as it must be: src/lib.rt:1:1: error\n"
-        self.assertIn("About 0.5 of the minutes of edits", gate_table.run_section(other + LOG))
         crates, whole, last = gate_table.read(LOG + LOG + behind)
         once, before, _ = gate_table.read(LOG)
         self.assertEqual(whole, (2 * before[0] + 60, 2 * before[1] + 60, 4))
@@ -287,7 +283,7 @@ class Run(unittest.TestCase):
                 self.assertTrue(os.access(path, os.X_OK))
                 self.assertTrue(run.line_of(path).endswith("."))
         self.assertTrue({"edits", "lists", "cases", "compactions", "blocks"} <= run.of_gate(found))
-        self.assertFalse({"growth", "bench", "clients"} & run.of_gate(found))
+        self.assertFalse({"large", "bench", "clients"} & run.of_gate(found))
 
 
 class Touches(unittest.TestCase):
