@@ -52,7 +52,7 @@ class Original(unittest.TestCase):
 
     def test_each_column_is_compared(self):
         for column, other in {
-            "proposal": "gc", "visit": "visit_nip", "prefix": "fc", "code": "05", "fields": "mem: u32",
+            "proposal": "gc", "text": "none", "visit": "visit_nip", "prefix": "fc", "code": "05", "fields": "mem: u32",
             "immediates": "unsigned", "signature": "[i32] -> []",
         }.items():
             ops = table()
