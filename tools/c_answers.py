@@ -22,8 +22,8 @@ The lines of the input have cells with tabs between them:
 
 The README of the program says which bodies it takes. The texts are from crates/wasm_tests_bodies/stdin and
 crates/wasm_objdump/data, the encodings from crates/wasm_tests_encode/stdin. Verdicts are from the standard and
-wasmparser 0.239 (tools/original/typing_cases.tsv), and by hand. values.tsv of the program, FUNCTIONS and CODE are made
-by hand, code sections by the rules of the standard (Binary Format, Modules, Code Section).
+wasmparser 0.239 (tools/original/typing_cases.tsv). FUNCTIONS and the tables values.tsv, code.tsv and validations.tsv of the
+program are written by hand from the standard.
 """
 
 import re
@@ -80,32 +80,13 @@ SHARED, NULLABLE, REFERENCE = 256, 512, 1024
 VALUES = CRATE / "values.tsv"
 # What the text of the first module in crates/wasm_tests_bodies/stdin says of its functions.
 FUNCTIONS = "1 102 6 1 main;2 109 4 2 other;"
-# For each declaration how many locals, and the kind and the index of their type; then the bytes of the declarations, and
-# of the operators.
-CODE = (
-    ("", "00", "0b"),
-    ("3 126 0;", "01037e", "20000b"),
-    ("0 127 0;127 125 0;128 123 0;4294967295 124 0;", "04007f7f7d80017bffffffff0f7c", "0b"),
-    ("1 1648 0;1 1136 0;1 1904 0;1 1392 0;", "0401700164700165700164" + "6570", "0b"),
-    ("1 1025 5;1 1537 200;1 1026 5;1 1538 1048575;", "0401640501" + "63c8010164620501" + "6362ffff3f", "0b"),
-    ("", "00", "01" * 200 + "0b"),
-)
-
+# Bodies: for each declaration how many locals, and the kind and the index of their type; then the bytes of the declarations,
+# and of the operators.
+CODE = CRATE / "code.tsv"
 # Every so many cases of typing_cases.tsv are validated.
 EACH_CASE = 313
 # Modules and their verdicts.
-VALIDATIONS = (
-    ("0061736d01000000", "ok"),
-    ("", "0x0 - unexpected end-of-file"),
-    ("0061736d0d000100", "0x4 - unknown binary version:    0x1000d"),
-    ("0061736d01000000010401600000030201050a040102000b", "0x11 - unknown type 5: type index out of bounds"),
-    ("0061736d01000000010401600000030201000a05010300ff0b", "0x17 0 illegal opcode: 0xff"),
-    (
-        "0061736d01000000010401600000020701016101620000030201000a0601040041000b",
-        "0x22 1 type mismatch: values remaining on stack at end of block",
-    ),
-    ("0061736d010000000108026000006000017f03030200010a090202000b040042000b", "0x21 1 type mismatch: expected i32, found i64"),
-)
+VALIDATIONS = CRATE / "validations.tsv"
 
 
 def rows(text):
@@ -204,9 +185,9 @@ def encode_lines(text):
 
 def code_lines():
     lines = []
-    for locals_, declared, operators in CODE:
-        entries = modules.vector([modules.sized(bytes.fromhex(declared + operators))])
-        lines.append(f"code\t{locals_}\t{operators}\t{modules.section(modules.CODE, entries).hex()}")
+    for row in rows_of(CODE):
+        entries = modules.vector([modules.sized(bytes.fromhex(row["declarations"] + row["operators"]))])
+        lines.append(f"code\t{row['locals']}\t{row['operators']}\t{modules.section(modules.CODE, entries).hex()}")
     return lines
 
 
@@ -231,7 +212,7 @@ def verdict_of(case):
 
 def validate_lines():
     taken_cases = [it for it in cases_of()[::EACH_CASE] if it.verdict != "unsupported"]
-    found = [*VALIDATIONS, *((it.module.hex(), verdict_of(it)) for it in taken_cases)]
+    found = [*map(dict.values, rows_of(VALIDATIONS)), *((it.module.hex(), verdict_of(it)) for it in taken_cases)]
     return [f"validate\t{module}\t{verdict}" for module, verdict in found]
 
 
