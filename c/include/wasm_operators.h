@@ -2,8 +2,8 @@
 /* The operators of WebAssembly function bodies: the header of libwasm_c.a, a decoder that is proved. C99 and C++.
  * docs/CALLERS.md has a first program. tools/lists.py writes the lists over the operators.
  *
- * The caller provides all memory. No pointer may be null, even if its length is 0. Calls may run on several threads at
- * once if each uses its own memory.
+ * The caller provides all memory. A pointer to an array may be null if the length is 0, and no other may. Calls may run
+ * on several threads at once if each uses its own memory.
  *
  * A call that sets `*refusal` returns 0, or the number of the refusal. Then nothing else changes, unless the call says
  * otherwise. `offset` is the offset of the first byte of `bytes`. A call with `features` fails with
