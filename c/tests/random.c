@@ -1,7 +1,8 @@
 /* random CALLS MODULE..: calls the library on changed and cut modules, and on random structs.
  *
- * An array of length 0 may be null. A call that fails may change only `*refusal`, and a text's length. A body lies within its module. The first call that
- * does otherwise is named, and the status is 1. An operator without a list that is written is read again. */
+ * An array of length 0 may be null. A call that fails may change only `*refusal`, and a text's length. A body lies within
+ * its module. The first call that does otherwise is named, and the status is 1. An operator without a list that is written
+ * is read again. */
 #include "wasm_operators.h"
 
 #include <stdint.h>
