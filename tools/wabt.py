@@ -3,7 +3,6 @@
 
     tools/wabt.py stored [wasm_objdump]     compares the modules in crates/wasm_objdump/data, and runs on damaged ones
     tools/wabt.py objdump MODULE..          compares other modules with `wasm-objdump -d`
-    tools/wabt.py modules FOLDER            makes modules of several kinds with clang, for `objdump`
 
 `--program PROGRAM` is the program that `stored` and `objdump` run, in place of those that `rt ci` or `rt run` built. Only
 `stored` needs no wabt (`apt-get install wabt`; tried with 1.0.32).
@@ -15,10 +14,7 @@ status 1 and messages. On a prefix with the whole code section it must list all 
 
 `objdump`: for each module it prints how many lines differ, by the kinds that docs/OBJDUMP.md explains and others, and the
 CPU seconds (least of three runs) and the memory of both. The status is 1 if a line differs otherwise, or the two statuses
-differ.
-
-`modules` needs `apt-get install clang lld wabt wasi-libc libclang-rt-14-dev-wasm32 libc++-14-dev-wasm32
-libc++abi-14-dev-wasm32` (tried with clang 14).
+differ. tools/modules makes modules for it.
 """
 
 import itertools
@@ -190,43 +186,10 @@ def other_modules(given):
         return not all([compared(programs[0], module, folder) for module in given.words])
 
 
-WASI = ["--target=wasm32-wasi"]
-BARE = ["--target=wasm32", "-nostdlib", "-Wl,--no-entry", "-Wl,--export-all"]
-CPP = [*WASI, "-fno-exceptions", "-std=c++20"]
-SOURCES = TOP / "tools" / "modules"
-MODULES = {
-    "library": ("library.c", ["clang", *WASI, "-O2"]),
-    "library_small": ("library.c", ["clang", *WASI, "-Oz", "-Wl,--strip-all"]),
-    "library_whole": ("library.c", ["clang", *WASI, "-O0", "-g", "-Wl,--whole-archive", "-lc", "-Wl,--no-whole-archive"]),
-    "vectors": ("vectors.c", ["clang", *BARE, "-O3", "-msimd128"]),
-    "threads": ("threads.c", ["clang", *BARE, "-O2", "-pthread", "-matomics", "-mbulk-memory", "-Wl,--shared-memory,--max-memory=131072"]),
-    "tails": ("tails.c", ["clang", *BARE, "-O2", "-mtail-call"]),
-    "throws": ("throws.cc", ["clang++", *BARE, "-O1", "-fwasm-exceptions", "-Wl,--allow-undefined"]),
-    "exceptions": ("exceptions.wat", ["wat2wasm", "--enable-exceptions", "--debug-names"]),
-    "large": ("large.cc", ["clang++", *CPP, "-O1", "-DCOUNT=24"]),
-    "larger": ("large.cc", ["clang++", *CPP, "-O0", "-DCOUNT=96"]),
-}
-
-
-def made_modules(given):
-    if len(given.words) != 1:
-        return "name a folder"
-    folder = Path(given.words[0])
-    folder.mkdir(parents=True, exist_ok=True)
-    for name, (source, words) in MODULES.items():
-        module = folder / f"{name}.wasm"
-        made = subprocess.run([*words, str(SOURCES / source), "-o", str(module)], stderr=subprocess.PIPE)
-        if made.returncode:
-            return f"{name}: {made.stderr.decode(errors='replace')}"
-        print(f"{module}: {module.stat().st_size:,} bytes: {' '.join(words)}", flush=True)
-    return 0
-
-
 # Each command, and the program that it needs.
 COMMANDS = {
     "stored": (stored_modules, None),
     "objdump": (other_modules, THEIRS[0]),
-    "modules": (made_modules, "clang"),
 }
 
 

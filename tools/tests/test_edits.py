@@ -1,6 +1,5 @@
 import io
 import os
-import subprocess
 import tempfile
 import unittest
 from contextlib import redirect_stdout
@@ -87,22 +86,6 @@ class MoreMustFail(unittest.TestCase):
         folder = tempfile.TemporaryDirectory()
         self.addCleanup(folder.cleanup)
         self.folder = Path(folder.name)
-
-    def test_copy(self):
-        top = self.folder / "checkout"
-        for name in ("crates.txt", "README.md", "crates/low/src/lib.rt", "crates/low/out/low"):
-            (top / name).parent.mkdir(parents=True, exist_ok=True)
-            (top / name).write_text(name)
-        (top / ".gitignore").write_text("out/\n")
-        subprocess.run(["git", "init", "-q", top], check=True)
-        copy = self.folder / "copy"
-        with mock.patch.object(edits, "TOP", top):
-            edits.copied(copy)
-            (copy / "crates" / "left_over").mkdir()
-            edits.copied(copy)
-        files = sorted(str(path.relative_to(copy)) for path in copy.glob("**/*") if path.is_file())
-        self.assertEqual(files, ["crates.txt", "crates/low/src/lib.rt"])
-        self.assertFalse((copy / "crates" / "left_over").exists())
 
     def test_exchange(self):
         for name, has_more in {"high": True, "low": True, "other": False}.items():

@@ -1,9 +1,6 @@
-import io
-import os
 import tempfile
 import time
 import unittest
-from contextlib import redirect_stdout
 from pathlib import Path
 from unittest import mock
 
@@ -95,18 +92,6 @@ class Pool(unittest.TestCase):
         self.assertEqual(order({"a", "b", "b/1", "new", "d"}), ["new", "d", "b", "a"])
         self.assertEqual(order({"a", "b"}), ["a", "b"])
 
-    def test_memory(self):
-        self.assertEqual(pool.free_memory("MemTotal: 9 kB\nMemAvailable:     3 kB\n"), 3072)
-        self.assertIsNone(pool.free_memory("MemTotal: 9 kB\n"))
-        with tempfile.TemporaryDirectory() as folder:
-            self.assertIsNone(pool.group_memory(Path(folder)))
-            for name, text in (("memory.max", "500\n"), ("memory.current", "200\n")):
-                (Path(folder) / name).write_text(text, encoding="ascii")
-            self.assertEqual(pool.group_memory(Path(folder)), 300)
-            (Path(folder) / "memory.max").write_text("max\n", encoding="ascii")
-            self.assertIsNone(pool.group_memory(Path(folder)))
-        self.assertTrue(1 <= pool.jobs_at_once() <= len(os.sched_getaffinity(0)))
-
     def results(self, *jobs, count=2):
         wanted = {it for job in jobs for it in job.items}
         return {item: not faults for item, faults, _, _ in pool.results(jobs, None, wanted, count)}
@@ -138,19 +123,6 @@ class Running(unittest.TestCase):
         ran = running.run(["sh", "-c", "sleep 100 & sleep 100"], 0.2, "/")
         self.assertEqual(ran.failure(0.2), "not finished after 0.2 s, killed")
         self.assertLess(time.monotonic() - began, 50)
-
-
-class Scripts(unittest.TestCase):
-    def test_over_programs(self):
-        for given, run, wanted in (
-            (Path(__file__), (3, []), (False, "it: 3 run, 0 wrong\n")),
-            (Path(__file__), (0, []), (True, "it: 0 run, 0 wrong\n")),
-            (Path(__file__), (3, ["case: wrong"]), (True, "test_testing.py, case: wrong\nit: 3 run, 1 wrong\n")),
-            (Path("/b"), (3, []), (True, "a: /b is missing\nit: 0 run, 1 wrong\n")),
-        ):
-            with redirect_stdout(io.StringIO()) as out:
-                is_wrong = built.over_programs("it", ["a"], given, lambda program, name: run)
-            self.assertEqual((is_wrong, out.getvalue()), wanted)
 
 
 class SelfTest(unittest.TestCase):

@@ -52,11 +52,3 @@ class Stored(unittest.TestCase):
         # a run that ends with no complaint, and one that is killed
         self.assertEqual(len(self.faults(b"ya", b"ya")[0]), 2)
         self.assertEqual(len(self.faults(b"za", b"za")[0]), 2)
-
-
-class Modules(unittest.TestCase):
-    def test_each_has_a_compiler(self):
-        for name, (source, words) in wabt.MODULES.items():
-            path = wabt.SOURCES / source
-            self.assertIn(words[0], {".c": "clang", ".cc": "clang++", ".wat": "wat2wasm"}[path.suffix], name)
-            self.assertTrue(path.exists(), name)
