@@ -68,12 +68,9 @@ TYPES = {"I32": "127 0", "V128": "123 0", "?Func": "1648 0"}
 HANDLERS = {
     "one": "0 {} {}", "oneref": "1 {} {}", "all": "2 0 {}", "allref": "3 0 {}", "label": "0 {} {}", "switch": "1 {} 0",
 }
-# The byte of each abstract heap type.
-HEAPS = {
-    "NoCont": 0x75, "NoExn": 0x74, "NoFunc": 0x73, "NoExtern": 0x72, "None": 0x71, "Func": 0x70, "Extern": 0x6F,
-    "Any": 0x6E, "Eq": 0x6D, "I31": 0x6C, "Struct": 0x6B, "Array": 0x6A, "Exn": 0x69, "Cont": 0x68,
-}
-NUMBERS = {"I32": 0x7F, "I64": 0x7E, "F32": 0x7D, "F64": 0x7C, "V128": 0x7B}
+# The bytes of types, by their names in capital letters.
+BYTES = {name: int(byte, 16) for name, byte in re.findall(r"WASM_KIND_(\w+) = (0x\w+)", HEADER.read_text(encoding="utf-8"))}
+NUMBERS = ("I32", "I64", "F32", "F64", "V128")
 # Added for a shared heap type, a nullable reference, and a reference that is a value type.
 SHARED, NULLABLE, REFERENCE = 256, 512, 1024
 # By the standard: kind, argument, bytes, and the numbers in C and the position after; or the error and its offset.
@@ -120,12 +117,12 @@ def heap_kind(word):
     if word[0] in "#=":
         return (1 if word[0] == "#" else 2), int(word[1:])
     shared = word.startswith("shared-")
-    return HEAPS[word.removeprefix("shared-")] + SHARED * shared, 0
+    return BYTES[word.removeprefix("shared-").upper()] + SHARED * shared, 0
 
 
 def type_numbers(word):
     if word in NUMBERS:
-        return NUMBERS[word], 0
+        return BYTES[word.upper()], 0
     kind, index = heap_kind(word[1:])
     return kind + NULLABLE * (word[0] == "?") + REFERENCE, index
 

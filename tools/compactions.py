@@ -35,27 +35,13 @@ from testing.built import built, missing
 
 NAME = "wasm_compact"
 DATA = TOP / "crates" / NAME / "data"
-REENCODER = Path(__file__).resolve().parent / "compactions.rs"
+REENCODER = Path(__file__).resolve().parent / "reencoder"
 SECONDS = 60
 SMITH = 200
 FLIPS = (0x01, 0x2F, 0x80)
 CODE = 10
 KEPT = {b"name", b"producers", b"target_features", b"dylink.0", b"go.buildid"}
 OFFSETS = re.compile(rb"\.debug_.*|sourceMappingURL|external_debug_info|build_id|metadata\.code\..*", re.S)
-MANIFEST = """\
-[package]
-name = "compactions"
-version = "0.0.0"
-edition = "2021"
-[[bin]]
-name = "compactions"
-path = "main.rs"
-[dependencies]
-wasm-encoder = { version = "0.239", features = ["wasmparser"] }
-wasmparser = "0.239"
-[profile.dev]
-debug-assertions = false
-"""
 # wasm-tools 1.239 reads the bit of a multibyte array access as an alignment of 2^32 or more.
 ARRAY_ACCESS = re.compile(rb"align=\d{10}")
 # A line of `wasm-objdump -d` without addresses and bytes. Lines with only bytes are left out.
@@ -113,12 +99,10 @@ class Engines(modules.Engines):
 
     def build_reencoder(self, folder):
         """Builds the program that writes bodies by wasm-encoder."""
-        folder.mkdir()
-        (folder / "Cargo.toml").write_text(MANIFEST, encoding="utf-8")
-        shutil.copy(REENCODER, folder / "main.rs")
+        shutil.copytree(REENCODER, folder)
         if why := self.build(folder):
             sys.exit(why)
-        self.reencoder = folder / "target" / "debug" / "compactions"
+        self.reencoder = folder / "target" / "debug" / "reencoder"
 
     def bodies(self, path):
         """Returns the bodies that wasm-encoder writes, or None if it can't read them."""

@@ -27,24 +27,7 @@ CHART = TOP / "docs" / "gate.svg"
 ROWS = 10
 COLOURS = {"proof": "#1f5fa8", "edits": "#b3541e"}
 
-RUN = """
-## {count} processors
-
-`rt ci` took {wall} minutes wall-clock on {count} processors, and {processor} CPU minutes. The run ended with \
-`{last}`.{note}
-
-| Crate | Functions | Proof | Wall | Edits | Number of edits |
-|---|---|---|---|---|---|
-"""
-
-OUTSIDE = """
-## Must-fail edits outside the gate
-
-`tools/run edits --more` tries the edits in `crates/*/more-must-fail.edits`. The prover rejected these numbers of them at these commits. The gate had tried the edits that moved here since:
-
-| Crate | Edits | Commit | Date |
-|---|---|---|---|
-"""
+RUN, OUTSIDE = ((TOP / f"tools/pages/gate-{name}.md.txt").read_text(encoding="utf-8") for name in ("run", "outside"))
 
 
 class Crate:

@@ -6,58 +6,9 @@ import blocks
 import contracts
 from pages.blocks import EXCEPTED, Block, blocks_of
 
-PAGE = """\
-Run `rt version`, then `tools/run edges` or `tools/test`; `tools/operators.tsv` is a table.
-
-```sh
-one
-two
-```
-
-- An item:
-
-  ```c
-  int a;
-    int b;
-  ```
-
-prints
-
-    first
-
-    second
-
-The end.
-"""
-SOURCE = """\
-impl<'a> Model for Reader<'a> {
-    fn next(&self) -> u8
-        ensures { result ≡ 9 }
-    {
-    }
-}
-
-impl<'a> Reader<'a> {
-    /// Returns a byte.
-    pub fn next(
-        &mut self,
-        limit: usize,
-    ) -> Result<u8>
-    where
-        Self: Sized,
-        // The limit is small.
-        requires { limit.entry < 3 }
-        ensures value { IfOk result (λ b. { b } ≡ self.old.bytes) }
-        ensures { self.new ≡ self.old }
-    {
-        body
-    }
-
-    pub fn unsaid(&self) -> u8 {
-        0
-    }
-}
-"""
+DATA = Path(__file__).parent / "data"
+PAGE = (DATA / "page.txt").read_text(encoding="utf-8")
+SOURCE = (DATA / "reader.rt.txt").read_text(encoding="utf-8")
 
 
 class Finding(unittest.TestCase):

@@ -3,45 +3,9 @@ from pathlib import Path
 
 from pages import rows, specs
 
+DATA = Path(__file__).parent / "data"
 TOP = Path(__file__).resolve().parent.parent.parent
-SPEC = """\
--- Numbers as bytes.
--- WebAssembly Core Specification 3.0, Binary Format, Values: Bytes, Integers; proposal wide arithmetic.
-use Rattle.wasm_low.specs.Other.{Length}
-
--- The bytes encode `n`, a number. The last
--- byte ends it. Vector Instructions.
---   uN ::= n:byte
-abbrev pub Encodes : Type 0
-
--- The same for a signed number. `Lacks` is about a message.
-abbrev pub EncodesSigned : Type 0
-
-abbrev pub Lacks : Type 0
-Lacks = Unit {0}
-
--- As `Encodes`, for a number of 64 bits.
-abbrev pub EncodesLong : Type 0
-
-abbrev pub Bare : Type 0
-
--- A kind of number. Proposal threads.
-pub data Kind : Type 0 where
-  short long : Kind
-  other : ℕ → Kind
-
--- The state.
-pub record State : Type 0 where
-  -- The first field.
-  pub first : ℕ
-
--- The lengths of both.
-abbrev mutual
-  pub one_length : ℕ
-
-  -- The second length.
-  pub other_length : ℕ
-"""
+SPEC = (DATA / "words.antt.txt").read_text(encoding="utf-8")
 
 
 def file(text=SPEC, crate="wasm_low", name="Words"):

@@ -16,6 +16,7 @@ import trust
 from packing import builds, installed, manual, package, rattle, release, shared_library, texts, trial
 from testing.crates import Crates
 
+DATA = Path(__file__).parent / "data"
 TOP = Path(__file__).resolve().parent.parent.parent
 
 
@@ -58,24 +59,8 @@ class Builds(Folders):
 
 
 # Commands in place of the kit's.
-RT = """\
-#!/bin/sh
-ls crates > ../seen
-mkdir -p crates/low/out/rlib/low.rlib crates/prog/out
-echo low > crates/low/out/rlib/low.rlib/format
-echo program > crates/prog/out/prog
-echo "fn low: proved"
-echo "rt: ok; handles allowed: none"
-echo "$RESULT"
-[ "$RESULT" = "4 passed, 0 failed" ]
-"""
-RATTLE = """\
-#!/bin/sh
-for word; do last=$word; done
-echo compiled > "$last"
-echo "  libc::write   reached"
-echo "$VERDICT"
-"""
+RT = (DATA / "rt.sh").read_text(encoding="utf-8")
+RATTLE = (DATA / "rattle.sh").read_text(encoding="utf-8")
 
 
 class Proved(Folders):
@@ -142,18 +127,7 @@ class Package(Folders):
         self.assertIn("WASM_OPERATORS_LIBRARIES=$PWD/dist/lib", script)
 
 
-HELP = """\
-Usage: wasm_objdump [OPTION].. [FILE]..
-
-Lists modules. Reads
-.dot
-
-  -h, --headers    list the sections
-      --features WORD  all, none, or names: multi_memory,
-                   memory64
-
-The exit status is 0.
-"""
+HELP = (DATA / "help.txt").read_text(encoding="utf-8")
 
 
 class Manual(Folders):

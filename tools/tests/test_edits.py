@@ -8,6 +8,7 @@ from unittest import mock
 
 import edits
 
+DATA = Path(__file__).parent / "data"
 SOURCE = "fn low() -> u8 {\n    1\n}\n\nfn high() -> u8 {\n    1 + 1\n}\n"
 
 
@@ -71,14 +72,7 @@ class Edits(unittest.TestCase):
         self.assertEqual(edits.bad_in_log(f"rt: wasm_low proved\n{bad}\n1 passed, 0 failed\n"), [bad])
 
 
-LOG = """\
-rt: wasm_low is kept: an earlier run on this machine proved the same files over the same libraries
-rt: must-fail wasm_low/turned.edit: refused, as it must be: src/lib.rt:1:1: error
-rt: must-fail wasm_low/slow.edit: refused, as it must be (only by a limit of the prover, which gave no verdict)
-rt: must-fail wasm_low/lost.edit: NOT REFUSED: the crate is still proved with this edit
-rt: must-fail wasm_low/bad.edit: BAD EDIT: an 'old:' text is in src/lib.rt 0 times
-1 passed, 1 failed (wasm_low and the crates below alone: not the gate)
-"""
+LOG = (DATA / "must-fail.log").read_text(encoding="utf-8")
 
 
 class MoreMustFail(unittest.TestCase):

@@ -15,18 +15,8 @@ import gate_table
 import timed
 from pages import specs
 
-LOG = """\
-== wasm_low
-logic=proved functions=7 axioms=8
-rt: wasm_low proved
-rt: must-fail wasm_low/turned.edit: refused, as it must be: src/lib.rt:1:1: error
-rt: must-fail wasm_low/lost.edit: NOT REFUSED: the crate is still proved with this edit
-2 passed, 1 failed
-cost wasm_low proof 120 90
-cost wasm_low edits 30 31
-cost all 186 126 4
-2 passed, 1 failed
-"""
+DATA = Path(__file__).parent / "data"
+LOG = (DATA / "gate.log").read_text(encoding="utf-8")
 
 
 class GateTable(unittest.TestCase):
@@ -159,16 +149,7 @@ class Cases(unittest.TestCase):
 
 
 # Rows that allocate twice if the argument is `short`, first to be read.
-COUNTS_ROWS = """\
-#!/bin/sh
-[ "$1" = short ] || exit 2
-case "$REFUSED_ALLOCATION" in 1 | 2) printf ! > "/dev/fd/$REFUSAL_TOLD" ;; esac
-case "$REFUSED_ALLOCATION" in
-1) echo 'the rows could not be read: out of memory' && exit 1 ;;
-2) echo '7 rows, 0 differ, 1 out of memory' ;;
-*) echo '7 rows, 0 differ' ;;
-esac
-"""
+COUNTS_ROWS = (DATA / "rows.sh").read_text(encoding="utf-8")
 
 
 class Allocations(unittest.TestCase):
@@ -197,37 +178,7 @@ class Allocations(unittest.TestCase):
                 self.assertEqual((count, not wrong), (2, is_well))
 
 
-SOURCE = """\
-ghost use Rattle.std.specs.Prelude.{◌≡◌, IfOk};
-ghost use Rattle.wasm_low.specs.Words.{Encodes, Hidden, Long as Brief};
-ghost use Rattle.wasm_low.specs.base.Source.{Reader};
-ghost use Rattle.wasm_low.specs.declared.error.Error.{Error};
-
-impl Reader {
-    /// Reads.
-    pub fn read(
-        &mut self,
-    ) -> Result<u32>
-        requires { Brief self.old }
-        // (Hidden is not said)
-        ensures ok { IfOk result (λ n.
-            Encodes n) }
-    {
-        Hidden(1)
-    }
-
-    fn inner(&self) -> u32
-        ensures { Hidden result }
-    {
-        1
-    }
-}
-
-pub trait Reads {
-    fn of(&self) -> u32
-        ensures { Encodes result };
-}
-"""
+SOURCE = (DATA / "contracts.rt.txt").read_text(encoding="utf-8")
 
 
 # What the names in `specs` of two crates lead to.
