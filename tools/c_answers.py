@@ -22,8 +22,8 @@ The lines of the input have cells with tabs between them:
 
 The README of the program says which bodies it takes. The texts are from crates/wasm_tests_bodies/stdin and
 crates/wasm_objdump/data, the encodings from crates/wasm_tests_encode/stdin. Verdicts are from the standard and
-wasmparser 0.239 (tools/original/typing_cases.tsv). FUNCTIONS and the tables values.tsv, code.tsv and validations.tsv of the
-program are written by hand from the standard.
+wasmparser 0.239 (tools/original/typing_cases.tsv). FUNCTIONS and the tables values.tsv, code.tsv and validations.tsv of
+the program are written by hand from the standard.
 """
 
 import re
@@ -69,7 +69,8 @@ HANDLERS = {
     "one": "0 {} {}", "oneref": "1 {} {}", "all": "2 0 {}", "allref": "3 0 {}", "label": "0 {} {}", "switch": "1 {} 0",
 }
 # The bytes of types, by their names in capital letters.
-BYTES = {name: int(byte, 16) for name, byte in re.findall(r"WASM_KIND_(\w+) = (0x\w+)", HEADER.read_text(encoding="utf-8"))}
+KIND = re.compile(r"WASM_KIND_(\w+) = (0x\w+)")
+BYTES = {name: int(byte, 16) for name, byte in KIND.findall(HEADER.read_text(encoding="utf-8"))}
 NUMBERS = ("I32", "I64", "F32", "F64", "V128")
 # Added for a shared heap type, a nullable reference, and a reference that is a value type.
 SHARED, NULLABLE, REFERENCE = 256, 512, 1024
@@ -77,8 +78,8 @@ SHARED, NULLABLE, REFERENCE = 256, 512, 1024
 VALUES = CRATE / "values.tsv"
 # What the text of the first module in crates/wasm_tests_bodies/stdin says of its functions.
 FUNCTIONS = "1 102 6 1 main;2 109 4 2 other;"
-# Bodies: for each declaration how many locals, and the kind and the index of their type; then the bytes of the declarations,
-# and of the operators.
+# Bodies: for each declaration how many locals, and the kind and the index of their type; then the bytes of the
+# declarations, and of the operators.
 CODE = CRATE / "code.tsv"
 # Every so many cases of typing_cases.tsv are validated.
 EACH_CASE = 313

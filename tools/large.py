@@ -4,8 +4,8 @@
     tools/large.py bodies [PROGRAM]             lists bodies by `wasm_dump`, and visits bodies by wasm_bench
     tools/large.py modules PROGRAM [NAME..]     validates modules by `wasm_validate`; NAME is one of them
 
-Each program runs on an input of some size, and on one of half that size. Its output must be as computed here. CPU time and
-memory may be at most LINEAR times those for the half.
+Each program runs on an input of some size, and on one of half that size. Its output must be as computed here. CPU time
+and memory may be at most LINEAR times those for the half.
 
 `rt run` and `rt ci` build `crates/wasm_dump/out/wasm_dump`, the PROGRAM of bodies. Bodies are nested blocks, blocks in
 sequence, large branch tables, locals, and `nop`. If `rt lib` has built crates/wasm_bench/out/libwasm_bench.a,
@@ -112,6 +112,10 @@ def nops(n):
     return b"\0" + b"\x01" * n + b"\x0b"
 
 
+def with_an_error(n):
+    return 1, "error at 2: br_table size is out of bounds\n", 0
+
+
 def listed(count):
     """Returns the end of a listing: status, messages and number of lines."""
     return lambda n: (0, "", count(n))
@@ -122,7 +126,7 @@ BODIES = {
     "nested": (nested, 1000000, listed(lambda n: 2 * n + 1)),
     "alternating": (alternating, 1000000, listed(lambda n: 2 * n + 1)),
     "targets": (targets, MOST_TARGETS, listed(lambda n: 2)),
-    "too many targets": (too_many_targets, MOST_TARGETS, lambda n: (1, "error at 2: br_table size is out of bounds\n", 0)),
+    "too many targets": (too_many_targets, MOST_TARGETS, with_an_error),
     "locals": (locals_one_by_one, 50000000, listed(lambda n: 1)),
     "nops": (nops, 5000000, listed(lambda n: n + 1)),
 }
@@ -216,7 +220,8 @@ def set_locals(n):
     declared = vector([unsigned(many) + b"\x64\0"])
     body = b"".join(b"\xd2\0\x21" + unsigned(i) for i in range(many)) + b"\x20\0\x1a" * n + END
     # The function refers to itself, so an element segment declares it.
-    return module({1: vector([NO_FUNCTION]), 3: vector([b"\0"]), 9: b"\1\3\0\1\0", 10: vector([sized(declared + body)])})
+    elements, code = b"\1\3\0\1\0", vector([sized(declared + body)])
+    return module({1: vector([NO_FUNCTION]), 3: vector([b"\0"]), 9: elements, 10: code})
 
 
 def results(n):
@@ -262,7 +267,7 @@ def main():
         sys.exit(f"{given.kind}: large inputs are bodies or modules")
     program = (given.program or PROGRAM).resolve()
     if not program.exists() or (given.kind == "modules" and not given.program):
-        sys.exit(f"{program}: not built; `rt run` in the folder of its crate builds it" if given.program else "name a program")
+        sys.exit(f"{program}: not built; `rt run` in its crate builds it" if given.program else "name a program")
     with tempfile.TemporaryDirectory() as made:
         folder, names = Path(made), given.names or MODULES
         found = list(large_bodies(program, folder) if given.kind == "bodies" else large_modules(program, names, folder))

@@ -11,8 +11,8 @@ and nothing for the others.
 Verdicts are compared, and the offsets of errors.
 
 The cases are in tools/original/typing_cases.tsv. A module is valid or not by the standard, or unsupported: it uses a
-proposal without typing rules in this repository. Offset and message are from wasmparser 0.239 with all its features; for
-unsupported modules, with its default ones. A cell with only `"` is the same as in the row before. A module is
+proposal without typing rules in this repository. Offset and message are from wasmparser 0.239 with all its features;
+for unsupported modules, with its default ones. A cell with only `"` is the same as in the row before. A module is
 `FIRST,LAST,HEX`: so many bytes of the module before, these, and so many of its last bytes.
 """
 

@@ -7,10 +7,11 @@
 `--program PROGRAM` is the program that `stored` and `objdump` run, in place of those that `rt ci` or `rt run` built. Only
 `stored` needs no wabt (`apt-get install wabt`; tried with 1.0.32).
 
-`stored`: for NAME.wasm the program must write NAME.txt, which `wasm-objdump -d` of wabt wrote, with `-h` NAME.sections.txt
-and, if there are such files, with `-x` NAME.details.txt and with `-s` NAME.contents.txt. Then it runs on each proper prefix
-of the module, and on the module with each byte changed. Each run must end in time, with status 0 and no message, or with
-status 1 and messages. On a prefix with the whole code section it must list all functions, on another none.
+`stored`: for NAME.wasm the program must write NAME.txt, which `wasm-objdump -d` of wabt wrote, with `-h`
+NAME.sections.txt and, if there are such files, with `-x` NAME.details.txt and with `-s` NAME.contents.txt. Then it runs
+on each proper prefix of the module, and on the module with each byte changed. Each run must end in time, with status 0
+and no message, or with status 1 and messages. On a prefix with the whole code section it must list all functions, on
+another none.
 
 `objdump`: for each module it prints how many lines differ, by the kinds that docs/OBJDUMP.md explains and others, and the
 CPU seconds (least of three runs) and the memory of both. The status is 1 if a line differs otherwise, or the two statuses

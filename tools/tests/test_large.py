@@ -28,7 +28,8 @@ class Large(unittest.TestCase):
     def test_outputs(self):
         self.assertEqual(self.faults(COUNTS, "nops"), ([], []))
         listed, _ = self.faults(COUNTS, "nested")
-        self.assertEqual(listed, [f"listed: nested: {n}: (0, '', {3 * n + 1}); expected (0, '', {2 * n + 1})" for n in (500, 1000)])
+        text = "listed: nested: {}: (0, '', {}); expected (0, '', {})"
+        self.assertEqual(listed, [text.format(n, 3 * n + 1, 2 * n + 1) for n in (500, 1000)])
         listed, validated = self.faults(REFUSES, "nops")
         self.assertEqual((len(listed), len(validated)), (2, 2))
 

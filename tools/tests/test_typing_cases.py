@@ -35,7 +35,8 @@ class Table(unittest.TestCase):
     def test_rows_of_the_checker(self):
         """A row of wasm_tests_check has the verdict of its case, and a body of its module."""
         cases = {f"{it.name}, {it.label}": it for it in typing.cases_of()}
-        rows = [line.split("\t") for line in (TOP / "crates/wasm_tests_check/stdin").read_text(encoding="utf-8").splitlines()]
+        text = (TOP / "crates/wasm_tests_check/stdin").read_text(encoding="utf-8")
+        rows = [line.split("\t") for line in text.splitlines()]
         by_hand = [cells for cells in rows if cells[0] not in cases]
         self.assertEqual({cells[0].split(", ")[0] for cells in by_hand}, {"locals", "constant"})
         self.assertEqual((len(rows), len(by_hand)), (6123, 26))
