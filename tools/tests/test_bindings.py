@@ -3,6 +3,7 @@ import unittest
 from pathlib import Path
 
 import cargo
+import clients
 import header
 from table import shared, table
 
@@ -74,3 +75,14 @@ class Bindings(unittest.TestCase):
             crate.split("const VERSION: u32 = ")[1].split(";")[0],
         ]
         self.assertEqual(len(set(versions)), 1, versions)
+
+
+class Clients(unittest.TestCase):
+    def test_each_change_has_a_cause(self):
+        rows = clients.changes()
+        self.assertEqual({row["cause"] for row in rows} - set(clients.CAUSES), set())
+        self.assertEqual({row["client"] for row in rows}, set(clients.PROGRAMS) - {"wasmparser"})
+
+    def test_a_program_for_each_client(self):
+        for source, *_ in clients.PROGRAMS.values():
+            self.assertTrue((clients.CLIENTS / f"{source}.rs").is_file())

@@ -9,6 +9,7 @@ from lists import files, left_over
 from rules import faults
 from shared.written import stale
 from table import COLUMNS, HEAD, rows_of, table
+from templates import FOLDER
 
 # Prefix byte and proposal of the groups that may grow. There are 256 SIMD operators already.
 GROUPS = {"Own": ("", "mvp"), "Gc": ("fb", "gc"), "Misc": ("fc", "bulk_memory"), "Atomic": ("fe", "threads")}
@@ -139,3 +140,15 @@ class Counts(unittest.TestCase):
             self.assertEqual(found, ["255 SIMD operators", "20 proposals"])
             found = [it.split(": ")[1] for it in wrong_counts([*table(), table()[0]], Path(folder))]
             self.assertEqual(found, ["628 operators", "255 SIMD operators", "20 proposals", "627 visits"])
+
+
+class Templates(unittest.TestCase):
+    def test_each_is_filled_in(self):
+        generators = "".join(path.read_text(encoding="utf-8") for path in FOLDER.parent.glob("*.py"))
+        for path in FOLDER.rglob("*.template"):
+            self.assertIn(f'"{path.relative_to(FOLDER).with_suffix("")}"', generators)
+
+    def test_rt_ci_takes_the_names(self):
+        top = FOLDER.parents[2]
+        sources = [it for suffix in ("rt", "antt") for folder in ("tools", "docs") for it in (top / folder).rglob(f"*.{suffix}")]
+        self.assertEqual(sources, [])

@@ -4,6 +4,7 @@ import re
 import unittest
 from pathlib import Path
 
+import first_change as it
 from immediates import KINDS
 from shared.crates import crates
 from table import COLUMNS, FEATURES, INLINE, ROLES, table
@@ -76,3 +77,13 @@ class Calling(unittest.TestCase):
         shown = [[re.findall(r"\w+", cell) for cell in row] for row in rows(section("crates/wasm_operators/CALLING.md", "Overriding visits"))]
         wanted = [(it.trait, str(len(it.of(table()))), f"Own{it.mark}") for it in GROUPS]
         self.assertEqual([(group[0], count[0], named[0]) for group, _, count, named in shown], wanted)
+
+
+class FirstChange(unittest.TestCase):
+    def test_the_change_is_on_the_page(self):
+        steps = it.steps(it.section())
+        path, old, new = it.BROKEN
+        for text in (path, f"`{old}`", f"`{new}`"):
+            self.assertIn(text, steps[2])
+        self.assertEqual((it.TOP / path).read_text(encoding="utf-8").count(old), 1)
+        self.assertEqual(len(it.blocks(steps[5])), 1)
