@@ -25,7 +25,6 @@ import shutil
 import subprocess
 import sys
 import tempfile
-from pathlib import Path
 
 from shared.arguments import read
 from shared.crates import TOP
