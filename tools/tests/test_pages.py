@@ -33,6 +33,15 @@ def rows(lines):
     return [[cell.strip() for cell in line[1:-1].split("|")] for line in lines if line.startswith("|")][2:]
 
 
+class Links(unittest.TestCase):
+    def test_relative_links_lead_to_files(self):
+        pages = [path for path in [*TOP.glob("*.md"), *TOP.glob("*/**/*.md")] if not {"out", "target"} & set(path.parts)]
+        for page in pages:
+            text = re.sub(r"```.*?```", "", page.read_text(encoding="utf-8"), flags=re.DOTALL)
+            for target in re.findall(r"\]\(([^)#\s:]+)(?:#[^)\s]*)?\)", text):
+                self.assertTrue((page.parent / target).exists(), f"{page.relative_to(TOP)}: {target}")
+
+
 class Architecture(unittest.TestCase):
     page = "docs/ARCHITECTURE.md"
 
