@@ -23,7 +23,6 @@ import resource
 import subprocess
 import sys
 import tempfile
-from pathlib import Path
 
 from shared.arguments import read
 from shared.crates import TOP

@@ -22,16 +22,15 @@ The lines of the input have cells with tabs between them:
 
 The README of the program says which bodies it takes. The texts are from crates/wasm_tests_bodies/stdin and
 crates/wasm_objdump/data, the encodings from crates/wasm_tests_encode/stdin. Verdicts are from the standard and
-wasmparser 0.239 (tools/original/typing_cases.tsv), and by hand. values.tsv of the program, FUNCTIONS and CODE are made
-by hand, code sections by the rules of the standard (Binary Format, Modules, Code Section).
+wasmparser 0.239 (tools/original/typing_cases.tsv). FUNCTIONS and the tables values.tsv, code.tsv and validations.tsv of
+the program are written by hand from the standard.
 """
 
 import re
 
-from shared import leb128
+from shared import leb128, modules
 from shared.arguments import read
 from shared.crates import TOP
-from shared.leb128 import unsigned
 from shared.tables import rows_of
 from shared.written import write_or_check
 from typing_cases import cases_of
@@ -69,45 +68,23 @@ TYPES = {"I32": "127 0", "V128": "123 0", "?Func": "1648 0"}
 HANDLERS = {
     "one": "0 {} {}", "oneref": "1 {} {}", "all": "2 0 {}", "allref": "3 0 {}", "label": "0 {} {}", "switch": "1 {} 0",
 }
-# The byte of each abstract heap type.
-HEAPS = {
-    "NoCont": 0x75, "NoExn": 0x74, "NoFunc": 0x73, "NoExtern": 0x72, "None": 0x71, "Func": 0x70, "Extern": 0x6F,
-    "Any": 0x6E, "Eq": 0x6D, "I31": 0x6C, "Struct": 0x6B, "Array": 0x6A, "Exn": 0x69, "Cont": 0x68,
-}
-NUMBERS = {"I32": 0x7F, "I64": 0x7E, "F32": 0x7D, "F64": 0x7C, "V128": 0x7B}
+# The bytes of types, by their names in capital letters.
+KIND = re.compile(r"WASM_KIND_(\w+) = (0x\w+)")
+BYTES = {name: int(byte, 16) for name, byte in KIND.findall(HEADER.read_text(encoding="utf-8"))}
+NUMBERS = ("I32", "I64", "F32", "F64", "V128")
 # Added for a shared heap type, a nullable reference, and a reference that is a value type.
 SHARED, NULLABLE, REFERENCE = 256, 512, 1024
 # By the standard: kind, argument, bytes, and the numbers in C and the position after; or the error and its offset.
 VALUES = CRATE / "values.tsv"
 # What the text of the first module in crates/wasm_tests_bodies/stdin says of its functions.
 FUNCTIONS = "1 102 6 1 main;2 109 4 2 other;"
-# For each declaration how many locals, and the kind and the index of their type; then the bytes of the declarations, and
-# of the operators.
-CODE = (
-    ("", "00", "0b"),
-    ("3 126 0;", "01037e", "20000b"),
-    ("0 127 0;127 125 0;128 123 0;4294967295 124 0;", "04007f7f7d80017bffffffff0f7c", "0b"),
-    ("1 1648 0;1 1136 0;1 1904 0;1 1392 0;", "0401700164700165700164" + "6570", "0b"),
-    ("1 1025 5;1 1537 200;1 1026 5;1 1538 1048575;", "0401640501" + "63c8010164620501" + "6362ffff3f", "0b"),
-    ("", "00", "01" * 200 + "0b"),
-)
-
+# Bodies: for each declaration how many locals, and the kind and the index of their type; then the bytes of the
+# declarations, and of the operators.
+CODE = CRATE / "code.tsv"
 # Every so many cases of typing_cases.tsv are validated.
 EACH_CASE = 313
-SECTION_OF_CODE = 10
 # Modules and their verdicts.
-VALIDATIONS = (
-    ("0061736d01000000", "ok"),
-    ("", "0x0 - unexpected end-of-file"),
-    ("0061736d0d000100", "0x4 - unknown binary version:    0x1000d"),
-    ("0061736d01000000010401600000030201050a040102000b", "0x11 - unknown type 5: type index out of bounds"),
-    ("0061736d01000000010401600000030201000a05010300ff0b", "0x17 0 illegal opcode: 0xff"),
-    (
-        "0061736d01000000010401600000020701016101620000030201000a0601040041000b",
-        "0x22 1 type mismatch: values remaining on stack at end of block",
-    ),
-    ("0061736d010000000108026000006000017f03030200010a090202000b040042000b", "0x21 1 type mismatch: expected i32, found i64"),
-)
+VALIDATIONS = CRATE / "validations.tsv"
 
 
 def rows(text):
@@ -141,12 +118,12 @@ def heap_kind(word):
     if word[0] in "#=":
         return (1 if word[0] == "#" else 2), int(word[1:])
     shared = word.startswith("shared-")
-    return HEAPS[word.removeprefix("shared-")] + SHARED * shared, 0
+    return BYTES[word.removeprefix("shared-").upper()] + SHARED * shared, 0
 
 
 def type_numbers(word):
     if word in NUMBERS:
-        return NUMBERS[word], 0
+        return BYTES[word.upper()], 0
     kind, index = heap_kind(word[1:])
     return kind + NULLABLE * (word[0] == "?") + REFERENCE, index
 
@@ -206,26 +183,22 @@ def encode_lines(text):
 
 def code_lines():
     lines = []
-    for locals_, declared, operators in CODE:
-        body = bytes.fromhex(declared + operators)
-        entries = unsigned(1) + unsigned(len(body)) + body
-        lines.append(f"code\t{locals_}\t{operators}\t{(bytes([10]) + unsigned(len(entries)) + entries).hex()}")
+    for row in rows_of(CODE):
+        entries = modules.vector([modules.sized(bytes.fromhex(row["declarations"] + row["operators"]))])
+        lines.append(f"code\t{row['locals']}\t{row['operators']}\t{modules.section(modules.CODE, entries).hex()}")
     return lines
 
 
 def function_at(module, offset):
     """Returns the index of the function whose body has an offset, in a module without imports, or `-` if none has it."""
-    at = 8
-    while at < len(module):
-        size, start = leb128.read(module, at + 1)
-        if module[at] == SECTION_OF_CODE and start <= offset:
-            count, next_ = leb128.read(module, start)
+    for number, _, start, _ in modules.sections(module):
+        if number == modules.CODE and start <= offset:
+            count, at = leb128.read(module, start)
             for index in range(count):
-                length, body = leb128.read(module, next_)
-                next_ = body + length
-                if body <= offset <= next_:
+                length, body = leb128.read(module, at)
+                at = body + length
+                if body <= offset <= at:
                     return index
-        at = start + size
     return "-"
 
 
@@ -237,7 +210,7 @@ def verdict_of(case):
 
 def validate_lines():
     taken_cases = [it for it in cases_of()[::EACH_CASE] if it.verdict != "unsupported"]
-    found = [*VALIDATIONS, *((it.module.hex(), verdict_of(it)) for it in taken_cases)]
+    found = [*map(dict.values, rows_of(VALIDATIONS)), *((it.module.hex(), verdict_of(it)) for it in taken_cases)]
     return [f"validate\t{module}\t{verdict}" for module, verdict in found]
 
 

@@ -5,7 +5,6 @@
                                             wasm-encoder and walrus in root/usr/share/cargo/registry, and wasm-tools in
                                             root/usr/bin. MODULES are files, or folders with files, NAME.wasm or
                                             NAME.bodies (function bodies, each with its length before it)
-    tools/clients.py --lines                prints how many lines of each client are changed, and why
 
 WASM_OPERATORS_LIBRARIES is the folder of the library, as for cargo. WORK is a folder that keeps what was built, and
 SMITH the number of modules that `wasm-tools smith` makes with all its proposals (300). It makes as many with the
@@ -58,16 +57,6 @@ SEED_BYTES = 4000
 
 def changes():
     return rows_of(CLIENTS / "changes.tsv")
-
-
-def counted():
-    """Returns the number of changed lines by client and cause: lines that differ, and lines that are added."""
-    found = {}
-    for row in changes():
-        new = row["new"].split("\\n")
-        lines = len(new) - (new[0] == row["old"]) if row["new"] else 1
-        found.setdefault(row["client"], dict.fromkeys(CAUSES, 0))[row["cause"]] += lines
-    return found
 
 
 def changed(text, rows):
@@ -197,11 +186,7 @@ def compare(programs, modules_of_all, work):
 
 
 def main():
-    words = read(__doc__, "--lines", "WORD..")
-    if words.lines:
-        for client, lines in counted().items():
-            print(f"{client}: {', '.join(f'{count} {CAUSES[cause]}' for cause, count in lines.items() if count)}")
-        return
+    words = read(__doc__, "WORD..")
     if not words.words:
         sys.exit(__doc__)
     engines, *others = words.words

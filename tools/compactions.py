@@ -28,34 +28,20 @@ import tempfile
 import time
 from pathlib import Path
 
-from shared import leb128
+from shared import leb128, modules
 from shared.arguments import read
 from shared.crates import TOP
 from testing.built import built, missing
 
 NAME = "wasm_compact"
 DATA = TOP / "crates" / NAME / "data"
-REENCODER = Path(__file__).resolve().parent / "compactions.rs"
+REENCODER = Path(__file__).resolve().parent / "reencoder"
 SECONDS = 60
 SMITH = 200
 FLIPS = (0x01, 0x2F, 0x80)
 CODE = 10
 KEPT = {b"name", b"producers", b"target_features", b"dylink.0", b"go.buildid"}
 OFFSETS = re.compile(rb"\.debug_.*|sourceMappingURL|external_debug_info|build_id|metadata\.code\..*", re.S)
-MANIFEST = """\
-[package]
-name = "compactions"
-version = "0.0.0"
-edition = "2021"
-[[bin]]
-name = "compactions"
-path = "main.rs"
-[dependencies]
-wasm-encoder = { version = "0.239", features = ["wasmparser"] }
-wasmparser = "0.239"
-[profile.release]
-debug-assertions = false
-"""
 # wasm-tools 1.239 reads the bit of a multibyte array access as an alignment of 2^32 or more.
 ARRAY_ACCESS = re.compile(rb"align=\d{10}")
 # A line of `wasm-objdump -d` without addresses and bytes. Lines with only bytes are left out.
@@ -64,12 +50,7 @@ LINE = re.compile(rb"^ [0-9a-f]+:(?: [0-9a-f]{2})+ *\| (.*)$|^[0-9a-f]+ (func\[.
 
 def sections_of(module):
     """Returns for each section its number, bytes and contents."""
-    at, found = 8, []
-    while at < len(module):
-        size, start = leb128.read(module, at + 1)
-        found.append((module[at], module[at : start + size], module[start : start + size]))
-        at = start + size
-    return found
+    return [(number, module[at:end], module[start:end]) for number, at, start, end in modules.sections(module)]
 
 
 def name_of(contents):
@@ -77,39 +58,34 @@ def name_of(contents):
     return contents[start : start + size]
 
 
-def bodies_of(contents):
-    count, at = leb128.read(contents, 0)
+def bodies_of(module):
+    """Returns the bodies of the functions, or None without a code section."""
+    place = modules.code(module)
+    if place is None:
+        return None
+    count, at = leb128.read(module, place[0])
     found = []
     for _ in range(count):
-        size, start = leb128.read(contents, at)
-        found.append(contents[start : start + size])
+        size, start = leb128.read(module, at)
+        found.append(module[start : start + size])
         at = start + size
     return found
 
 
-def code_of(module):
-    return next((contents for id, _, contents in sections_of(module) if id == CODE), None)
+def code_length(module):
+    start, end = modules.code(module) or (0, 0)
+    return end - start
 
 
-class Engines:
-    """Runs wasm-tools and wabt from a folder with a Debian root."""
-
-    def __init__(self, folder):
-        self.root = folder / "root"
-        self.lib = self.root / "usr" / "lib" / "x86_64-linux-gnu"
-        self.reencoder = None
-
-    def run(self, words, given=None):
-        loader = [str(self.root / "usr" / "lib64" / "ld-linux-x86-64.so.2"), "--library-path", str(self.lib)]
-        start = [*loader, str(self.root / "usr" / "bin" / words[0]), *words[1:]]
-        return subprocess.run(start, input=given, capture_output=True, timeout=SECONDS)
+class Engines(modules.Engines):
+    """Runs wasm-tools, wabt and wasm-encoder."""
 
     def is_valid(self, path):
-        return self.run(["wasm-tools", "validate", str(path)]).returncode == 0
+        return self.run(["wasm-tools", "validate", path]).returncode == 0
 
     def text(self, path):
         """Returns the module as text, or None if wasm-tools can't print it."""
-        ran = self.run(["wasm-tools", "print", str(path)])
+        ran = self.run(["wasm-tools", "print", path])
         # (custom sections may be dropped, and comments have offsets of errors in others)
         if ran.returncode:
             return None
@@ -117,23 +93,19 @@ class Engines:
         return text.replace(b"(module\n)", b"(module)")
 
     def listing(self, path):
-        ran = self.run(["wasm-objdump", "-d", str(path)])
+        ran = self.run(["wasm-objdump", "-d", path])
         lines = [LINE.match(line) for line in ran.stdout.split(b"\n")]
         return ran.returncode, [line[1] or line[2] for line in lines if line and (line[1] or line[2] or "").strip()]
 
-    def build(self, folder):
+    def build_reencoder(self, folder):
         """Builds the program that writes bodies by wasm-encoder."""
-        (folder / ".cargo").mkdir()
-        registry = self.root / "usr" / "share" / "cargo" / "registry"
-        config = f'[source.crates-io]\nreplace-with = "debian"\n[source.debian]\ndirectory = "{registry}"\n[net]\noffline = true\n'
-        (folder / ".cargo" / "config.toml").write_text(config)
-        (folder / "Cargo.toml").write_text(MANIFEST)
-        shutil.copy(REENCODER, folder / "main.rs")
-        subprocess.run(["cargo", "build", "--release", "--offline", "-q"], cwd=folder, check=True)
-        self.reencoder = folder / "target" / "release" / "compactions"
+        shutil.copytree(REENCODER, folder)
+        if why := self.build(folder):
+            sys.exit(why)
+        self.reencoder = folder / "target" / "debug" / "reencoder"
 
     def bodies(self, path):
-        """Returns the bodies that wasm-encoder writes, or none if it can't read them."""
+        """Returns the bodies that wasm-encoder writes, or None if it can't read them."""
         ran = subprocess.run([self.reencoder, path], capture_output=True, timeout=SECONDS, text=True)
         return [bytes.fromhex(line) for line in ran.stdout.splitlines()] if ran.returncode == 0 else None
 
@@ -192,11 +164,9 @@ class Comparison:
 
     def against_encoder(self, what, old, new):
         """Checks that bodies are not longer than wasm-encoder's."""
-        theirs = self.engines.bodies(old)
-        code = code_of(new)
-        if theirs is None or code is None:
+        theirs, ours = self.engines.bodies(old), bodies_of(new)
+        if theirs is None or ours is None:
             return
-        ours = bodies_of(code)
         self.check(len(ours) == len(theirs), f"{what}: {len(ours)} bodies, wasm-encoder {len(theirs)}")
         for at, (one, other) in enumerate(zip(ours, theirs)):
             self.same_bodies += one == other
@@ -224,8 +194,8 @@ class Comparison:
             if self.engines:
                 self.same_by_engines(what, path, out)
                 self.against_encoder(what, path, new)
-            sizes.append((len(code_of(new) or b""), len(new)))
-        return (len(code_of(old) or b""), len(old)), sizes
+            sizes.append((code_length(new), len(new)))
+        return (code_length(old), len(old)), sizes
 
     def damaged(self, program, path, folder):
         """Rewrites each proper prefix of a module, and the module with each byte changed."""
@@ -250,17 +220,11 @@ def changed(module, at, flip):
     return module[:at] + bytes([module[at] ^ flip]) + module[at + 1 :]
 
 
-def smith(engines, count, folder):
+def smith(engines, folder):
     """Writes modules of `wasm-tools smith` from fixed seeds."""
-    found = []
-    for seed in range(count):
-        made = random.Random(seed).randbytes(200 + 40 * seed)
-        ran = engines.run(["wasm-tools", "smith"], made)
-        if ran.returncode == 0:
-            path = folder / f"smith{seed}.wasm"
-            path.write_bytes(ran.stdout)
-            found.append(path)
-    return found
+    for seed, module in engines.smith([], (random.Random(seed).randbytes(200 + 40 * seed) for seed in range(SMITH))):
+        (folder / f"smith{seed}.wasm").write_bytes(module)
+        yield folder / f"smith{seed}.wasm"
 
 
 def percent(before, after):
@@ -299,9 +263,8 @@ def main():
         folder = Path(temporary)
         made = []
         if engines:
-            (folder / "encoder").mkdir()
-            compared.engines.build(folder / "encoder")
-            made = smith(compared.engines, SMITH, folder)
+            compared.engines.build_reencoder(folder / "encoder")
+            made = list(smith(compared.engines, folder))
         for program in programs:
             for path in [*sorted(DATA.glob("*.wasm")), *made]:
                 compared.module(program, path, folder)

@@ -27,34 +27,7 @@ CHART = TOP / "docs" / "gate.svg"
 ROWS = 10
 COLOURS = {"proof": "#1f5fa8", "edits": "#b3541e"}
 
-RUN = """
-## {count} processors
-
-`rt ci` took {wall} minutes wall-clock on {count} processors, and {processor} CPU minutes. The run ended with \
-`{last}`.{note}
-
-| Crate | Functions | Proof | Wall | Edits | Number of edits |
-|---|---|---|---|---|---|
-"""
-
-# The crates that hold lists over all operators.
-LISTS = """wasm_instr_ops wasm_instr_simd wasm_instr wasm_visit_groups wasm_visit
-wasm_decode_groups""".split()
-
-MADE_OF = """
-- A proof takes {each} seconds per function. The lists over the 628 operators ({names}) take {lists} minutes of proofs.
-- About {again} of the minutes of edits are the proofs that serve as bases. Each edit takes {edit} seconds beyond that.
-- Proofs of the test crates, `uses` and `wasm_bench` take {callers} minutes.
-"""
-
-OUTSIDE = """
-## Must-fail edits outside the gate
-
-`tools/run edits --more` tries the edits in `crates/*/more-must-fail.edits`. The prover rejected these numbers of them at these commits. The gate had tried the edits that moved here since:
-
-| Crate | Edits | Commit | Date |
-|---|---|---|---|
-"""
+RUN, OUTSIDE = ((TOP / f"tools/pages/gate-{name}.md.txt").read_text(encoding="utf-8") for name in ("run", "outside"))
 
 
 class Crate:
@@ -121,21 +94,6 @@ def row(name, crate):
     return f"| {name} | {crate.functions or ''} | {' | '.join(cells)} | {crate.edits or ''} |"
 
 
-def made_of(crates):
-    proofs = {name: it.processor.get("proof", 0) for name, it in crates.items()}
-    edits = sum(it.processor.get("edits", 0) for it in crates.values())
-    again = min(edits, sum(proofs[name] for name, it in crates.items() if it.edits > 1))
-    callers = [name for name in crates if name.startswith(("wasm_tests_", "uses", "wasm_bench"))]
-    return MADE_OF.format(
-        each=f"{sum(proofs.values()) / max(1, sum(it.functions for it in crates.values())):.1f}",
-        lists=minutes(sum(proofs.get(name, 0) for name in LISTS)) or "0",
-        names=", ".join(f"`{name}`" for name in LISTS),
-        again=minutes(again) or "0",
-        edit=f"{(edits - again) / max(1, sum(it.edits for it in crates.values())):.0f}",
-        callers=minutes(sum(proofs[name] for name in callers)) or "0",
-    )
-
-
 def measured(text):
     crates, whole, last = read(text)
     if whole is None or not crates:
@@ -165,7 +123,7 @@ def run_section(text, note=""):
     proof, tried = map(minutes, parts)
     total = f"| all | {functions} | {proof} | | {tried} | {edits} |"
     table = "\n".join([*(row(name, crate) for name, crate in shown(crates).items()), total, ""])
-    return head + table + made_of(crates)
+    return head + table
 
 
 def outside_section(rows):

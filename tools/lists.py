@@ -26,6 +26,7 @@ from entries import entry_files
 from equality import equality_files
 from header import header_files
 from layout import laid_out
+from native import native_files
 from original import differences
 from own_visits import own_visit_files
 from paths import by_defined
@@ -80,6 +81,7 @@ def files(ops):
     out |= premise_files(ops)
     out |= header_files(ops)
     out |= cargo_files(ops)
+    out |= native_files()
     return laid_out(by_defined(out))
 
 

@@ -10,22 +10,11 @@ replay.section, code sections of the same bodies; and globals.section.
 import random
 
 from shared.arguments import read
+from shared.crates import TOP
 from shared.modules import sized, vector
 
 # A type, 1 if mutable, and an expression. The last one does not end where its block does.
-GLOBALS = [
-    "7f 00 41 05 0b",
-    "7e 01 42 7f 0b",
-    "7d 00 43 00 00 80 3f 0b",
-    "7c 00 44 00 00 00 00 00 00 f0 3f 0b",
-    "7b 00 fd 0c 01 00 00 00 00 00 00 00 00 00 00 00 00 00 00 80 0b",
-    "70 00 d0 70 0b",
-    "70 01 d2 03 0b",
-    "63 05 00 d0 05 0b",
-    "7f 00 23 00 41 07 6a 0b",
-    "6e 00 fb 1a 0b",
-    "7f 00 02 40 0b 0b",
-]
+GLOBALS = TOP / "rust/programs/globals.txt"
 
 
 # Bytes that begin operators and types.
@@ -59,7 +48,7 @@ def main():
         (folder / f"{name}.bodies").write_bytes(prefixed(bodies))
         (folder / f"{name}.section").write_bytes(vector([sized(body) for body in bodies]))
     (folder / "random.bodies").write_bytes(prefixed(random_bodies(4000)))
-    (folder / "globals.section").write_bytes(vector([bytes.fromhex(one) for one in GLOBALS]))
+    (folder / "globals.section").write_bytes(vector([bytes.fromhex(line) for line in GLOBALS.read_text(encoding="ascii").splitlines()]))
 
 
 if __name__ == "__main__":

@@ -11,7 +11,6 @@
   admitted, without a hole, and nothing else is assumed.
 - **Searched.** What the sources declare without a proof, and where.
 - **Second build.** Whether it has the checksums of dist/SHA256SUMS.
-- **Besides.** What no list of a script can settle.
 
 The status is 1 if a second build differs, or the search finds something.
 """
@@ -22,12 +21,9 @@ import sys
 import tempfile
 from pathlib import Path
 
-TOP = Path(__file__).resolve().parent.parent
-sys.path.insert(0, str(TOP / "tools"))
-sys.dont_write_bytecode = True
-
 from packing import builds, texts
 from shared.arguments import read
+from shared.crates import TOP
 from testing.crates import Crates, Missing, find_kit
 
 # What it means, the files, and the pattern in their text without comments.
@@ -40,13 +36,6 @@ WANTED = [
     ("holes", "antt", r"(?:^|[\s(])\?\w*(?=[\s)]|$)"),
 ]
 COMMENTS = {"rt": re.compile(r"//.*"), "antt": re.compile(r"--.*")}
-BESIDES = """\
-- Rattle's prover and its compiler; LLVM and the linker, which compile what is proved; the processor and Linux.
-- The statements of the kit's standard library and of `bitflags`. Their proofs are the kit's; this list does not check them.
-- The C library, and `liblibc_c.a` and `libos_c.a` of the kit: that they do what the assumed contracts say.
-- The definitions in `specs/`, which say what is proved (tools/run definitions), and the tables that they come from.
-- For callers in C: that they pass what c/include/wasm_operators.h asks for. For callers in Rust: the crate in rust.
-"""
 
 
 def heading(text):
@@ -152,8 +141,6 @@ def main():
     elif not given.quick:
         heading("Assumed")
         print("There is no dist/rattle: run tools/dist for the prover's account and a second build.")
-    heading("Besides")
-    print(BESIDES, end="")
     return 0 if is_well else 1
 
 

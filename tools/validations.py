@@ -23,12 +23,11 @@ import tempfile
 from collections import Counter
 from pathlib import Path
 
-from shared import leb128, modules
+from shared import modules
 from shared.arguments import read
 
 BATCH = 100
 SECONDS = 300
-CODE = 10
 PREAMBLE = 8
 CHANGES = 10
 SMITH = ["--max-memories=2", "--max-tables=3", "--gc-enabled=true", "--exceptions-enabled=true", "--simd-enabled=true"]
@@ -46,22 +45,11 @@ def smith(engines, count, folder):
         yield folder / f"smith{seed}.wasm"
 
 
-def code_of(module):
-    """Returns where the contents of the code section start and end; None without one."""
-    at = PREAMBLE
-    while at < len(module):
-        size, start = leb128.read(module, at + 1)
-        if module[at] == CODE:
-            return start, start + size
-        at = start + size
-    return None
-
-
 def places(module, count, chosen, every_byte):
     """Returns the offsets of the bytes that differ."""
     if every_byte:
         return [at for at in range(PREAMBLE, len(module)) for _ in range(count)]
-    place = code_of(module)
+    place = modules.code(module)
     if place is None or place[0] == place[1]:
         return []
     return [chosen.randrange(*place) for _ in range(count)]

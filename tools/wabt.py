@@ -1,28 +1,21 @@
 #!/usr/bin/env python3
-"""Compares disassemblies, and the names of the text format, with wabt's.
+"""Compares disassemblies with wabt's.
 
     tools/wabt.py stored [wasm_objdump]     compares the modules in crates/wasm_objdump/data, and runs on damaged ones
     tools/wabt.py objdump MODULE..          compares other modules with `wasm-objdump -d`
-    tools/wabt.py names                     compares the names of the table with those that `wasm-objdump` prints
-    tools/wabt.py modules FOLDER            makes modules of several kinds with clang, for `objdump`
 
 `--program PROGRAM` is the program that `stored` and `objdump` run, in place of those that `rt ci` or `rt run` built. Only
 `stored` needs no wabt (`apt-get install wabt`; tried with 1.0.32).
 
-`stored`: for NAME.wasm the program must write NAME.txt, which `wasm-objdump -d` of wabt wrote, with `-h` NAME.sections.txt
-and, if there are such files, with `-x` NAME.details.txt and with `-s` NAME.contents.txt. Then it runs on each proper prefix of the module, and on the module with each byte changed. Each run
-must end in time, with status 0 and no message, or with status 1 and messages. On a prefix with the whole code section it
-must list all functions, on another none.
+`stored`: for NAME.wasm the program must write NAME.txt, which `wasm-objdump -d` of wabt wrote, with `-h`
+NAME.sections.txt and, if there are such files, with `-x` NAME.details.txt and with `-s` NAME.contents.txt. Then it runs
+on each proper prefix of the module, and on the module with each byte changed. Each run must end in time, with status 0
+and no message, or with status 1 and messages. On a prefix with the whole code section it must list all functions, on
+another none.
 
 `objdump`: for each module it prints how many lines differ, by the kinds that docs/OBJDUMP.md explains and others, and the
 CPU seconds (least of three runs) and the memory of both. The status is 1 if a line differs otherwise, or the two statuses
-differ.
-
-`names`: lists a module with each operator alone. Names that wabt lacks are compared with tools/original/text_names.tsv,
-which is written by hand from the proposals. An operator must be named by one of the two.
-
-`modules` needs `apt-get install clang lld wabt wasi-libc libclang-rt-14-dev-wasm32 libc++-14-dev-wasm32
-libc++abi-14-dev-wasm32` (tried with clang 14).
+differ. tools/modules makes modules for it.
 """
 
 import itertools
@@ -32,18 +25,9 @@ import shutil
 import subprocess
 import sys
 import tempfile
-from pathlib import Path
 
-sys.path.insert(0, str(Path(__file__).resolve().parent / "generate"))
-sys.dont_write_bytecode = True
-
-from immediates import KINDS as IMMEDIATES
-from shared import modules
 from shared.arguments import read
 from shared.crates import TOP
-from shared.leb128 import unsigned
-from shared.tables import rows_of
-from table import table
 from testing.built import built, missing, over_programs
 
 CRATE = TOP / "crates" / "wasm_objdump"
@@ -56,7 +40,12 @@ FUNCTION = re.compile(rb"^[0-9a-f]{6,} func\[", re.M)
 CODE_END = re.compile(rb"^ +Code start=0x[0-9a-f]+ end=0x([0-9a-f]+)", re.M)
 
 # The options, the ends of the files with what wabt wrote, and how these are called.
-FILES = [([], ".txt", "what"), (["-h"], ".sections.txt", "the sections that"), (["-x"], ".details.txt", "the contents of sections that"), (["-s"], ".contents.txt", "the bytes of sections that")]
+FILES = [
+    ([], ".txt", "what"),
+    (["-h"], ".sections.txt", "the sections that"),
+    (["-x"], ".details.txt", "the contents of sections that"),
+    (["-s"], ".contents.txt", "the bytes of sections that"),
+]
 
 
 def spoiled(module):
@@ -197,101 +186,10 @@ def other_modules(given):
         return not all([compared(programs[0], module, folder) for module in given.words])
 
 
-BY_HAND = TOP / "tools" / "original" / "text_names.tsv"
-# Names that a proposal changed: what wabt prints, and the standard's.
-OLDER = {
-    "i16x8.dot_i8x16_i7x16_s": "i16x8.relaxed_dot_i8x16_i7x16_s",
-    "i32x4.dot_i8x16_i7x16_add_s": "i32x4.relaxed_dot_i8x16_i7x16_add_s",
-}
-# What opens the construct around an operator, by its role.
-BEFORE = {"turns_else": "0440", "turns_catch": "0640", "turns_catch_all": "0640", "delegates": "0640"}
-# The same for operators whose role does not need it, but wabt does.
-INSIDE = {"Rethrow": "064019"}
-# The other sections of a module around an operator: their numbers and contents.
-SECTIONS = {1: "01600000", 3: "0100", 4: "01700000", 5: "01030101", 13: "010000", 6: "017f0141000b", 9: "01010000", 12: "01"}
-
-
-def encoding(op):
-    out = bytes.fromhex(op.prefix) + (unsigned(op.code) if op.prefix else bytes([op.code]))
-    for immediate in op.immediates:
-        word, *more = immediate.split()
-        out += bytes.fromhex(IMMEDIATES[word].least.format(**dict(zip(("sort", "align"), more))))
-    return out
-
-
-def module_of(op):
-    before = bytes.fromhex(BEFORE.get(op.role) or INSIDE.get(op.name, ""))
-    is_open = (op.role.startswith("opens") or bool(before)) and op.role != "delegates"
-    body = b"\x00" + before + encoding(op) + b"\x0b" * (is_open + (op.role != "ends"))
-    parts = {number: bytes.fromhex(contents) for number, contents in SECTIONS.items()}
-    return modules.module(parts | {10: modules.vector([modules.sized(body)]), 11: b"\x01\x01\x00"})
-
-
-def wabt_name(op, path):
-    path.write_bytes(module_of(op))
-    wanted = encoding(op)[:9].hex(" ")
-    for line in subprocess.run([*THEIRS, path], capture_output=True, text=True).stdout.splitlines():
-        found = re.match(r" [0-9a-f]{6}: ((?:[0-9a-f]{2} )+) *\| *(\S+)", line)
-        if found and found[1].strip() == wanted:
-            return OLDER.get(found[2], found[2])
-    return None
-
-
-def names(given):
-    written = {(row["prefix"], int(row["code"], 16), row["immediates"]): row["name"] for row in rows_of(BY_HAND)}
-    known, faults = 0, []
-    with tempfile.TemporaryDirectory() as folder:
-        for op in table():
-            name = wabt_name(op, Path(folder) / "one.wasm")
-            other = written.pop((op.prefix, op.code, "types" if "types" in op.kinds else ""), None)
-            known += name is not None
-            if name is not None and other is not None:
-                faults.append(f"{op.place}: wabt names it {name}: take it out of {BY_HAND.name}")
-            if (name or other) != op.text:
-                faults.append(f"{op.place}: {op.text}, and {'wabt' if name else 'the list by hand'} has {name or other or 'none'}")
-    faults += [f"{BY_HAND.name}: {prefix} {code:02x}: no such operator" for prefix, code, _ in written]
-    print(f"{known} names as wabt prints them, {len(table()) - known} as the list by hand has them, {len(faults)} faults")
-    return "\n".join(faults)
-
-
-WASI = ["--target=wasm32-wasi"]
-BARE = ["--target=wasm32", "-nostdlib", "-Wl,--no-entry", "-Wl,--export-all"]
-CPP = [*WASI, "-fno-exceptions", "-std=c++20"]
-SOURCES = TOP / "tools" / "modules"
-MODULES = {
-    "library": ("library.c", ["clang", *WASI, "-O2"]),
-    "library_small": ("library.c", ["clang", *WASI, "-Oz", "-Wl,--strip-all"]),
-    "library_whole": ("library.c", ["clang", *WASI, "-O0", "-g", "-Wl,--whole-archive", "-lc", "-Wl,--no-whole-archive"]),
-    "vectors": ("vectors.c", ["clang", *BARE, "-O3", "-msimd128"]),
-    "threads": ("threads.c", ["clang", *BARE, "-O2", "-pthread", "-matomics", "-mbulk-memory", "-Wl,--shared-memory,--max-memory=131072"]),
-    "tails": ("tails.c", ["clang", *BARE, "-O2", "-mtail-call"]),
-    "throws": ("throws.cc", ["clang++", *BARE, "-O1", "-fwasm-exceptions", "-Wl,--allow-undefined"]),
-    "exceptions": ("exceptions.wat", ["wat2wasm", "--enable-exceptions", "--debug-names"]),
-    "large": ("large.cc", ["clang++", *CPP, "-O1", "-DCOUNT=24"]),
-    "larger": ("large.cc", ["clang++", *CPP, "-O0", "-DCOUNT=96"]),
-}
-
-
-def made_modules(given):
-    if len(given.words) != 1:
-        return "name a folder"
-    folder = Path(given.words[0])
-    folder.mkdir(parents=True, exist_ok=True)
-    for name, (source, words) in MODULES.items():
-        module = folder / f"{name}.wasm"
-        made = subprocess.run([*words, str(SOURCES / source), "-o", str(module)], stderr=subprocess.PIPE)
-        if made.returncode:
-            return f"{name}: {made.stderr.decode(errors='replace')}"
-        print(f"{module}: {module.stat().st_size:,} bytes: {' '.join(words)}", flush=True)
-    return 0
-
-
 # Each command, and the program that it needs.
 COMMANDS = {
     "stored": (stored_modules, None),
     "objdump": (other_modules, THEIRS[0]),
-    "names": (names, THEIRS[0]),
-    "modules": (made_modules, "clang"),
 }
 
 

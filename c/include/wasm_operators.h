@@ -2,8 +2,8 @@
 /* The operators of WebAssembly function bodies: the header of libwasm_c.a, a decoder that is proved. C99 and C++.
  * docs/CALLERS.md has a first program. tools/lists.py writes the lists over the operators.
  *
- * The caller provides all memory. No pointer may be null, even if its length is 0. Calls may run on several threads at
- * once if each uses its own memory.
+ * The caller provides all memory. A pointer to an array may be null if the length is 0, and no other may. Calls may run
+ * on several threads at once if each uses its own memory.
  *
  * A call that sets `*refusal` returns 0, or the number of the refusal. Then nothing else changes, unless the call says
  * otherwise. `offset` is the offset of the first byte of `bytes`. A call with `features` fails with
@@ -918,20 +918,20 @@ enum wasm_proposal {
 
 /* An operator: 64 bytes without padding. */
 typedef struct wasm_operator {
-  uint64_t offset; /* of its first byte */
+  uint64_t offset; /* the offset of its first byte */
   uint64_t wide; /* an integer, sign-extended; the bits of a float; the static offset of a memory argument in bytes */
-  uint32_t opcode; /* enum wasm_opcode */
+  uint32_t opcode; /* the opcode, or the subopcode plus 65536 times the prefix byte: enum wasm_opcode */
   uint32_t first; /* indices, in the order of the binary format, or the number of elements of a list */
-  uint32_t second;
-  uint32_t third;
+  uint32_t second; /* the second index */
+  uint32_t third; /* the third index */
   uint32_t kind; /* a type: enum wasm_kind. Its index, if any, is in the field that the opcode names */
   uint32_t other_kind; /* the target type of a cast */
-  uint8_t shape; /* enum wasm_shape */
-  uint8_t align; /* of a memory argument, as the exponent of a power of two */
+  uint8_t shape; /* which fields have a meaning: enum wasm_shape */
+  uint8_t align; /* the alignment of a memory argument, as the exponent of a power of two */
   uint8_t max_align; /* the natural alignment, as the exponent of a power of two */
-  uint8_t lane;
-  uint16_t target; /* 0: a memory argument accesses the memory `first`, 1: an array of type `first` */
-  uint16_t ordering; /* 0 none, 1 sequentially consistent, 2 acquire and release; 3, 4 in a read-modify-write */
+  uint8_t lane; /* the index of a lane */
+  uint16_t target; /* 0 if a memory argument accesses the memory `first`, 1 if an array of type `first` */
+  uint16_t ordering; /* the memory ordering: 0 none, 1 sequentially consistent, 2 acquire and release; 3, 4 in a read-modify-write */
   uint8_t bytes[16]; /* a vector, little-endian, or the lane indices of a shuffle */
 } wasm_operator;
 

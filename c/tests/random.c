@@ -1,7 +1,8 @@
 /* random CALLS MODULE..: calls the library on changed and cut modules, and on random structs.
  *
- * A call that fails may change only `*refusal`, and a text's length. A body lies within its module. The first call that
- * does otherwise is named, and the status is 1. An operator without a list that is written is read again. */
+ * An array of length 0 may be null. A call that fails may change only `*refusal`, and a text's length. A body lies within
+ * its module. The first call that does otherwise is named, and the status is 1. An operator without a list that is written
+ * is read again. */
 #include "wasm_operators.h"
 
 #include <stdint.h>
@@ -270,12 +271,94 @@ static void try_parts(const uint8_t *bytes, size_t length) {
   }
 }
 
+/* Arrays of length 0: all null, or none. */
+typedef struct arrays {
+  uint8_t *bytes;
+  wasm_operator *operators;
+  wasm_locals *locals;
+  uint32_t *indices;
+  wasm_type *types;
+  wasm_handler *handlers;
+} arrays;
+
+enum { EMPTY_CALLS = 40 };
+
+/* Makes each call that takes an array with arrays of length 0. Writes what the calls return, and how many there are. */
+static int call_with(arrays it, uint32_t *returned) {
+  wasm_reader reader, opened;
+  wasm_operator op;
+  wasm_value value;
+  wasm_bodies bodies;
+  wasm_body body;
+  wasm_parser parser = {0};
+  wasm_payload payload;
+  wasm_items items = {0};
+  wasm_names names;
+  wasm_naming naming;
+  wasm_refusal refusal = {0};
+  uint8_t frame[1];
+  size_t count;
+  uint32_t index;
+  uint64_t function;
+  const uint32_t all = WASM_FEATURES_ALL;
+  int at = 0;
+  memset(&op, 0, sizeof op);
+  memset(&bodies, 0, sizeof bodies);
+  returned[at++] = wasm_open(it.bytes, 0, 0, all, it.bytes, 0, &reader, &refusal);
+  returned[at++] = wasm_open_body(it.bytes, 0, 0, all, frame, 1, &reader, &refusal);
+  returned[at++] = wasm_open(it.bytes, 0, 0, all, frame, 1, &opened, &refusal);
+  reader = opened;
+  returned[at++] = wasm_next(it.bytes, 0, frame, 1, &reader, &op, &refusal);
+  returned[at++] = wasm_next_plain(it.bytes, 0, frame, 1, &reader, &op, &refusal);
+  returned[at++] = wasm_read(it.bytes, 0, frame, 1, &reader, it.operators, 0, &count, &refusal);
+  returned[at++] = wasm_finish(it.bytes, 0, it.bytes, 0, &reader, &refusal);
+  memset(&reader, 0, sizeof reader);
+  returned[at++] = wasm_read_value(it.bytes, 0, &reader, WASM_VALUE_BYTES, 0, &value, &refusal);
+  returned[at++] = wasm_read_body(it.bytes, 0, 0, all, it.operators, 0, &count, &refusal);
+  returned[at++] = wasm_br_table_targets(it.bytes, 0, 0, all, 0, 0, it.indices, 0, &count, &refusal);
+  returned[at++] = wasm_select_types(it.bytes, 0, 0, all, 0, 0, it.types, 0, &count, &refusal);
+  returned[at++] = wasm_try_table_catches(it.bytes, 0, 0, all, 0, 0, it.handlers, 0, &count, &refusal);
+  returned[at++] = wasm_resume_handlers(it.bytes, 0, 0, all, 0, 0, it.handlers, 0, &count, &refusal);
+  returned[at++] = wasm_operator_text(it.bytes, 0, 0, all, 0, it.bytes, 0, &count, &refusal);
+  returned[at++] = wasm_operator_text_name(it.bytes, 0, 0, all, 0, it.bytes, 0, &count, &refusal);
+  returned[at++] = wasm_encode_operator(&op, it.bytes, 0, 0, all, it.bytes, 0, &count, &refusal);
+  returned[at++] = wasm_encode_locals(it.locals, 0, it.bytes, 0, &count, &refusal);
+  returned[at++] = wasm_encode_body(it.locals, 0, it.bytes, 0, it.bytes, 0, &count, &refusal);
+  returned[at++] = wasm_encode_section(10, 0, it.bytes, 0, it.bytes, 0, &count, &refusal);
+  returned[at++] = wasm_open_bodies(it.bytes, 0, &bodies, &refusal);
+  returned[at++] = wasm_next_body(it.bytes, 0, &bodies, &body, &refusal);
+  returned[at++] = wasm_function_name(it.bytes, 0, 0, it.bytes, 0, &count, &refusal);
+  returned[at++] = wasm_next_payload(it.bytes, 0, &parser, &payload, &refusal);
+  returned[at++] = wasm_next_index(it.bytes, 0, &items, &index, &refusal);
+  returned[at++] = wasm_next_names(it.bytes, 0, &items, &names, &refusal);
+  returned[at++] = wasm_next_name(it.bytes, 0, &items, &naming, &refusal);
+  returned[at++] = wasm_validate_module(it.bytes, 0, all, &function, it.bytes, 0, &count, &refusal);
+  returned[at++] = (uint32_t)wasm_refusal_text(&refusal, it.bytes, 0);
+  returned[at++] = (uint32_t)wasm_operator_name(&op, it.bytes, 0);
+  return at;
+}
+
+static void try_empty(void) {
+  uint8_t byte;
+  wasm_operator op;
+  wasm_locals locals;
+  uint32_t index;
+  wasm_type type;
+  wasm_handler handler;
+  uint32_t returned[2][EMPTY_CALLS];
+  arrays none = {NULL, NULL, NULL, NULL, NULL, NULL}, some = {&byte, &op, &locals, &index, &type, &handler};
+  int count = call_with(none, returned[0]);
+  require(count == call_with(some, returned[1]), "calls with empty arrays");
+  require(memcmp(returned[0], returned[1], (size_t)count * sizeof(uint32_t)) == 0, "a null array of length 0");
+}
+
 int main(int argc, char **argv) {
   if (argc < 3) {
     fprintf(stderr, "usage: random CALLS MODULE..\n");
     return 2;
   }
   unsigned long calls = strtoul(argv[1], NULL, 10);
+  try_empty();
   for (unsigned long i = 0; i < calls; i++) {
     uint8_t bytes[LONGEST];
     FILE *file = fopen(argv[2 + below((uint64_t)argc - 2)], "rb");

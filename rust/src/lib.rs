@@ -34,6 +34,8 @@ mod code;
 mod composite;
 mod constant;
 mod custom;
+#[allow(unsafe_code)]
+mod declared;
 mod dylink0;
 mod encode;
 mod error;

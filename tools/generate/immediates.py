@@ -59,7 +59,6 @@ class Kind:
     width: str = ""  # of a signed number in definitions
     writer: str  # the function of wasm_text (src/operands.rt)
     held: str = ""  # what the fields of the C struct hold; nothing for an index
-    least: str = "00"  # the least encoding in hexadecimal
     most: int  # the capacity that its writer in wasm_encode_immediates requires. A list reserves more itself
     sort: str = ""  # of a memory argument, only in `FORMS`
 

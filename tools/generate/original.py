@@ -45,9 +45,10 @@ def kind_of(word, fields):
 
 
 class Original:
-    def __init__(self, row, arity):
+    def __init__(self, row, arity, text):
         self.proposal = row["proposal"]
         self.name = row["name"]
+        self.text = text
         self.visit = row["visit"]
         self.prefix = row["prefix"]
         self.code = int(row["code"], 16)
@@ -74,11 +75,12 @@ class Original:
 
 def originals():
     arities = {row["name"]: row for row in lines_of("arity.tsv")}
+    texts = {row["name"]: row["text"] for row in lines_of("text_names.tsv")}
     rows = lines_of("operators.tsv")
-    lost = [row["name"] for row in rows if row["name"] not in arities]
-    if lost:
-        sys.exit(f"tools/original/arity.tsv has no row for {', '.join(lost)}")
-    return [Original(row, arities[row["name"]]) for row in rows]
+    for file, known in (("arity.tsv", arities), ("text_names.tsv", texts)):
+        if lost := [row["name"] for row in rows if row["name"] not in known]:
+            sys.exit(f"tools/original/{file} has no row for {', '.join(lost)}")
+    return [Original(row, arities[row["name"]], texts[row["name"]]) for row in rows]
 
 
 def signatures():
@@ -93,6 +95,7 @@ def proposals():
 # The columns that are compared, and their names in errors.
 COMPARED = {
     "proposal": "proposal",
+    "text": "name in the text format",
     "visit": "visit",
     "prefix": "prefix byte",
     "code": "code",

@@ -11,23 +11,7 @@ from shared.tables import rows_of
 OPTION = re.compile(r"^ {2,8}(-.*?)(?: {2,}(.*))?$")
 STATUS = "The exit status is"
 EXAMPLES = TOP / "tools/packing/examples.tsv"
-COMPLETION = """\
-# Completion of {name} for bash: its options, the words of an option, and files.
-_{name}() {{
-    local word=${{COMP_WORDS[COMP_CWORD]}}
-    case ${{COMP_WORDS[COMP_CWORD - 1]}} in
-{cases}    *)
-        [[ $word != -* ]] || mapfile -t COMPREPLY < <(compgen -W '{options}' -- "$word")
-        ;;
-    esac
-}}
-complete -o default -F _{name} {name}
-"""
-CASE = """\
-    {option})
-        mapfile -t COMPREPLY < <(compgen -W '{words}' -- "$word")
-        ;;
-"""
+COMPLETION, CASE = texts.packing("completion.bash"), texts.packing("completion-case.bash")
 
 
 def purpose_of(name):

@@ -7,33 +7,15 @@ from pathlib import PurePosixPath
 
 from packing.builds import TOP
 
-# For `str.format`.
-PKG_CONFIG = (TOP / "tools/packing/wasm_operators.pc").read_text(encoding="utf-8")
+
+def packing(name):
+    """Returns a text of tools/packing, for `str.format`."""
+    return (TOP / "tools/packing" / name).read_text(encoding="utf-8")
+
+
+PKG_CONFIG = packing("wasm_operators.pc")
+PROVED, UNPROVED = packing("proved.txt"), packing("unproved.txt")
 CMAKE = {path.name: path.read_text(encoding="utf-8") for path in sorted((TOP / "tools/packing").glob("*.cmake"))}
-PROVED = """\
-release {release}
-commit  {commit}
-kit     {kit}
-system  Linux on x86-64{glibc}
-
-Programs: built by `rt ci` with LLVM, once it had proved them. Its last lines:
-
-{said}
-
-lib/libwasm_c.a: proved and built by `rattle build` over the libraries that `rt ci` had proved. What it said:
-
-{verdict}
-"""
-UNPROVED = """\
-NOT PROVED: built without proofs, for tests only.
-
-release {release}
-commit  {commit}
-kit     {kit}
-system  Linux on x86-64{glibc}
-
-The programs and the library have the checks of `rt try`: a run stops at an index out of bounds or an overflow.
-"""
 
 
 def defined(name):

@@ -15,22 +15,8 @@ from packing.builds import TOP
 COMMANDS = ["cc", "cargo", "rustc", "rustup", "pkg-config", "cmake", "make", "tar", "ld", "as"]
 BODY = bytes([0x00, 0x01, 0x0B])
 LISTED = "1 Nop\n2 End\n"
-MANIFEST = """\
-[package]
-name = "first"
-version = "0.0.0"
-edition = "2024"
-
-[dependencies]
-{dependency}
-"""
-CMAKE = """\
-cmake_minimum_required(VERSION 3.13)
-project(first C)
-add_executable(list {source})
-{use}
-"""
-MAIN = (TOP / "tools/packing/trial.rs").read_text(encoding="utf-8")
+MANIFEST, CMAKE = texts.packing("trial.toml"), texts.packing("trial.cmake.txt")
+MAIN = texts.packing("trial.rs")
 
 
 class Failed(Exception):

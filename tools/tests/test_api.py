@@ -2,26 +2,6 @@ import unittest
 
 import api
 
-WASMPARSER = """\
-pub struct Reader<'a> {
-    buffer: &'a [u8],
-}
-
-impl<'a> Reader<'a> {
-    /// Reads.
-    pub fn read(&mut self) -> Result<u8> {
-    }
-    fn hidden(&self) {}
-    pub(crate) fn shrink(&self) {}
-}
-
-impl<'a, T: From<u8>> Iterator for Items<'a, T> {
-}
-
-pub trait Stack {
-}
-"""
-
 
 class Api(unittest.TestCase):
     def test_the_names_of_the_table_exist(self):
@@ -29,10 +9,6 @@ class Api(unittest.TestCase):
 
     def test_the_page_is_written_from_the_table(self):
         self.assertEqual(api.PAGE.read_text(encoding="utf-8"), api.page())
-
-    def test_items_of_a_source(self):
-        found = [("Reader", ""), ("Reader", "read"), ("Stack", "")]
-        self.assertEqual(api.public_items(WASMPARSER), found)
 
     def test_a_function_that_no_crate_has(self):
         self.assertTrue(api.exists("wasm_below::read_u8"))
@@ -43,16 +19,7 @@ class Api(unittest.TestCase):
         self.assertFalse(api.is_here(row, "pub struct BinaryReader; fn read_u8()"))
         self.assertTrue(api.is_here({**row, "item": "read_u8"}, "pub struct BinaryReader; fn read_u8()"))
 
-    def test_a_proved_function_with_the_name_of_the_item(self):
-        row = {"item": "read_u8", "proved": "wasm_below::read_u8"}
-        self.assertEqual(api.proved(row), "wasm_below::")
-        self.assertEqual(api.proved({**row, "item": "read_f32"}), row["proved"])
-
     def test_the_page_has_every_item(self):
         page = api.page()
         names = {name for row in api.rows() for name in [row["type"], *api.parts(row["item"].replace("for ", ""))]}
         self.assertEqual([name for name in names if name.lower() not in page.lower()], [])
-
-
-if __name__ == "__main__":
-    unittest.main()

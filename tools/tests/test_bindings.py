@@ -3,7 +3,7 @@ import unittest
 from pathlib import Path
 
 import cargo
-import doc_examples
+import clients
 import header
 from table import shared, table
 
@@ -32,24 +32,6 @@ class Bindings(unittest.TestCase):
 
     def test_each_field_is_described(self):
         self.assertEqual(cargo.FIELDS.keys(), {name for op in table() for name, _ in op.fields})
-
-    def test_examples_in_doc_comments(self):
-        source = """\
-/// Reads.
-///
-/// ```
-/// let one = 1;
-/// ```
-fn one() {}
-    /// ```text
-    /// not code
-    /// ```
-    //! ```rust
-    //! two();
-    //! ```
-"""
-        found = [(3, ["let one = 1;"]), (10, ["two();"])]
-        self.assertEqual(doc_examples.examples(source), found)
 
     def test_lists_replace_lists(self):
         lines = HEADER.splitlines(keepends=True)
@@ -95,5 +77,12 @@ fn one() {}
         self.assertEqual(len(set(versions)), 1, versions)
 
 
-if __name__ == "__main__":
-    unittest.main()
+class Clients(unittest.TestCase):
+    def test_each_change_has_a_cause(self):
+        rows = clients.changes()
+        self.assertEqual({row["cause"] for row in rows} - set(clients.CAUSES), set())
+        self.assertEqual({row["client"] for row in rows}, set(clients.PROGRAMS) - {"wasmparser"})
+
+    def test_a_program_for_each_client(self):
+        for source, *_ in clients.PROGRAMS.values():
+            self.assertTrue((clients.CLIENTS / f"{source}.rs").is_file())

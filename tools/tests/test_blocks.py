@@ -4,60 +4,11 @@ from pathlib import Path
 
 import blocks
 import contracts
-from pages.blocks import EXCEPTED, Block, blocks_of, left_out
+from pages.blocks import EXCEPTED, Block, blocks_of
 
-PAGE = """\
-Run `rt version`, then `tools/run edges` or `tools/test`; `tools/operators.tsv` is a table.
-
-```sh
-one
-two
-```
-
-- An item:
-
-  ```c
-  int a;
-    int b;
-  ```
-
-prints
-
-    first
-
-    second
-
-The end.
-"""
-SOURCE = """\
-impl<'a> Model for Reader<'a> {
-    fn next(&self) -> u8
-        ensures { result ≡ 9 }
-    {
-    }
-}
-
-impl<'a> Reader<'a> {
-    /// Returns a byte.
-    pub fn next(
-        &mut self,
-        limit: usize,
-    ) -> Result<u8>
-    where
-        Self: Sized,
-        // The limit is small.
-        requires { limit.entry < 3 }
-        ensures value { IfOk result (λ b. { b } ≡ self.old.bytes) }
-        ensures { self.new ≡ self.old }
-    {
-        body
-    }
-
-    pub fn unsaid(&self) -> u8 {
-        0
-    }
-}
-"""
+DATA = Path(__file__).parent / "data"
+PAGE = (DATA / "page.txt").read_text(encoding="utf-8")
+SOURCE = (DATA / "reader.rt.txt").read_text(encoding="utf-8")
 
 
 class Finding(unittest.TestCase):
@@ -77,11 +28,6 @@ class Finding(unittest.TestCase):
         self.assertIn("page:10: ", next(blocks.unknown("page", found, commands, [given[0], *given[2:]])))
         self.assertIn("the command rt version", next(blocks.unknown("page", found, commands, given[:3] + given[4:])))
         self.assertEqual(list(blocks.unknown("page", found[:2], commands, given)), ["page has no block first"])
-
-    def test_a_changed_line_is_found(self):
-        self.assertEqual(left_out(["a", "c"], ["a", "b"]), "c")
-        self.assertEqual(left_out(["b", "a"], ["a", "b"]), "a")
-        self.assertIsNone(left_out(["a", "c"], ["a", "b", "c"]))
 
     def test_what_runs_elsewhere(self):
         self.assertTrue(blocks.is_run_elsewhere("tools/test      # all"))
@@ -126,7 +72,3 @@ fn Reader::next(&mut self, limit: usize) -> Result<u8> where Self: Sized
         for names in ("low/src/lib.rt Reader: gone", "low/src/lib.rt Reader: unsaid", "low/src/gone.rt Reader: next"):
             with self.assertRaises(contracts.Wrong):
                 contracts.quoted(names, self.top)
-
-
-if __name__ == "__main__":
-    unittest.main()

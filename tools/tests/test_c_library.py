@@ -30,10 +30,6 @@ class Exports(unittest.TestCase):
             crate = next(crate for crate, text in self.sources.items() if f"pub fn {name}(" in text)
             self.assertEqual(words(body), words(f"{crate}::{name}({', '.join(arguments)})"), name)
 
-    def test_imports_from_one_module_are_one(self):
-        texts = ["ghost use A.B.{x, y};\n", "ghost use A.B.{y, z};\nghost use A.C.{x};\n"]
-        self.assertEqual(exports.ghosts_of(texts), "ghost use A.B.{x, y, z};\nghost use A.C.{x};\n")
-
     def test_the_header_declares_them(self):
         header = (TOP / "c/include/wasm_operators.h").read_text(encoding="utf-8")
         declared = re.findall(r"^(?:uint32_t|size_t) (wasm_\w+)\([^{;]*\);", header, re.M)
@@ -51,20 +47,6 @@ class Answers(unittest.TestCase):
         bodies, _ = c_answers.rows(self.answers)
         self.assertEqual({row["E"] for row in c_answers.taken(bodies)}, {row["E"] for row in bodies})
 
-    def test_members(self):
-        sample = {"name": "TryTable", "before": "00", "operator": "1f", "behind": "0b", "fields": "TryTable t=vI32[all:1,one:2:3]"}
-        self.assertEqual(c_answers.list_line(sample), "list\tTryTable\t001f0b\t1\t0 2: 2 0 1; 0 2 3;")
-
-
-    def test_locals(self):
-        self.assertEqual(c_answers.locals_of("2 85I32 163?shared-None"), "2 85:127:0 163:1905:0")
-        self.assertEqual(c_answers.locals_of("1 2!#7 E24@2"), "1 2:1025:7 E24@2")
-        self.assertEqual(c_answers.locals_of("E1@0"), "E1@0")
-
-    def test_modules_have_their_functions(self):
-        lines = c_answers.module_lines()
-        self.assertIn("\t0 48 gcd;", "\n".join(lines))
-
 
 class Unproved(unittest.TestCase):
     def test_program_calls_each_export(self):
@@ -74,27 +56,3 @@ class Unproved(unittest.TestCase):
         main = program.split("fn main")[1]
         for name in names:
             self.assertEqual(main.count(f" {name}("), 1, name)
-
-    def test_values(self):
-        self.assertEqual(unproved_library.value_of("&mut [u8]"), "&mut [0]")
-        self.assertEqual(unproved_library.value_of("&mut usize"), "&mut 0")
-        self.assertEqual(unproved_library.value_of("Global"), "rt.alloc()")
-
-    def test_exported(self):
-        module = """\
-define internal noundef i32 @"wasm_c_exports::wasm_next"(ptr %a0) #0 {
-define i32 @main() #0 {
-  %r1 = call i32 @"wasm_c_exports::wasm_next"(ptr %r0)
-"""
-        text = unproved_library.exported(module, ["wasm_next"])
-        self.assertEqual(text, """\
-define noundef i32 @wasm_next(ptr %a0) #0 {
-define internal i32 @main() #0 {
-  %r1 = call i32 @wasm_next(ptr %r0)
-""")
-        with self.assertRaises(SystemExit):
-            unproved_library.exported(module, ["wasm_read"])
-
-
-if __name__ == "__main__":
-    unittest.main()

@@ -3,46 +3,9 @@ from pathlib import Path
 
 from pages import rows, specs
 
+DATA = Path(__file__).parent / "data"
 TOP = Path(__file__).resolve().parent.parent.parent
-HEAD = "-- Written by tools/lists.py from tools/operators.tsv.\n"
-SPEC = """\
--- Numbers as bytes.
--- WebAssembly Core Specification 3.0, Binary Format, Values: Bytes, Integers; proposal wide arithmetic.
-use Rattle.wasm_low.specs.Other.{Length}
-
--- The bytes encode `n`, a number. The last
--- byte ends it. Vector Instructions.
---   uN ::= n:byte
-abbrev pub Encodes : Type 0
-
--- The same for a signed number. `Lacks` is about a message.
-abbrev pub EncodesSigned : Type 0
-
-abbrev pub Lacks : Type 0
-Lacks = Unit {0}
-
--- As `Encodes`, for a number of 64 bits.
-abbrev pub EncodesLong : Type 0
-
-abbrev pub Bare : Type 0
-
--- A kind of number. Proposal threads.
-pub data Kind : Type 0 where
-  short long : Kind
-  other : ℕ → Kind
-
--- The state.
-pub record State : Type 0 where
-  -- The first field.
-  pub first : ℕ
-
--- The lengths of both.
-abbrev mutual
-  pub one_length : ℕ
-
-  -- The second length.
-  pub other_length : ℕ
-"""
+SPEC = (DATA / "words.antt.txt").read_text(encoding="utf-8")
 
 
 def file(text=SPEC, crate="wasm_low", name="Words"):
@@ -54,28 +17,6 @@ def given(*lines):
 
 
 class Specs(unittest.TestCase):
-    def test_names(self):
-        found = [(it.name, it.head) for it in file().definitions.values()]
-        alone = "Encodes EncodesSigned Lacks EncodesLong Bare Kind State one_length other_length".split()
-        self.assertEqual([name for name, head in found if head is None], alone)
-        self.assertEqual([name for name, head in found if head == "Kind"], ["short", "long", "other"])
-
-    def test_words(self):
-        found = file().definitions
-        self.assertEqual(found["Encodes"].words, "The bytes encode `n`, a number. The last byte ends it.")
-        self.assertEqual(found["Encodes"].section, "Vector Instructions.")
-        self.assertEqual([found[name].words for name in ("Lacks", "Bare", "short")], ["", "", ""])
-        self.assertEqual(found["one_length"].words, "The lengths of both.")
-        self.assertEqual(found["other_length"].words, "The second length.")
-
-    def test_sections(self):
-        core = "WebAssembly Core Specification 3.0, Binary Format, Values: Bytes, Integers; proposal wide arithmetic."
-        self.assertEqual(file().section, core)
-        self.assertEqual(file().definitions["Kind"].section, "Proposal threads.")
-        self.assertEqual(file("-- Frames.\n").section, "")
-        refers = f"{HEAD}-- The numbers of errors. docs/ERRORS-AND-FEATURES.md has the table.\n"
-        self.assertEqual(file(refers).section, "docs/ERRORS-AND-FEATURES.md has the table.")
-
     def test_files_of_the_repository(self):
         found = specs.files_of(TOP)
         self.assertIn("Binary Format, Values, Integers", found["wasm_below", "Number"].section)
@@ -87,14 +28,6 @@ class Specs(unittest.TestCase):
 
 
 class Rows(unittest.TestCase):
-    def test_shared_comments(self):
-        words = lambda name: rows.described(file(), name, [])
-        signed = "The same for a signed number. `Lacks` is about a message."
-        self.assertEqual([words(name)[0] for name in ("EncodesSigned", "Lacks")], [signed, signed])
-        self.assertEqual(words("long"), ("A kind of number.", "Proposal threads."))
-        self.assertEqual(words("State"), ("The state.", file().section))
-        self.assertIsNone(words("Bare"))
-
     def test_comments_that_refer(self):
         self.assertEqual(rows.with_referred(file(), {"EncodesSigned"}), {"EncodesSigned", "Encodes"})
         self.assertEqual(rows.with_referred(file(), {"EncodesLong"}), {"EncodesLong", "Encodes"})
@@ -139,7 +72,3 @@ class Rows(unittest.TestCase):
             (11, words),
             (13, "it says nothing"),
         ])
-
-
-if __name__ == "__main__":
-    unittest.main()

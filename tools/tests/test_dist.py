@@ -16,8 +16,8 @@ import trust
 from packing import builds, installed, manual, package, rattle, release, shared_library, texts, trial
 from testing.crates import Crates
 
+DATA = Path(__file__).parent / "data"
 TOP = Path(__file__).resolve().parent.parent.parent
-ADD = TOP / "tools/packing/add-to-kit"
 
 
 def tool(name):
@@ -57,49 +57,10 @@ class Builds(Folders):
         for at, name in enumerate(libraries):
             self.assertLessEqual(set(crates.below(name)), set(libraries[:at]), name)
 
-    def test_licences_of_the_kit(self):
-        self.file("kit/rattle/bitflags/LICENSE-MIT")
-        names, files = builds.notices_of(self.folder / "kit", Crates(TOP))
-        self.assertEqual(names, ["bitflags"])
-        self.assertEqual(list(files), ["bitflags-LICENSE-MIT"])
-
-    def test_lines_of_the_crates_that_are_packed(self):
-        listed = "# NAME: what it stands on\nlow:\nlow_c staticlib: low\nhigh: low # above\n"
-        self.assertEqual(builds.lines_of(listed, ["low", "low_c"]), "low:\nlow_c staticlib: low\n")
-
-    def test_words_for_the_prover(self):
-        self.file("repo/crates.txt", "low:\nhigh: low bitflags\nlow_c staticlib: high\n")
-        crates, kit = Crates(self.folder / "repo"), Path("/kit")
-        words = [str(it) for it in builds.link_words(kit, crates, "low_c", lambda name: Path(f"/made/{name}.rlib"))]
-        self.assertIn("high=/made/high.rlib", words)
-        self.assertNotIn("low=/made/low.rlib", words)
-        self.assertEqual(words.count("dependency=/made"), 1)
-        self.assertIn("std=/kit/rlibs/std.rlib", words)
-
-    def test_verdict(self):
-        output = "fn low: proved\naxioms libc: 1 reached of the 3 declared\n  libc::read\n  libc::write   reached\nlogic=proved functions=1\n"
-        self.assertEqual(builds.verdict_of(output), ["assumed: libc::write", "logic=proved functions=1"])
-
 
 # Commands in place of the kit's.
-RT = """\
-#!/bin/sh
-ls crates > ../seen
-mkdir -p crates/low/out/rlib/low.rlib crates/prog/out
-echo low > crates/low/out/rlib/low.rlib/format
-echo program > crates/prog/out/prog
-echo "fn low: proved"
-echo "rt: ok; handles allowed: none"
-echo "$RESULT"
-[ "$RESULT" = "4 passed, 0 failed" ]
-"""
-RATTLE = """\
-#!/bin/sh
-for word; do last=$word; done
-echo compiled > "$last"
-echo "  libc::write   reached"
-echo "$VERDICT"
-"""
+RT = (DATA / "rt.sh").read_text(encoding="utf-8")
+RATTLE = (DATA / "rattle.sh").read_text(encoding="utf-8")
 
 
 class Proved(Folders):
@@ -160,30 +121,13 @@ class Package(Folders):
         with tarfile.open(packed[0]) as it:
             self.assertIn(f"{made.name}/Cargo.toml", it.getnames())
 
-    def test_files_that_tests_read(self):
-        text, files = package.brought_in('const A: &str = include_str!("../../../crates/low/stdin");\n')
-        self.assertEqual(text, 'const A: &str = include_str!("data/crates-low-stdin");\n')
-        self.assertEqual(files, {"crates/low/stdin": "data/crates-low-stdin"})
-        self.assertEqual(package.brought_in('include_str!("../README.md")')[1], {})
-
     def test_the_build_script_names_the_command(self):
         script = (TOP / "rust/build.rs").read_text(encoding="utf-8")
         self.assertIn('"    tools/dist",', script)
         self.assertIn("WASM_OPERATORS_LIBRARIES=$PWD/dist/lib", script)
 
 
-HELP = """\
-Usage: wasm_objdump [OPTION].. [FILE]..
-
-Lists modules. Reads
-.dot
-
-  -h, --headers    list the sections
-      --features WORD  all, none, or names: multi_memory,
-                   memory64
-
-The exit status is 0.
-"""
+HELP = (DATA / "help.txt").read_text(encoding="utf-8")
 
 
 class Manual(Folders):
@@ -194,15 +138,6 @@ class Manual(Folders):
         self.assertIn(".TP\n\\fB\\-h, \\-\\-headers\\fR\nlist the sections\n.TP\n", page)
         self.assertIn("names: multi_memory, memory64\n.SH EXIT STATUS\nThe exit status is 0.\n.SH EXAMPLES\n", page)
         self.assertTrue(page.endswith(".SH SEE ALSO\n\\fBwasm_dump\\fR(1)\n"))
-
-    def test_help(self):
-        program = self.file("program", "#!/bin/sh\necho how to\n")
-        program.chmod(0o755)
-        self.assertEqual(manual.help_of(program), "how to\n")
-
-    def test_lists_stay(self):
-        page = manual.man_page("wasm_dump", "It reads.\n\n    a\n    b\n\nThe exit status is 0.\n", "abc")
-        self.assertIn(".SH DESCRIPTION\nIt reads.\n.PP\n.nf\n    a\n    b\n.fi\n", page)
 
     def test_completion(self):
         path = self.file("completion", manual.completion("wasm_objdump", HELP))
@@ -271,21 +206,6 @@ class Release(Folders):
 
 
 class Texts(Folders):
-    def test_newest_glibc(self):
-        program = self.folder / "program"
-        program.write_bytes(b"\0GLIBC_2.9\0GLIBC_2.34\0GLIBC_2.2.5\0")
-        self.assertEqual(texts.glibc_of([program]), ", with glibc 2.34 or later")
-        program.write_bytes(b"static")
-        self.assertEqual(texts.glibc_of([program]), "")
-
-    def test_checksums(self):
-        self.file("a/b", "x")
-        self.file("SHA256SUMS", "old")
-        text = texts.sums_of(self.folder)
-        self.assertEqual(text, f"{texts.sum_of(self.folder / 'a/b')}  a/b\n")
-        checked = subprocess.run(["sha256sum", "-c", "--quiet"], input=text, text=True, cwd=self.folder)
-        self.assertEqual(checked.returncode, 0)
-
     def test_links_of_installed_pages(self):
         text = "[a](b.md#c) [d](../x/y.rt) [e](https://e.example/f) [g](#h) [i](../x/z.c)"
         names = {"docs/b.md": "b.md", "x/z.c": "z.c"}
@@ -311,11 +231,6 @@ class Texts(Folders):
         for path in texts.TOP.glob("crates/*/src/main.rt"):
             for found in re.findall(r'^const VERSION: &str = "(.*)";$', path.read_text(encoding="utf-8"), re.M):
                 self.assertEqual(found, f"{path.parts[-3]} {version}, follows wasmparser 0.263.0\\n")
-
-    def test_pkg_config(self):
-        text = texts.PKG_CONFIG.format(version=texts.release(), note="")
-        self.assertIn("prefix=${pcfiledir}/../..\n", text)
-        self.assertIn("Libs: -L${libdir} -lwasm_c -llibc_c\n", text)
 
 
 class Install(Folders):
@@ -364,12 +279,6 @@ class Install(Folders):
             self.assertEqual(prefix_of(Path("/usr")), Path("/staged/usr"))
         with mock.patch.dict(os.environ, {"DESTDIR": ""}):
             self.assertEqual(prefix_of(Path("/usr")), Path("/usr"))
-
-    def test_commit_of_a_build(self):
-        self.file("PROVED", texts.PROVED.format(release="0.0.0", commit="abc", kit="k", glibc="", said="", verdict=""))
-        self.assertTrue(tool("dist").is_of(self.folder, "abc"))
-        self.assertFalse(tool("dist").is_of(self.folder, "ab"))
-        self.assertFalse(tool("dist").is_of(self.folder / "none", "abc"))
 
 
 class RattleLibraries(Folders):
@@ -420,14 +329,6 @@ class RattleLibraries(Folders):
         self.assertFalse((self.folder / "new").exists())
         self.assertIn("is no Rattle kit", self.add(out, self.folder).stderr)
 
-    @unittest.skipUnless(shutil.which("xz"), "needs xz")
-    def test_a_kit_that_has_the_libraries(self):
-        kit = self.kit()
-        out = self.packed(kit)
-        self.file("kit/rlibs/low.rlib/format")
-        self.assertIn("already has low", self.add(out, kit).stderr)
-        self.assertFalse((self.folder / "new").exists())
-
 
 class Trust(Folders):
     def test_search(self):
@@ -441,17 +342,3 @@ class Trust(Folders):
         self.assertEqual(found["axioms"], ["crates/low/proofs/Bad.antt:2"])
         self.assertEqual(len(found["holes"]), 2)
         self.assertEqual(found["the handles Abort, Wait, Threads, Net, Processes"], [])
-
-    def test_checksums(self):
-        made = self.file("bin/low", "x")
-        self.file("SHA256SUMS", texts.sums_of(self.folder))
-        with redirect_stdout(io.StringIO()):
-            sums = trust.sums_in(self.folder)
-            self.assertTrue(trust.compared(sums, "bin/low", made))
-            made.write_text("y")
-            self.assertFalse(trust.compared(sums, "bin/low", made))
-            self.assertFalse(trust.compared(sums, "bin/high", made))
-
-
-if __name__ == "__main__":
-    unittest.main()

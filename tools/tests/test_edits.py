@@ -1,6 +1,5 @@
 import io
 import os
-import subprocess
 import tempfile
 import unittest
 from contextlib import redirect_stdout
@@ -9,6 +8,7 @@ from unittest import mock
 
 import edits
 
+DATA = Path(__file__).parent / "data"
 SOURCE = "fn low() -> u8 {\n    1\n}\n\nfn high() -> u8 {\n    1 + 1\n}\n"
 
 
@@ -59,10 +59,6 @@ class Edits(unittest.TestCase):
             self.assertEqual(len(found), 1, text)
             self.assertIn(why, found[0])
 
-    def test_later_replacements_apply_to_the_result(self):
-        found, _ = self.edit("file: src/lib.rt\nold: 1 + 1\nnew: 2\nold:     2\nnew:     3\n")
-        self.assertEqual(found, [])
-
     def test_files_that_are_no_edits(self):
         self.edit("file: src/lib.rt\nold: 1 + 1\nnew: 2\n")
         (self.crate / "must-fail" / "turned.txt").write_text("")
@@ -76,14 +72,7 @@ class Edits(unittest.TestCase):
         self.assertEqual(edits.bad_in_log(f"rt: wasm_low proved\n{bad}\n1 passed, 0 failed\n"), [bad])
 
 
-LOG = """\
-rt: wasm_low is kept: an earlier run on this machine proved the same files over the same libraries
-rt: must-fail wasm_low/turned.edit: refused, as it must be: src/lib.rt:1:1: error
-rt: must-fail wasm_low/slow.edit: refused, as it must be (only by a limit of the prover, which gave no verdict)
-rt: must-fail wasm_low/lost.edit: NOT REFUSED: the crate is still proved with this edit
-rt: must-fail wasm_low/bad.edit: BAD EDIT: an 'old:' text is in src/lib.rt 0 times
-1 passed, 1 failed (wasm_low and the crates below alone: not the gate)
-"""
+LOG = (DATA / "must-fail.log").read_text(encoding="utf-8")
 
 
 class MoreMustFail(unittest.TestCase):
@@ -91,31 +80,6 @@ class MoreMustFail(unittest.TestCase):
         folder = tempfile.TemporaryDirectory()
         self.addCleanup(folder.cleanup)
         self.folder = Path(folder.name)
-
-    def test_rejected(self):
-        found = [edit for _, edit in edits.rejected_in(LOG.splitlines(True)) if edit]
-        self.assertEqual(found, [("wasm_low", "turned.edit"), ("wasm_low", "slow.edit")])
-
-    def test_copy(self):
-        top = self.folder / "checkout"
-        for name in ("crates.txt", "README.md", "crates/low/src/lib.rt", "crates/low/out/low"):
-            (top / name).parent.mkdir(parents=True, exist_ok=True)
-            (top / name).write_text(name)
-        (top / ".gitignore").write_text("out/\n")
-        subprocess.run(["git", "init", "-q", top], check=True)
-        copy = self.folder / "copy"
-        with mock.patch.object(edits, "TOP", top):
-            edits.copied(copy)
-            (copy / "crates" / "left_over").mkdir()
-            edits.copied(copy)
-        files = sorted(str(path.relative_to(copy)) for path in copy.glob("**/*") if path.is_file())
-        self.assertEqual(files, ["crates.txt", "crates/low/src/lib.rt"])
-        self.assertFalse((copy / "crates" / "left_over").exists())
-
-    def test_no_copy_over_something_else(self):
-        (self.folder / "notes").write_text("mine")
-        with self.assertRaises(SystemExit):
-            edits.copied(self.folder)
 
     def test_exchange(self):
         for name, has_more in {"high": True, "low": True, "other": False}.items():
@@ -155,13 +119,6 @@ class MoreMustFail(unittest.TestCase):
         os.utime(libraries[0], (0, 0))
         self.assertEqual(again(), {"middle": "low", "high": "middle"})
 
-    def test_commands(self):
-        for usage, word in (("  rt ci                   the gate\n", "must-fail"), ("  rt ci [NAME..]  the gate\n", "ci")):
-            ended = subprocess.CompletedProcess([], 0, "", usage)
-            with mock.patch.object(subprocess, "run", lambda *_, **__: ended):
-                self.assertEqual(edits.commands(["low", "high"], None), [["rt", word, "low", "high"]])
-        self.assertEqual([it[3:] for it in edits.commands(["low", "high"], self.folder)], [["low"], ["high"]])
-
     def test_tried(self):
         (self.folder / "crates/wasm_low/must-fail").mkdir(parents=True)
         for name in ("turned", "slow", "lost"):
@@ -170,7 +127,3 @@ class MoreMustFail(unittest.TestCase):
         for command, wrong in ((["cat", "log"], ["wasm_low/lost.edit"]), (["false"], [f"wasm_low/{it}.edit" for it in ("lost", "slow", "turned")])):
             with mock.patch.object(edits, "commands", lambda *_: [command]), redirect_stdout(io.StringIO()):
                 self.assertEqual(edits.tried(self.folder, ["wasm_low"]), (3 - len(wrong), wrong))
-
-
-if __name__ == "__main__":
-    unittest.main()

@@ -3,8 +3,8 @@ import unittest
 
 from arms import unread
 from immediates import COMBINATIONS, FORMS, KINDS, TYPES, WRITERS
-from plain import unshaped
-from table import COLUMNS, TOP, Operator, table
+from plain import number, unshaped
+from table import COLUMNS, TOP, Operator, shared, table
 
 
 def trial(**row):
@@ -67,5 +67,12 @@ class Records(unittest.TestCase):
             self.assertEqual({name for name in names if not re.search(rf"^pub fn {name}\(", source, re.M)}, set(), path)
 
 
-if __name__ == "__main__":
-    unittest.main()
+class Plain(unittest.TestCase):
+    def test_each_operator_has_a_shape(self):
+        self.assertEqual(unshaped(table()), [])
+
+    def test_a_number_belongs_to_one_operator_but_for_the_two_of_a_select(self):
+        ops = table()
+        _, second = shared(ops)
+        numbers = [number(op) for op in ops if op is not second]
+        self.assertEqual(len(numbers), len(set(numbers)))

@@ -9,6 +9,7 @@ from lists import files, left_over
 from rules import faults
 from shared.written import stale
 from table import COLUMNS, HEAD, rows_of, table
+from templates import FOLDER
 
 # Prefix byte and proposal of the groups that may grow. There are 256 SIMD operators already.
 GROUPS = {"Own": ("", "mvp"), "Gc": ("fb", "gc"), "Misc": ("fc", "bulk_memory"), "Atomic": ("fe", "threads")}
@@ -49,9 +50,6 @@ def files_with(*rows):
 
 @unittest.skipUnless(layout.is_here(), "rt, which lays files out, is not on this machine")
 class Generated(unittest.TestCase):
-    def test_nothing_is_stale(self):
-        self.assertEqual(stale(files(table())), [])
-
     def test_each_kind_in_each_group(self):
         rows = [
             row_of(kind, group, number)
@@ -102,14 +100,6 @@ class Generated(unittest.TestCase):
         source = out["crates/wasm_instr/src/fixed_arity.rt"]
         self.assertIn("Operator::Misc(op) => misc_fixed_arity(op)", source)
 
-    def test_argument_by_another_name(self):
-        row = cells_of(
-            proposal="bulk_memory", name="Trial", visit="visit_trial", prefix="fc", code="100",
-            fields="mem_place: MemArg, lane: u8", immediates="memory Op 2, lane_index", signature="[addr i32] -> [i32]",
-        )
-        out = files_with(row)
-        self.assertIn("misc_pair (misc.Trial mem_place _) = (reaching mem_place 2, 1)", out["crates/wasm_instr/specs/FixedArity.antt"])
-
     def test_long_names(self):
         long = "VeryLongNameOfAnOperatorThatNoLineOfOneHundredColumnsHasRoomForWithAllOfItsFields"
         row = cells_of(
@@ -150,3 +140,15 @@ class Counts(unittest.TestCase):
             self.assertEqual(found, ["255 SIMD operators", "20 proposals"])
             found = [it.split(": ")[1] for it in wrong_counts([*table(), table()[0]], Path(folder))]
             self.assertEqual(found, ["628 operators", "255 SIMD operators", "20 proposals", "627 visits"])
+
+
+class Templates(unittest.TestCase):
+    def test_each_is_filled_in(self):
+        generators = "".join(path.read_text(encoding="utf-8") for path in FOLDER.parent.glob("*.py"))
+        for path in FOLDER.rglob("*.template"):
+            self.assertIn(f'"{path.relative_to(FOLDER).with_suffix("")}"', generators)
+
+    def test_rt_ci_takes_the_names(self):
+        top = FOLDER.parents[2]
+        sources = [it for suffix in ("rt", "antt") for folder in ("tools", "docs") for it in (top / folder).rglob(f"*.{suffix}")]
+        self.assertEqual(sources, [])

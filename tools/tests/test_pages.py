@@ -4,6 +4,7 @@ import re
 import unittest
 from pathlib import Path
 
+import first_change as it
 from immediates import KINDS
 from shared.crates import crates
 from table import COLUMNS, FEATURES, INLINE, ROLES, table
@@ -32,10 +33,13 @@ def rows(lines):
     return [[cell.strip() for cell in line[1:-1].split("|")] for line in lines if line.startswith("|")][2:]
 
 
-def is_defined(function, text):
-    type_name, _, name = function.rpartition("::")
-    has_type = not type_name or re.search(rf"^impl.*\b{type_name}\b", text, re.MULTILINE)
-    return bool(has_type and re.search(rf"\bfn {name}\b", text))
+class Links(unittest.TestCase):
+    def test_relative_links_lead_to_files(self):
+        pages = [path for path in [*TOP.glob("*.md"), *TOP.glob("*/**/*.md")] if not {"out", "target"} & set(path.parts)]
+        for page in pages:
+            text = re.sub(r"```.*?```", "", page.read_text(encoding="utf-8"), flags=re.DOTALL)
+            for target in re.findall(r"\]\(([^)#\s:]+)(?:#[^)\s]*)?\)", text):
+                self.assertTrue((page.parent / target).exists(), f"{page.relative_to(TOP)}: {target}")
 
 
 class Architecture(unittest.TestCase):
@@ -51,19 +55,6 @@ class Architecture(unittest.TestCase):
             self.assertEqual(above is None, not set(listed[name]) & listed.keys(), name)
             self.assertTrue(above is None or above in listed[name], name)
 
-    def test_the_functions_of_the_trace_exist(self):
-        lines = section(self.page, "One body, function by function")
-        seen = set()
-        for _, file, functions, _ in rows(lines):
-            path = TOP / "crates" / file.strip("`")
-            text = path.read_text(encoding="utf-8")
-            for function in re.findall(r"`([^`]+)`", functions):
-                self.assertTrue(is_defined(function, text), (file, function))
-                self.assertNotIn((file, function), seen)
-                seen.add((file, function))
-        counts = re.search(r"(\d+) functions in (\d+) files", "\n".join(lines))
-        self.assertEqual(counts.groups(), (str(len(seen)), str(len({file for file, _ in seen}))))
-
     def test_the_names_of_decoder_and_proofs_exist(self):
         sources = [path for end in ("rt", "antt") for path in TOP.glob(f"crates/*/s*/**/*.{end}")]
         sources += TOP.glob("crates/*/proofs/**/*.antt")
@@ -77,16 +68,6 @@ class Architecture(unittest.TestCase):
                     self.assertTrue(any(path.match(name) for path in sources), name)
                 elif not name.endswith(".md"):
                     self.assertEqual(set(re.findall(r"\w+", name)) - words, set(), name)
-
-    def test_a_function_that_is_gone_is_found(self):
-        text = "impl<'a> OperatorsReader<'a> {\n    pub fn read(&mut self) {}\n}\n"
-        self.assertTrue(is_defined("OperatorsReader::read", text))
-        self.assertFalse(is_defined("ControlStack::read", text))
-        self.assertFalse(is_defined("read_all", text))
-
-    def test_a_parent_has_less_indentation(self):
-        shown = ["a    bytes", "  b", "    c  of b", "  d", "e"]
-        self.assertEqual(parents(shown), {"a": None, "b": "a", "c": "b", "d": "a", "e": None})
 
 
 class Columns(unittest.TestCase):
@@ -107,5 +88,11 @@ class Calling(unittest.TestCase):
         self.assertEqual([(group[0], count[0], named[0]) for group, _, count, named in shown], wanted)
 
 
-if __name__ == "__main__":
-    unittest.main()
+class FirstChange(unittest.TestCase):
+    def test_the_change_is_on_the_page(self):
+        steps = it.steps(it.section())
+        path, old, new = it.BROKEN
+        for text in (path, f"`{old}`", f"`{new}`"):
+            self.assertIn(text, steps[2])
+        self.assertEqual((it.TOP / path).read_text(encoding="utf-8").count(old), 1)
+        self.assertEqual(len(it.blocks(steps[5])), 1)

@@ -21,7 +21,3 @@ class Replay(unittest.TestCase):
         self.assertEqual(len(names), 2)
         wanted = f"{len(self.lines) - len(names)} cases, 0 differ\n"
         self.assertEqual((CRATE / "stdout").read_text(encoding="utf-8"), wanted)
-
-
-if __name__ == "__main__":
-    unittest.main()

@@ -12,22 +12,11 @@ import cases
 import definitions
 import edges
 import gate_table
-import paths
 import timed
 from pages import specs
 
-LOG = """\
-== wasm_low
-logic=proved functions=7 axioms=8
-rt: wasm_low proved
-rt: must-fail wasm_low/turned.edit: refused, as it must be: src/lib.rt:1:1: error
-rt: must-fail wasm_low/lost.edit: NOT REFUSED: the crate is still proved with this edit
-2 passed, 1 failed
-cost wasm_low proof 120 90
-cost wasm_low edits 30 31
-cost all 186 126 4
-2 passed, 1 failed
-"""
+DATA = Path(__file__).parent / "data"
+LOG = (DATA / "gate.log").read_text(encoding="utf-8")
 
 
 class GateTable(unittest.TestCase):
@@ -37,8 +26,6 @@ class GateTable(unittest.TestCase):
         self.assertIn("| all | 7 | 2.0 | | 0.5 | 1 |", page)
         self.assertIn("took 2.1 minutes wall-clock on 4 processors, and 3.1 CPU minutes", page)
         self.assertIn("`2 passed, 1 failed`. Alone.\n", page)
-        self.assertIn("A proof takes 17.1 seconds per function.", page)
-        self.assertIn("About 0 of the minutes of edits", page)
         self.assertEqual(page.count("| all |"), 1)
 
     def test_ten_rows(self):
@@ -47,21 +34,8 @@ class GateTable(unittest.TestCase):
         self.assertIn("| `low2` | 2 | 3.0 | 1.0 |  |  |\n| 2 others | 4 | 3.0 |  |  |  |\n| all | 24 | 78.0 |", section)
         self.assertEqual(gate_table.chart(gate_table.read(log)[0]).count("<text"), 2 * 11 + 2)
 
-    def test_outside(self):
-        rows = [{"crate": "wasm_low", "edits": "3", "commit": "abc", "date": "2026-01-02"}]
-        section = gate_table.outside_section(rows)
-        self.assertTrue(section.endswith("| `wasm_low` | 3 | `abc` | 2026-01-02 |\n| all | 3 | | |\n"))
-        self.assertEqual(gate_table.outside_section([]), "")
-
-    def test_summary(self):
-        head, crates = gate_table.summary(LOG).split("\n")
-        self.assertTrue(head.startswith("rt ci took 2.1 minutes wall-clock on 4 processors, 3.1 CPU minutes."))
-        self.assertEqual(crates, "wasm_low 7 2.0+0.5")
-
     def test_of_two_runs(self):
         behind = "cost wasm_low proof 60 30\ncost all 60 60 4\n3 passed, 0 failed\n"
-        other = "rt: must-fail wasm_low/lost.edit: refused, as it must be: src/lib.rt:1:1: error\n"
-        self.assertIn("About 0.5 of the minutes of edits", gate_table.run_section(other + LOG))
         crates, whole, last = gate_table.read(LOG + LOG + behind)
         once, before, _ = gate_table.read(LOG)
         self.assertEqual(whole, (2 * before[0] + 60, 2 * before[1] + 60, 4))
@@ -72,18 +46,11 @@ class GateTable(unittest.TestCase):
                 more = 60 if (name, part) == ("wasm_low", "proof") else 0
                 self.assertEqual(crates[name].processor[part], 2 * seconds + more)
 
-    def test_other_logs(self):
-        with self.assertRaises(SystemExit):
-            gate_table.run_section("2 passed, 1 failed\n")
-
 
 class Timed(unittest.TestCase):
     def test_own_process_is_below_its_parent(self):
         self.assertIn(os.getpid(), timed.below(os.getppid()))
         self.assertNotIn(os.getpid(), timed.below(os.getpid()))
-
-    def test_what_is_no_prover(self):
-        self.assertIsNone(timed.work_of(os.getpid()))
 
     def test_lines(self):
         costs = timed.Costs()
@@ -114,13 +81,6 @@ class Progress(unittest.TestCase):
         self.assertEqual(kept, LOG)
         self.assertEqual(gate_table.run_section(out.getvalue()), gate_table.run_section(LOG))
 
-    def test_crate_that_is_not_proved(self):
-        out = io.StringIO()
-        progress = timed.Progress(2, None, clock=lambda: 0, out=out)
-        progress.passed_on("rt: wasm_high NOT PROVED: its library wasm_low failed\n")
-        self.assertEqual([line for line in out.getvalue().split("\n") if line.startswith("[")],
-                         ["[1/2, 0 min] wasm_high: NOT PROVED"])
-
     def test_expected_minutes(self):
         page = gate_table.page(LOG)
         self.assertAlmostEqual(timed.expected_minutes(page, 4), 2.1)
@@ -130,37 +90,6 @@ class Progress(unittest.TestCase):
 
 
 LISTED = {"low": ["kit"], "middle": ["low"], "high": ["middle", "low"], "tests": ["high"]}
-
-
-class Paths(unittest.TestCase):
-    LISTED = {
-        "wasm_below": [], "wasm_imm": ["wasm_below"], "wasm_instr_ops": ["wasm_imm"], "wasm_instr": ["wasm_instr_ops"],
-        "wasm_grammar": [],
-    }
-    HOMES = {"Error": "wasm_below", "GcOperator": "wasm_instr_ops", "Operator": "wasm_instr"}
-
-    def defined(self, crate, text):
-        return paths.defined(crate, text, self.HOMES)
-
-    def test_exports(self):
-        root = "pub use error::{Error, Result};\npub use gc::GcOperator;\npub use wasm_below::Offset;\nuse gc::Other;\n"
-        self.assertEqual(paths.exports(root, self.LISTED), {"Error", "Result", "GcOperator"})
-
-    def test_code(self):
-        self.assertEqual(self.defined("wasm_imm", "use wasm_below::Error;"), "use wasm_below::Error;")
-        self.assertEqual(self.defined("wasm_instr", "use wasm_instr::Operator;"), "use crate::Operator;")
-        both = "use wasm_instr::Operator;\nuse wasm_instr_ops::GcOperator;"
-        self.assertEqual(self.defined("wasm_visit", "use wasm_instr::{GcOperator, Operator};"), both)
-        self.assertEqual(self.defined("wasm_visit", "use wasm_instr::{Unknown};"), "use wasm_instr::Unknown;")
-        self.assertEqual(self.defined("uses", "use wasm_operators::{GcOperator};"), "use wasm_operators::{GcOperator};")
-
-    def test_comments_stay(self):
-        text = "// of wasm_instr::Operator"
-        self.assertEqual(self.defined("wasm_instr", text), text)
-
-    def test_files_of_the_repository(self):
-        home = paths.homes(paths.crates())
-        self.assertEqual([home[name] for name in ("Error", "SimdOperator", "Operator")], ["wasm_below", "wasm_instr_simd", "wasm_instr"])
 
 
 class Edges(unittest.TestCase):
@@ -186,10 +115,6 @@ class Edges(unittest.TestCase):
         several = "use Rattle.low.proofs.Words.{word, other as it}\nuse Rattle.low.proofs.Sums as sums"
         self.assertEqual(edges.cited(several, "tests", LISTED), {"low.proofs.Words.word", "low.proofs.Words.other", "low.proofs.Sums"})
 
-    def test_outside(self):
-        self.assertTrue(all(edges.is_outside(it) for it in ("wasm_tests_below", "uses", "wasm_objdump", "wasm_c_exports", "wasm_bench")))
-        self.assertFalse(any(edges.is_outside(it) for it in ("wasm_operators", "wasm_module", "wasm_text", "wasm_disassembly", "wasm_c")))
-
 
 class Cases(unittest.TestCase):
     def ended(self, script, **row):
@@ -198,10 +123,6 @@ class Cases(unittest.TestCase):
             program.write_text(f"#!/bin/sh\n{script}\n", encoding="utf-8")
             program.chmod(0o755)
             return cases.ended(program, {"words": "", "input": "", "output": "", **row})
-
-    def test_words_and_texts(self):
-        script = 'echo "$# $1"; echo "of $2" >&2; exit 2'
-        self.assertEqual(self.ended(script, words="one two"), ("2", "2 one\\n", "of two"))
 
     def test_words(self):
         self.assertEqual(cases.words_of('all "" A|\\xff\\xc3'), [b"all", b"", b"A|\xff\xc3"])
@@ -228,34 +149,10 @@ class Cases(unittest.TestCase):
 
 
 # Rows that allocate twice if the argument is `short`, first to be read.
-COUNTS_ROWS = """\
-#!/bin/sh
-[ "$1" = short ] || exit 2
-case "$REFUSED_ALLOCATION" in 1 | 2) printf ! > "/dev/fd/$REFUSAL_TOLD" ;; esac
-case "$REFUSED_ALLOCATION" in
-1) echo 'the rows could not be read: out of memory' && exit 1 ;;
-2) echo '7 rows, 0 differ, 1 out of memory' ;;
-*) echo '7 rows, 0 differ' ;;
-esac
-"""
+COUNTS_ROWS = (DATA / "rows.sh").read_text(encoding="utf-8")
 
 
 class Allocations(unittest.TestCase):
-    def test_refused_shapes(self):
-        with tempfile.TemporaryDirectory() as folder:
-            plain = (0, b"read\n", b"")
-            self.assertIsNone(allocations.refused_shapes(Path(folder), plain))
-            (Path(folder) / "refused").write_text("3\n\nout of memory\n", encoding="utf-8")
-            self.assertEqual(allocations.refused_shapes(Path(folder), plain), (3, b"", b"out of memory\n"))
-            (Path(folder) / "refused").write_text("as ever\n", encoding="utf-8")
-            self.assertEqual(allocations.refused_shapes(Path(folder), plain), plain)
-            (Path(folder) / "refused").write_text("first 24\n", encoding="utf-8")
-            self.assertIsNone(allocations.refused_shapes(Path(folder), plain))
-            self.assertEqual(allocations.first_refused(Path(folder)), 24)
-            (Path(folder) / "refused").write_text("rows\n", encoding="utf-8")
-            self.assertIsNone(allocations.refused_shapes(Path(folder), plain))
-            self.assertIsNone(allocations.first_refused(Path(folder)))
-
     def test_ends_of_rows(self):
         plain = (0, b"312 rows, 0 differ\nmore: 0 differ\n", b"")
         one_less = (0, b"312 rows, 0 differ, 1 out of memory\nmore: 0 differ\n", b"")
@@ -281,37 +178,7 @@ class Allocations(unittest.TestCase):
                 self.assertEqual((count, not wrong), (2, is_well))
 
 
-SOURCE = """\
-ghost use Rattle.std.specs.Prelude.{◌≡◌, IfOk};
-ghost use Rattle.wasm_low.specs.Words.{Encodes, Hidden, Long as Brief};
-ghost use Rattle.wasm_low.specs.base.Source.{Reader};
-ghost use Rattle.wasm_low.specs.declared.error.Error.{Error};
-
-impl Reader {
-    /// Reads.
-    pub fn read(
-        &mut self,
-    ) -> Result<u32>
-        requires { Brief self.old }
-        // (Hidden is not said)
-        ensures ok { IfOk result (λ n.
-            Encodes n) }
-    {
-        Hidden(1)
-    }
-
-    fn inner(&self) -> u32
-        ensures { Hidden result }
-    {
-        1
-    }
-}
-
-pub trait Reads {
-    fn of(&self) -> u32
-        ensures { Encodes result };
-}
-"""
+SOURCE = (DATA / "contracts.rt.txt").read_text(encoding="utf-8")
 
 
 # What the names in `specs` of two crates lead to.
@@ -367,7 +234,7 @@ class Run(unittest.TestCase):
                 self.assertTrue(os.access(path, os.X_OK))
                 self.assertTrue(run.line_of(path).endswith("."))
         self.assertTrue({"edits", "lists", "cases", "compactions", "blocks"} <= run.of_gate(found))
-        self.assertFalse({"growth", "bench", "clients"} & run.of_gate(found))
+        self.assertFalse({"large", "bench", "clients"} & run.of_gate(found))
 
 
 class Touches(unittest.TestCase):
@@ -379,11 +246,3 @@ class Touches(unittest.TestCase):
         self.assertIsNone(source.search("use Rattle.wasm_imm.specs.Sources.{rest}"))
         steps = touches.names_it(cases.TOP / "crates" / "wasm_below" / "proofs" / "Steps.antt", "wasm_below")
         self.assertTrue(steps.search("use Rattle.wasm_below.proofs.Steps.{unsigned_some}"))
-
-    def test_lowest_first(self):
-        touches = tool("touches")
-        below = touches.crates(touches.TOP)
-        ordered = touches.lowest_first(below)
-        self.assertEqual(sorted(ordered), sorted(below))
-        for at, name in enumerate(ordered):
-            self.assertFalse(set(below[name]) & set(ordered[at:]), name)

@@ -1,13 +1,11 @@
 import contextlib
 import io
-import tempfile
 import unittest
 import xml.etree.ElementTree
-from dataclasses import dataclass
 from pathlib import Path
 
 from pages import speed
-from shared import arguments, crates, leb128, modules, tables
+from shared import arguments, crates
 
 DOC = "Does it.\n\n    tools/it.py 100%\n"
 
@@ -48,50 +46,9 @@ class CratesTxt(unittest.TestCase):
         self.assertEqual(crates.below(listed, "top"), ["low", "high"])
 
 
-class Leb128(unittest.TestCase):
-    def test_unsigned(self):
-        for value, text in ((0, "00"), (127, "7f"), (128, "8001"), (624485, "e58e26")):
-            self.assertEqual(leb128.unsigned(value).hex(), text)
-            self.assertEqual(leb128.read(b"\xff" + bytes.fromhex(text), 1), (value, 1 + len(text) // 2))
-
-    def test_signed(self):
-        for value, text in ((0, "00"), (-1, "7f"), (63, "3f"), (64, "c000"), (-123456, "c0bb78")):
-            self.assertEqual(leb128.signed(value).hex(), text)
-
-
-class Modules(unittest.TestCase):
-    def test_sections(self):
-        bodies = modules.vector([modules.sized(b"\0\x0b")])
-        whole = modules.module({1: b"\0", 10: bodies})
-        self.assertEqual(whole.hex(), "0061736d01000000" "010100" "0a040102000b")
-        self.assertEqual(list(modules.sections(whole)), [(1, 8, 10, 11), (10, 11, 13, 17)])
-        self.assertEqual(modules.code(whole), (13, 17))
-        self.assertIsNone(modules.code(whole[:11]))
-
-
-@dataclass
-class Kind:
-    word: str
-    types: tuple = ()
-    most: int = 7
-    is_wrapped: bool = False
-
-
-class Tables(unittest.TestCase):
-    def test_records(self):
-        with tempfile.TemporaryDirectory() as folder:
-            path = Path(folder) / "kinds.tsv"
-            path.write_text("word\ttypes\tmost\tis_wrapped\none\ta | b\t3\tyes\nother\t\t\t\n")
-            self.assertEqual(list(tables.records(Kind, path)), [Kind("one", ("a", "b"), 3, True), Kind("other")])
-
-
 class Speed(unittest.TestCase):
     def test_picture(self):
         root = xml.etree.ElementTree.fromstring(speed.picture())
         rows = sum(map(len, speed.panels().values()))
         bars = [it for it in root if it.tag.endswith("rect") and it.get("height") == "16"]
         self.assertEqual((rows, len(bars)), (10, 20))
-
-
-if __name__ == "__main__":
-    unittest.main()

@@ -1,7 +1,7 @@
 import re
 import unittest
 
-from original import lines_of, signatures
+from original import signatures
 from signature import RULES, Signature
 from table import PROPOSALS, table
 
@@ -118,15 +118,3 @@ class Column(unittest.TestCase):
 
     def test_each_rule_is_used(self):
         self.assertEqual({op.signature.rule for op in self.ops} - {""}, set(RULES))
-
-    def test_cells(self):
-        it = Signature("[i32 (ref i31)] -> []")
-        self.assertEqual((it.params, it.results, it.rule, it.is_fixed), (["i32", "(ref i31)"], [], "", True))
-        it = Signature("rule branch")
-        self.assertEqual((it.params, it.results, it.rule, it.is_counted), (None, None, "branch", False))
-        it = Signature("unsupported: [t] -> [ref]")
-        self.assertEqual((it.params, it.results, it.is_unsupported), (["t"], ["ref"], True))
-
-
-if __name__ == "__main__":
-    unittest.main()

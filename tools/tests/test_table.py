@@ -7,6 +7,7 @@ import expected_reading as reading
 from changes import CHANGES
 from original import differences, originals, proposals
 from rules import faults
+from shared import tables
 from table import COLUMNS, PROPOSALS, TOP, Operator, rows_of, shared, table
 
 SHARED = ("TypedSelect", "TypedSelectMulti")
@@ -52,7 +53,7 @@ class Original(unittest.TestCase):
 
     def test_each_column_is_compared(self):
         for column, other in {
-            "proposal": "gc", "visit": "visit_nip", "prefix": "fc", "code": "05", "fields": "mem: u32",
+            "proposal": "gc", "text": "none", "visit": "visit_nip", "prefix": "fc", "code": "05", "fields": "mem: u32",
             "immediates": "unsigned", "signature": "[i32] -> []",
         }.items():
             ops = table()
@@ -80,76 +81,8 @@ class Original(unittest.TestCase):
         )
 
 
-# A change of a row, and what the error says.
-WRONG = [
-    ("Nop", "name", "nop", "the name is not a variant's"),
-    ("Nop", "name", "Unreachable", "the name is already used by Unreachable, line 2"),
-    ("Nop", "name", "UNREACHABLE", "the name is already used by Unreachable, line 2"),
-    ("Nop", "text", "", "the text '' is no name of the text format"),
-    ("Nop", "text", "Nop", "the text 'Nop' is no name of the text format"),
-    ("Nop", "text", "i32..nop", "the text 'i32..nop' is no name of the text format"),
-    ("Nop", "visit", "nop", "does not begin with visit_"),
-    ("Nop", "visit", "visit_unreachable", "the visit is already used by Unreachable, line 2"),
-    ("Nop", "code", "00", "the code is already used by Unreachable, line 2"),
-    ("TypedSelectMulti", "code", "1b", "the code is already used by Select"),
-    ("Nop", "code", "1", "is not of two or three hexadecimal digits"),
-    ("Nop", "code", "FF", "is not of two or three hexadecimal digits"),
-    ("Nop", "code", "fd", "fd is a prefix byte"),
-    ("Nop", "code", "101", "more than a byte"),
-    ("DataDrop", "code", "400", "the subopcode is above 3ff"),
-    ("DataDrop", "prefix", "fa", "the prefix byte 'fa' is not one of fb, fc, fd, fe"),
-    ("Nop", "proposal", "mpv", "the proposal 'mpv' is not known"),
-    ("Nop", "proposal", "simd", "an operator has the prefix byte fd if and only if"),
-    ("I8x16Add", "proposal", "mvp", "an operator has the prefix byte fd if and only if"),
-    ("Br", "fields", "depth u32", "is not a name and a type"),
-    ("Br", "fields", "depth: u33", "the type u33 of depth is not known"),
-    ("Br", "fields", "op: u32", "no field can be named op"),
-    ("Br", "fields", "kind: u32", "no field can be named kind"),
-    ("Br", "fields", "depth: i32", "the immediates need fields of u32, and the fields are of i32"),
-    ("Br", "fields", "", "the immediates need fields of u32, and the fields are of none"),
-    ("MemoryCopy", "fields", "mem: u32, mem: u32", "two fields are named mem"),
-    ("Br", "immediates", "number", "the immediate 'number' is of no known kind"),
-    ("Br", "immediates", "branch_table", "only the operator with visit_br_table may have a branch table"),
-    ("Br", "immediates", "unsigned,  , unsigned", "the immediate ' ' is of no known kind"),
-    ("I32Load", "immediates", "memory", "memory is followed by one of Plain, Op, Rmw"),
-    ("I32Load", "immediates", "memory Plain 5", "memory is followed by one of Plain, Op, Rmw"),
-    ("I32Load", "immediates", "memory Simple 2", "memory is followed by one of Plain, Op, Rmw"),
-    ("Br", "immediates", "unsigned 3", "other words by nothing"),
-    ("Nop", "signature", "", "the signature '' is not [TYPES] -> [TYPES], alone or after"),
-    ("Nop", "signature", "[i32]", "the signature '[i32]' is not [TYPES] -> [TYPES]"),
-    ("Nop", "signature", "[i32  i32] -> []", "is not [TYPES] -> [TYPES]"),
-    ("Nop", "signature", "rule branch:", "is not [TYPES] -> [TYPES]"),
-    ("Nop", "signature", "rule branch [] -> []", "is not [TYPES] -> [TYPES]"),
-    ("Nop", "signature", "rule jump", "the rule 'jump' is not one of parametric, construct, branch,"),
-    ("Nop", "signature", "[] -> [i8]", "the type 'i8' of the signature is not one of i32, i64, f32, f64, v128, addr,"),
-    ("Nop", "signature", "[t] -> []", "the type 't' of the signature is not one of"),
-    ("Nop", "signature", "rule local: [type] -> []", "the type 'type' of the signature is not one of"),
-    ("Nop", "signature", f"[{' '.join(['i32'] * 10)}] -> []", "the signature has more than 9 operands or results"),
-    ("Nop", "signature", "[addr] -> []", "it has an address, and no field for its memory"),
-    ("I32Load", "signature", f"[addr{' i32' * 7}] -> []", "an access takes at most 7 operands besides the array"),
-    ("I32Load", "immediates", "memory Plain 2, memory Plain 2", "an access has exactly one memory argument"),
-    ("Nop", "visit", "visit_nop ", "a blank at the edge"),
-    ("Br", "writer", "one_number", "the writer 'one_number' is not one of indirect, reference_with_null, reference_without_null"),
-    ("Br", "writer", "indirect", "the writer indirect takes u32, u32, and the fields are of u32"),
-    ("Nop", "writer", "reference_with_null", "takes HeapType, and the fields are of none"),
-    ("Block", "role", "opens", "the role 'opens' is not one of opens block, opens loop,"),
-    ("Nop", "role", "plain", "the role 'plain' is not one of opens block, opens loop,"),
-    ("RefI31", "role", "ends", "not numeric may have a role or a feature"),
-    ("I32Add", "feature", "LEGACY_EXCEPTIONS", "not numeric may have a role or a feature"),
-    ("Try", "feature", "legacy_exceptions", "the feature 'legacy_exceptions' is not one of LEGACY_EXCEPTIONS"),
-    ("Nop", "inline", "decode", "'decode' is not one of decoder, decoder alone, view"),
-    ("Nop", "inline", "view, decoder", "not in the order decoder, decoder alone, view"),
-    ("Nop", "inline", "view, view", "not in the order decoder, decoder alone, view"),
-    ("Nop", "inline", "decoder, decoder alone", "or in a separate arm, not in both"),
-    ("Else", "inline", "decoder", "no inline arm for an operator that needs a frame or a feature"),
-    ("Try", "inline", "decoder alone", "no inline arm for an operator that needs a frame or a feature"),
-    ("TryTable", "inline", "decoder", "needs a frame or a feature, or may own or borrow"),
-    ("BrTable", "inline", "decoder", "needs a frame or a feature, or may own or borrow"),
-    ("I32Add", "inline", "decoder", "not numeric may be inline"),
-    ("RefI31", "inline", "view", "not numeric may be inline"),
-]
-
-
+# Changes of a row's cell, and what the error says.
+WRONG = Path(__file__).with_name("wrong_operators.tsv")
 VECTOR = {
     "proposal": "simd", "name": "V128More", "text": "v128.more", "visit": "visit_v128_more", "prefix": "fd",
     "code": "200", "signature": "[] -> []",
@@ -161,7 +94,7 @@ class Rules(unittest.TestCase):
         self.assertEqual(faults(), [])
 
     def test_each_error(self):
-        for name, column, value, wanted in WRONG:
+        for name, column, value, wanted in map(dict.values, tables.rows_of(WRONG)):
             line = 0
 
             def change(rows):

@@ -1,9 +1,6 @@
-import io
-import os
 import tempfile
 import time
 import unittest
-from contextlib import redirect_stdout
 from pathlib import Path
 from unittest import mock
 
@@ -50,12 +47,6 @@ class Finding(unittest.TestCase):
             jobs = items.find_jobs(repository(folder, files), is_full)
         return [it for job in jobs for it in job.items if it not in items.CHECKS]
 
-    def test_crates(self):
-        with tempfile.TemporaryDirectory() as folder:
-            crates = repository(folder, {})
-            self.assertEqual(crates.below("program"), ["low", "middle"])
-            self.assertEqual(crates.of_kit("low"), ["std", "bitflags"])
-
     def test_a_program_without_output_is_no_item(self):
         self.assertEqual(self.items({}), [])
 
@@ -101,21 +92,6 @@ class Pool(unittest.TestCase):
         self.assertEqual(order({"a", "b", "b/1", "new", "d"}), ["new", "d", "b", "a"])
         self.assertEqual(order({"a", "b"}), ["a", "b"])
 
-    def test_stored_costs(self):
-        self.assertTrue(all(seconds >= 0 for seconds in pool.costs().values()))
-
-    def test_memory(self):
-        self.assertEqual(pool.free_memory("MemTotal: 9 kB\nMemAvailable:     3 kB\n"), 3072)
-        self.assertIsNone(pool.free_memory("MemTotal: 9 kB\n"))
-        with tempfile.TemporaryDirectory() as folder:
-            self.assertIsNone(pool.group_memory(Path(folder)))
-            for name, text in (("memory.max", "500\n"), ("memory.current", "200\n")):
-                (Path(folder) / name).write_text(text, encoding="ascii")
-            self.assertEqual(pool.group_memory(Path(folder)), 300)
-            (Path(folder) / "memory.max").write_text("max\n", encoding="ascii")
-            self.assertIsNone(pool.group_memory(Path(folder)))
-        self.assertTrue(1 <= pool.jobs_at_once() <= len(os.sched_getaffinity(0)))
-
     def results(self, *jobs, count=2):
         wanted = {it for job in jobs for it in job.items}
         return {item: not faults for item, faults, _, _ in pool.results(jobs, None, wanted, count)}
@@ -129,21 +105,10 @@ class Pool(unittest.TestCase):
 
 
 class Reporting(unittest.TestCase):
-    def test_equal(self):
-        self.assertEqual(outcome.difference(b"a\n", b"a\n", "stdout"), [])
-
-    def test_first_lines(self):
-        found = outcome.difference(b"a\nb\nc\n", b"a\nB\nc\n", "stdout")
-        self.assertEqual(found, ["stdout, line 2:", "  expected 'b'", "  found    'B'"])
-
     def test_cut(self):
         found = outcome.difference(b"a\nb\n", b"a", "stdout")
         self.assertEqual(found[:3], ["stdout, line 2:", "  expected 'b'", "  found    the end"])
         self.assertTrue(outcome.difference(b"a", b"a\n", "stdout"))
-
-    def test_tail(self):
-        self.assertEqual(outcome.tail("a\nb\nc\n", 2), ["b", "c"])
-        self.assertEqual(outcome.tail("\n"), [])
 
 
 class Running(unittest.TestCase):
@@ -153,35 +118,11 @@ class Running(unittest.TestCase):
         self.assertIsNone(running.run(["true"], 60, "/").failure(60))
         self.assertIn("SIGSEGV", running.run(["sh", "-c", "kill -SEGV $$"], 60, "/").failure(60))
 
-    def test_input(self):
-        with tempfile.NamedTemporaryFile() as given:
-            given.write(b"text")
-            given.flush()
-            self.assertEqual(running.run(["cat"], 60, "/", given=given.name).out, b"text")
-
     def test_limit_ends_the_group(self):
         began = time.monotonic()
         ran = running.run(["sh", "-c", "sleep 100 & sleep 100"], 0.2, "/")
         self.assertEqual(ran.failure(0.2), "not finished after 0.2 s, killed")
         self.assertLess(time.monotonic() - began, 50)
-
-
-class Scripts(unittest.TestCase):
-    def test_missing(self):
-        self.assertEqual(built.built("no_crate"), [])
-        self.assertIn("crates/no_crate/out/no_crate is missing", built.missing("no_crate"))
-        self.assertEqual(built.missing("a", Path("/b")), "a: /b is missing")
-
-    def test_over_programs(self):
-        for given, run, wanted in (
-            (Path(__file__), (3, []), (False, "it: 3 run, 0 wrong\n")),
-            (Path(__file__), (0, []), (True, "it: 0 run, 0 wrong\n")),
-            (Path(__file__), (3, ["case: wrong"]), (True, "test_testing.py, case: wrong\nit: 3 run, 1 wrong\n")),
-            (Path("/b"), (3, []), (True, "a: /b is missing\nit: 0 run, 1 wrong\n")),
-        ):
-            with redirect_stdout(io.StringIO()) as out:
-                is_wrong = built.over_programs("it", ["a"], given, lambda program, name: run)
-            self.assertEqual((is_wrong, out.getvalue()), wanted)
 
 
 class SelfTest(unittest.TestCase):
@@ -193,11 +134,3 @@ class SelfTest(unittest.TestCase):
         for broken in found:
             before = broken.path.read_text(encoding="utf-8") if broken.path.exists() else ""
             self.assertNotEqual(broken.change(before), before, broken.path)
-
-    def test_lines(self):
-        lines = "ok 3 s low/cases\nFAILED 12 s expected-reading\n    ok\n7 passed, 1 failed\n"
-        self.assertEqual(selftest.LINE.findall(lines), [("ok", "low/cases"), ("FAILED", "expected-reading")])
-
-
-if __name__ == "__main__":
-    unittest.main()

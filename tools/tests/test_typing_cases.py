@@ -1,10 +1,10 @@
-import json
 import tempfile
 import unittest
 from collections import Counter
 from pathlib import Path
 
 import typing_cases as typing
+from shared.crates import TOP
 from typing_cases import Case
 
 HEAD = bytes.fromhex("0061736d01000000")
@@ -24,18 +24,6 @@ def program(folder, text):
 
 
 class Table(unittest.TestCase):
-    def test_rows_are_read_back(self):
-        with tempfile.TemporaryDirectory() as folder:
-            path = Path(folder) / "cases.tsv"
-            path.write_text(typing.text_of(CASES), encoding="utf-8")
-            self.assertEqual(typing.cases_of(path), CASES)
-
-    def test_packed(self):
-        self.assertEqual(typing.packed(b"abxcd", b"abycd"), "2,2,78")
-        self.assertEqual(typing.packed(b"aa", b"a"), "1,0,61")
-        self.assertEqual(typing.unpacked("2,2,78", b"abycd"), b"abxcd")
-        self.assertEqual(typing.unpacked("1,0,61", b"a"), b"aa")
-
     def test_the_cases(self):
         cases = typing.cases_of()
         self.assertEqual(Counter(it.verdict for it in cases), {"invalid": 5835, "valid": 1421, "unsupported": 68})
@@ -43,6 +31,19 @@ class Table(unittest.TestCase):
             self.assertTrue(it.module.startswith(HEAD))
             self.assertFalse(it.verdict == "valid" and it.offset)
             self.assertFalse(it.verdict == "invalid" and not it.message)
+
+    def test_rows_of_the_checker(self):
+        """A row of wasm_tests_check has the verdict of its case, and a body of its module."""
+        cases = {f"{it.name}, {it.label}": it for it in typing.cases_of()}
+        text = (TOP / "crates/wasm_tests_check/stdin").read_text(encoding="utf-8")
+        rows = [line.split("\t") for line in text.splitlines()]
+        by_hand = [cells for cells in rows if cells[0] not in cases]
+        self.assertEqual({cells[0].split(", ")[0] for cells in by_hand}, {"locals", "constant"})
+        self.assertEqual((len(rows), len(by_hand)), (6123, 26))
+        for cells in (it for it in rows if it[0] in cases):
+            case = cases[cells[0]]
+            self.assertEqual(cells[-1], "valid" if case.is_valid else "invalid", cells[0])
+            self.assertIn(bytes.fromhex(cells[-2]), case.module, cells[0])
 
 
 class Compared(unittest.TestCase):
@@ -59,18 +60,3 @@ class Compared(unittest.TestCase):
         with tempfile.TemporaryDirectory() as folder:
             found = typing.compared(program(folder, ""), CASES, False)
             self.assertEqual([it.split(":")[0] for it in found], ["Nop, more", "Drop, more", "Try, ok"])
-
-
-class Written(unittest.TestCase):
-    def test_from_a_folder(self):
-        with tempfile.TemporaryDirectory() as folder:
-            for name in typing.FILES:
-                rows = [[name, "ok", True, CASES[0].module.hex()]] if name in ("fixed", "unsup") else []
-                (Path(folder) / f"{name}.json").write_text(json.dumps(rows), encoding="utf-8")
-            text = "*_, it = sys.argv[1:]\nprint(f'{it} 0x8 default' if '--default' in sys.argv else f'{it} ok')\n"
-            found = typing.written(folder, program(folder, text))
-            self.assertEqual([(it.verdict, it.message) for it in found], [("valid", ""), ("unsupported", "default")])
-
-
-if __name__ == "__main__":
-    unittest.main()

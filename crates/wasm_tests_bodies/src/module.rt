@@ -10,7 +10,8 @@ use wasm_tests_texts::Written;
 
 const ITEMS: u32 = 8;
 
-/// Writes the module's kind, and each section's number and contents' range.
+/// Appends the kind of the module `given` to `out`, then the number of each section and the range of
+/// its contents.
 pub fn write_sections(given: Given<'_>, out: &mut String) -> Written {
     let mut reader = given.reader();
     match read_preamble(&mut reader) {

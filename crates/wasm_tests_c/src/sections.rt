@@ -25,7 +25,8 @@ fn declaration_of(text: &str) -> Option<WasmLocals> {
     })
 }
 
-/// Calls `wasm_encode_locals` and `wasm_encode_body`. Returns the errors. `length` is of the body.
+/// Calls `wasm_encode_locals` and `wasm_encode_body`. Returns the numbers of their errors, and sets
+/// `length` to the length of the body.
 fn encode(
     locals: &[WasmLocals],
     operators: &[u8],
@@ -41,8 +42,10 @@ fn encode(
     )
 }
 
-/// Writes the section in hexadecimal. Then writes the errors with a byte of space too few, for a
-/// section and a body, and whether no byte changed; and the errors for what is no value type.
+/// Writes a code section with one body in hexadecimal. `text` has the body's declarations of locals,
+/// each followed by `;`, and `operators` the bytes after them. Then writes the number of the error if
+/// the array is a byte too short for the section, and whether that call changed no byte of it; the
+/// same for the body; and the errors of calls with a local of no value type.
 pub fn write_section(alloc: Global, out: &mut String, text: &str, operators: &[u8]) -> Written {
     let mut locals = Vec::<WasmLocals>::new(alloc);
     for part in text.split(';') {

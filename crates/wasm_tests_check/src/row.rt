@@ -46,7 +46,7 @@ pub struct Row {
     pub valid: bool,
 }
 
-/// Reads a row. `tools/typing_rows.py` has its form.
+/// Reads a row. The README of this crate has its form.
 pub fn row_of(alloc: Global, line: &str) -> Result<Row, AllocError> {
     let mut cells = line.split('\t');
     let _name = cells.next();

@@ -38,7 +38,8 @@ fn main(rt: HostRuntime) -> io::Result<()> {
     print_visitors(&rt, alloc)
 }
 
-/// Prints the operator of a line: the innermost frame, and the bytes in hexadecimal.
+/// Reads the operator that a line of the input encodes, and prints what is known of it. The line has
+/// the name of the innermost frame, a space, and the operator's bytes in hexadecimal.
 fn print_line<R: Print>(rt: &R, alloc: Global, bytes: &mut Vec<u8>, line: &str) -> io::Result<()> {
     let mut words = line.split_whitespace();
     let frame = frame_named(words.next().unwrap_or(""));

@@ -1,0 +1,3 @@
+    {option})
+        mapfile -t COMPREPLY < <(compgen -W '{words}' -- "$word")
+        ;;
