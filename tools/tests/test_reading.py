@@ -2,6 +2,7 @@ import re
 import unittest
 
 import expected_reading as reading
+import expected_writing as writing
 from original import originals
 from printed_fields import printed_field_files
 from shared.leb128 import read
@@ -56,3 +57,12 @@ class Printed(unittest.TestCase):
         for op in table():
             enum = "Operator" if op.group == "Own" else f"{op.group}Operator"
             self.assertEqual(len(re.findall(rf"\b{enum}::{op.name}\b", text)), 1 if op.fields else 0)
+
+
+class Written(unittest.TestCase):
+    def test_shortest_of_two_of_each(self):
+        rows, ops = list(writing.rows()), {op.name: op for op in ORIGINALS}
+        self.assertEqual([name for name, *_ in rows], [name for name in ops for _ in range(2)])
+        for name, _, given, _, short in rows:
+            self.assertLessEqual(len(short), len(given), name)
+            self.assertEqual(writing.shortest(ops[name], short), short)
