@@ -28,7 +28,7 @@ the program are written by hand from the standard.
 
 import re
 
-from shared import leb128, modules
+from shared import modules
 from shared.arguments import read
 from shared.crates import TOP
 from shared.tables import rows_of
@@ -191,15 +191,7 @@ def code_lines():
 
 def function_at(module, offset):
     """Returns the index of the function whose body has an offset, in a module without imports, or `-` if none has it."""
-    for number, _, start, _ in modules.sections(module):
-        if number == modules.CODE and start <= offset:
-            count, at = leb128.read(module, start)
-            for index in range(count):
-                length, body = leb128.read(module, at)
-                at = body + length
-                if body <= offset <= at:
-                    return index
-    return "-"
+    return next((index for index, (start, end) in enumerate(modules.bodies(module)) if start <= offset <= end), "-")
 
 
 def verdict_of(case):
