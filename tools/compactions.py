@@ -230,11 +230,12 @@ def timed(program, path, folder):
 
 def main():
     given = read(__doc__, "--program PROGRAM", "--engines DIR", "WORD..")
-    paths, stored, made = [Path(word).resolve() for word in given.words if word != NAME], sorted(DATA.glob("*.wasm")), []
+    paths = [Path(word).resolve() for word in given.words if word != NAME]
     if lost := [str(path) for path in paths if not path.is_file()]:
         sys.exit(f"{lost[0]}: no such file")
+    stored, made, engines = sorted(DATA.glob("*.wasm")), [], given.engines and Engines(given.engines)
     with tempfile.TemporaryDirectory() as temporary:
-        folder, engines = Path(temporary), given.engines and Engines(given.engines)
+        folder = Path(temporary)
         if engines:
             engines.build_reencoder(folder / "encoder")
             made += engines.smith([], (random.Random(seed).randbytes(200 + 40 * seed) for seed in range(SMITH)), folder)

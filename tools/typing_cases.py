@@ -34,7 +34,8 @@ COLUMNS = ["name", "label", "verdict", "offset", "message", "module"]
 SAME = '"'
 BATCH = 200
 SECONDS = 300
-REJECTED = re.compile(r"(?P<file>\S+): error at 0x(?P<offset>[0-9a-f]+)(?: \(function \d+(?: <.*>)?\))?: (?P<message>.*)")
+FUNCTION = r"(?: \(function \d+(?: <.*>)?\))?"
+REJECTED = re.compile(rf"(?P<file>\S+): error at 0x(?P<offset>[0-9a-f]+){FUNCTION}: (?P<message>.*)")
 
 
 @dataclass

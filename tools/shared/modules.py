@@ -63,7 +63,7 @@ class Engines:
         return subprocess.run(command, input=given, capture_output=True, timeout=seconds)
 
     def smith(self, flags, inputs, folder):
-        """Writes into a folder what `wasm-tools smith` makes of each input, if that is a module, and yields the paths."""
+        """Writes the module that `wasm-tools smith` makes of each input into a folder, and yields its path."""
         folder.mkdir(exist_ok=True)
         for number, given in enumerate(inputs):
             ran = self.run(["wasm-tools", "smith", *flags], given)

@@ -131,7 +131,8 @@ class Checked(InFolder):
         self.file("README.md", "All 628 operators,\n255 SIMD operators of 20 proposals, 627 visits.\n")
         found = lambda ops: [it.split(": ")[1] for it in wrong_counts(ops, self.folder)]
         self.assertEqual(found(table()), ["255 SIMD operators", "20 proposals"])
-        self.assertEqual(found([*table(), table()[0]]), ["628 operators", "255 SIMD operators", "20 proposals", "627 visits"])
+        more = found([*table(), table()[0]])
+        self.assertEqual(more, ["628 operators", "255 SIMD operators", "20 proposals", "627 visits"])
 
 
 class Templates(unittest.TestCase):

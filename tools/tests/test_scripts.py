@@ -1,6 +1,5 @@
 import io
 import os
-import tempfile
 import unittest
 
 import allocations
@@ -132,14 +131,6 @@ class Cases(InFolder):
 
     def test_closed_pipe(self):
         self.assertEqual(self.ended("trap '' PIPE; echo one 2>/dev/null || exit 7", output="closed"), ("7", "closed", ""))
-
-    def test_files_of_the_repository(self):
-        for path in TOP.glob("crates/*/cases.tsv"):
-            for case in cases.cases_of(path):
-                with self.subTest(f"{path.parent.name}: {case['case']}"):
-                    self.assertTrue(case["case"] and case["status"].isdigit())
-                    with tempfile.TemporaryDirectory() as folder:
-                        cases.opened(folder, case)
 
 
 class Allocations(InFolder):

@@ -44,7 +44,8 @@ class Compared(InFolder):
 
     def test_same_and_different(self):
         says = {"00001.wasm": "0x9 (function 0): type mismatch: c", "00002.wasm": "0x8: type mismatch: b", "00003.wasm": "0x7: no"}
-        text = f"says = {says}\nfor it in sys.argv[1:]:\n    if it in says: print(f'{{it}}: error at {{says[it]}}')\nsys.exit(1)\n"
+        said = "    if it in says: print(f'{it}: error at {says[it]}')"
+        text = f"says = {says}\nfor it in sys.argv[1:]:\n{said}\nsys.exit(1)\n"
         (found,) = self.found(text)
         self.assertIn("Drop, more: invalid (0x9 type mismatch: b), and 0x8 type mismatch: b by the program", found)
         self.assertEqual([it.split(":")[0] for it in self.found(text, True)], ["Nop, more", "Drop, more", "Try, ok"])
