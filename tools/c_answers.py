@@ -158,9 +158,9 @@ def value_lines():
     return ["\t".join(["value", *row.values()]) for row in rows_of(VALUES)]
 
 
-def module_lines(folder=MODULES):
+def module_lines():
     lines = []
-    for path in sorted(folder.glob("*.wasm")):
+    for path in sorted(MODULES.glob("*.wasm")):
         listing = path.with_suffix(".txt").read_text(encoding="utf-8")
         heads = re.findall(r"^([0-9a-f]+) func\[(\d+)\](?: <(.*)>)?:$", listing, re.M)
         functions = "".join(f"{index} {int(offset, 16)} {name};" for offset, index, name in heads)
