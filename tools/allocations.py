@@ -83,27 +83,6 @@ def followed(label, words, given, library, allowed, first=None):
     return MOST, [*wrong, f"{label}: more than {MOST} allocations"]
 
 
-def refused_text(crate):
-    path = crate / "refused"
-    return path.read_text(encoding="utf-8") if path.exists() else ""
-
-
-def first_refused(crate):
-    found = FIRST.fullmatch(refused_text(crate))
-    return int(found[1]) if found else None
-
-
-def refused_shapes(crate, plain):
-    text = refused_text(crate)
-    if not text or text == ROWS or FIRST.fullmatch(text):
-        return None
-    if text == AS_EVER:
-        return plain
-    status, wrote, complained = text.split("\n")[:3]
-    line = lambda text: f"{text}\n".encode() if text else b""
-    return int(status), line(wrote), line(complained)
-
-
 def is_end_of_rows(ended, plain):
     """Returns whether a program of rows may end so. `plain` is its end if no allocation fails."""
     status, wrote, complained = ended
@@ -113,13 +92,17 @@ def is_end_of_rows(ended, plain):
     return plain[0] == 0 and lines == 1 and ended in (plain, (0, one_less, plain[2]))
 
 
-def allowed_ends(crate, plain):
-    if refused_text(crate) == ROWS:
+def allowed_ends(refused, plain):
+    """Returns whether a run may end so, by the text of the file `refused`."""
+    if refused == ROWS:
         return lambda ran: is_end_of_rows(ran.shape, plain) if ran.was_refused else ran.shape == plain
-    refused = refused_shapes(crate, plain)
-    if refused is None:
+    if not refused or FIRST.fullmatch(refused):
         return lambda ran: ran.status is not None and ran.status >= 0
-    return lambda ran: ran.shape == (refused if ran.was_refused else plain)
+    if refused == AS_EVER:
+        return lambda ran: ran.shape == plain
+    status, *texts = refused.split("\n")[:3]
+    end = (int(status), *(f"{text}\n".encode() if text else b"" for text in texts))
+    return lambda ran: ran.shape == (end if ran.was_refused else plain)
 
 
 def follow_program(program, crate, library):
@@ -128,9 +111,11 @@ def follow_program(program, crate, library):
     if (crate / "stdout.short").exists():
         words.append("short")
     plain = Run(words, read("stdin"), library, 0).shape
-    allowed = allowed_ends(crate, plain)
-    count, wrong = followed(program.name, words, read("stdin"), library, allowed, first_refused(crate))
-    if refused_text(crate) == ROWS and not count:
+    refused = read("refused").decode()
+    first = FIRST.fullmatch(refused)
+    allowed = allowed_ends(refused, plain)
+    count, wrong = followed(program.name, words, read("stdin"), library, allowed, first and int(first[1]))
+    if refused == ROWS and not count:
         wrong = [*wrong, f"{program.name}: its file `refused` is `rows`, and it does not allocate"]
     return count, wrong
 
@@ -160,7 +145,7 @@ def main():
         print(f"WRONG: {fault}")
     print(f"allocations: {runs} failed in turn, {len(wrong)} wrong")
     # (one program may allocate nothing, unless a file says how it ends)
-    may_be_none = given and not refused_text(TOP / "crates" / names[0])
+    may_be_none = given and not (TOP / "crates" / names[0] / "refused").exists()
     sys.exit(1 if wrong or not (runs or may_be_none) else 0)
 
 

@@ -28,7 +28,7 @@ the program are written by hand from the standard.
 
 import re
 
-from shared import leb128, modules
+from shared import modules
 from shared.arguments import read
 from shared.crates import TOP
 from shared.tables import rows_of
@@ -158,9 +158,9 @@ def value_lines():
     return ["\t".join(["value", *row.values()]) for row in rows_of(VALUES)]
 
 
-def module_lines(folder=MODULES):
+def module_lines():
     lines = []
-    for path in sorted(folder.glob("*.wasm")):
+    for path in sorted(MODULES.glob("*.wasm")):
         listing = path.with_suffix(".txt").read_text(encoding="utf-8")
         heads = re.findall(r"^([0-9a-f]+) func\[(\d+)\](?: <(.*)>)?:$", listing, re.M)
         functions = "".join(f"{index} {int(offset, 16)} {name};" for offset, index, name in heads)
@@ -191,15 +191,7 @@ def code_lines():
 
 def function_at(module, offset):
     """Returns the index of the function whose body has an offset, in a module without imports, or `-` if none has it."""
-    for number, _, start, _ in modules.sections(module):
-        if number == modules.CODE and start <= offset:
-            count, at = leb128.read(module, start)
-            for index in range(count):
-                length, body = leb128.read(module, at)
-                at = body + length
-                if body <= offset <= at:
-                    return index
-    return "-"
+    return next((index for index, (start, end) in enumerate(modules.bodies(module)) if start <= offset <= end), "-")
 
 
 def verdict_of(case):

@@ -142,10 +142,8 @@ def smith(engines, work, count):
     for part, left_out in enumerate((set(), UNREAD)):
         flags = [f"--{proposal}-enabled={str(proposal not in left_out).lower()}" for proposal in proposals]
         inputs = random.Random(SEED + part)
-        found = engines.smith(flags, (inputs.randbytes(SEED_BYTES) for _ in itertools.count()))
-        for number, (_, module) in enumerate(itertools.islice(found, count)):
-            made.append(work / f"smith-{part * count + number:03}.wasm")
-            made[-1].write_bytes(module)
+        found = engines.smith(flags, (inputs.randbytes(SEED_BYTES) for _ in itertools.count()), work / f"smith-{part}")
+        made += itertools.islice(found, count)
     return made
 
 

@@ -31,7 +31,7 @@ from pathlib import Path
 from shared import leb128, modules
 from shared.arguments import read
 from shared.crates import TOP
-from testing.built import built, missing
+from testing.built import over_programs
 
 NAME = "wasm_compact"
 DATA = TOP / "crates" / NAME / "data"
@@ -40,7 +40,6 @@ SECONDS = 60
 SMITH = 200
 FLIPS = (0x01, 0x2F, 0x80)
 CODE = 10
-KEPT = {b"name", b"producers", b"target_features", b"dylink.0", b"go.buildid"}
 OFFSETS = re.compile(rb"\.debug_.*|sourceMappingURL|external_debug_info|build_id|metadata\.code\..*", re.S)
 # wasm-tools 1.239 reads the bit of a multibyte array access as an alignment of 2^32 or more.
 ARRAY_ACCESS = re.compile(rb"align=\d{10}")
@@ -56,20 +55,6 @@ def sections_of(module):
 def name_of(contents):
     size, start = leb128.read(contents, 0)
     return contents[start : start + size]
-
-
-def bodies_of(module):
-    """Returns the bodies of the functions, or None without a code section."""
-    place = modules.code(module)
-    if place is None:
-        return None
-    count, at = leb128.read(module, place[0])
-    found = []
-    for _ in range(count):
-        size, start = leb128.read(module, at)
-        found.append(module[start : start + size])
-        at = start + size
-    return found
 
 
 def code_length(module):
@@ -130,7 +115,7 @@ class Comparison:
         before = path.read_bytes()
         ran = subprocess.run([program, *words, "-o", out, path], capture_output=True, timeout=SECONDS)
         self.runs += 1
-        what = f"{program.name}, {path.name} {' '.join(words)}"
+        what = f"{' '.join([path.name, *words])}"
         self.check(path.read_bytes() == before, f"{what}: the input is changed")
         self.check(not ran.stdout, f"{what}: wrote to standard output")
         self.check(not Path(f"{out}.partial").exists(), f"{what}: a partial file is left")
@@ -164,8 +149,8 @@ class Comparison:
 
     def against_encoder(self, what, old, new):
         """Checks that bodies are not longer than wasm-encoder's."""
-        theirs, ours = self.engines.bodies(old), bodies_of(new)
-        if theirs is None or ours is None:
+        theirs, ours = self.engines.bodies(old), [new[start:end] for start, end in modules.bodies(new)]
+        if theirs is None:
             return
         self.check(len(ours) == len(theirs), f"{what}: {len(ours)} bodies, wasm-encoder {len(theirs)}")
         for at, (one, other) in enumerate(zip(ours, theirs)):
@@ -179,7 +164,7 @@ class Comparison:
         for words in ([], ["--drop-offsets"]):
             out = folder / "out.wasm"
             status, complaint = self.rewrite(program, path, out, words)
-            what = f"{program.name}, {path.name} {' '.join(words)}"
+            what = f"{' '.join([path.name, *words])}"
             if status:
                 names = [name_of(contents) for id, _, contents in sections_of(old) if id == 0]
                 has_offsets = any(OFFSETS.fullmatch(name) for name in names)
@@ -209,7 +194,7 @@ class Comparison:
             status, _ = self.rewrite(program, given, out, ["--drop-offsets"])
             if status == 0:
                 kept += 1
-                what = f"{program.name}, {path.name}, {what}"
+                what = f"{path.name}, {what}"
                 self.same_sections(what, module, out.read_bytes(), True)
                 if self.engines:
                     self.same_by_engines(what, given, out, is_damaged=True)
@@ -218,13 +203,6 @@ class Comparison:
 
 def changed(module, at, flip):
     return module[:at] + bytes([module[at] ^ flip]) + module[at + 1 :]
-
-
-def smith(engines, folder):
-    """Writes modules of `wasm-tools smith` from fixed seeds."""
-    for seed, module in engines.smith([], (random.Random(seed).randbytes(200 + 40 * seed) for seed in range(SMITH))):
-        (folder / f"smith{seed}.wasm").write_bytes(module)
-        yield folder / f"smith{seed}.wasm"
 
 
 def percent(before, after):
@@ -252,34 +230,31 @@ def timed(program, path, folder):
 
 def main():
     given = read(__doc__, "--program PROGRAM", "--engines DIR", "WORD..")
-    engines, paths = given.engines, [Path(word).resolve() for word in given.words if word != NAME]
+    paths = [Path(word).resolve() for word in given.words if word != NAME]
     if lost := [str(path) for path in paths if not path.is_file()]:
         sys.exit(f"{lost[0]}: no such file")
-    programs = built(NAME, given.program)
-    if not programs:
-        print(missing(NAME, given.program))
-    compared = Comparison(engines and Engines(engines))
+    stored, made, engines = sorted(DATA.glob("*.wasm")), [], given.engines and Engines(given.engines)
     with tempfile.TemporaryDirectory() as temporary:
         folder = Path(temporary)
-        made = []
         if engines:
-            compared.engines.build_reencoder(folder / "encoder")
-            made = list(smith(compared.engines, folder))
-        for program in programs:
-            for path in [*sorted(DATA.glob("*.wasm")), *made]:
+            engines.build_reencoder(folder / "encoder")
+            made += engines.smith([], (random.Random(seed).randbytes(200 + 40 * seed) for seed in range(SMITH)), folder)
+
+        def run(program, _):
+            compared = Comparison(engines)
+            for path in [*stored, *made]:
                 compared.module(program, path, folder)
             for path in paths:
                 before, sizes = compared.module(program, path, folder)
                 print(saved(path, before, sizes), f"{speed(program, path, folder):.0f} MB/s")
-            for path in sorted(DATA.glob("*.wasm")):
+            for path in stored:
                 runs, kept = compared.damaged(program, path, folder)
                 print(f"{program.name}, {path.name}: {runs} damaged, {kept} rewritten")
-    for fault in compared.wrong[:40]:
-        print(f"WRONG: {fault}")
-    if engines:
-        print(f"wasm-encoder: {compared.same_bodies} bodies the same, {compared.shorter_bodies} shorter")
-    print(f"compactions: {compared.runs} run, {len(compared.wrong)} wrong")
-    sys.exit(1 if compared.wrong or not compared.runs else 0)
+            if engines:
+                print(f"wasm-encoder: {compared.same_bodies} bodies the same, {compared.shorter_bodies} shorter")
+            return compared.runs, compared.wrong
+
+        sys.exit(over_programs("compactions", [NAME], given.program, run))
 
 
 if __name__ == "__main__":

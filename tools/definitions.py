@@ -96,20 +96,13 @@ def used(names):
     return found
 
 
-def by_file(places):
-    found = {}
-    for crate, file, name in places:
-        found.setdefault((crate, file), set()).add(name)
-    return found
-
-
 def wanting(files, given, found):
     """Returns the definitions that are described, and a line for each that is not. `found` has the names in contracts."""
     known, faults = [], []
-    for place, names in sorted(by_file(found).items()):
-        file, path = files[place], "/".join(place)
-        lost = {name for name in names - file.definitions.keys() if (*place, name) in found}
-        faults += [f"{path}.antt does not define {name}, used by {found[(*place, name)]}" for name in sorted(lost)]
+    for place in sorted({(crate, name) for crate, name, _ in found}):
+        file, path, names = files[place], "/".join(place), {name for *of, name in found if tuple(of) == place}
+        lost = sorted(names - file.definitions.keys())
+        faults += [f"{path}.antt does not define {name}, used by {found[(*place, name)]}" for name in lost]
         lines = [it for it in given if it.file == place]
         for name in sorted(with_referred(file, names & file.definitions.keys())):
             words = described(file, name, lines)

@@ -9,7 +9,8 @@ It fails on
 - a `#[test]` function: tests are rows of the programs `wasm_tests_*`, since a crate with such a function is proved twice;
 - a re-export of another crate's name, except in the lists of `wasm_operators`, `wasm_encode` and `wasm_c` for users;
 - a lemma of another crate (`Rattle.OTHER.proofs.`) in a program, a static library, a proved caller or a test. What
-  callers need is a clause or a law. CITED has the exceptions. Other crates may cite lemmas of the crates that they list.
+  callers need is a clause or a law; tools/edges.tsv has the exceptions. Other crates may cite lemmas of the crates that
+  they list.
 """
 
 import re
@@ -17,32 +18,23 @@ import sys
 
 from shared.arguments import read
 from shared.crates import TOP, crates
+from shared.tables import rows_of
 
 # Programs, static libraries and proved callers. Tests are known by their names.
 OUTSIDE = ("wasm_objdump", "wasm_validate", "wasm_dump", "wasm_compact", "wasm_c_exports", "wasm_bench", "uses")
 # The crates that list names of others for users.
 LISTS = ("wasm_operators", "wasm_encode", "wasm_check", "wasm_c")
 # The exceptions: crate, library and file of the lemmas, their names, and why.
-CODES = "encodings are a prefix code, which is also a law, and not empty, which no law says"
-REFUSED = "what an error implies for the bytes"
-BENCH = ("wasm_bench",)
-STEPS = "the steps by which each type that a grammar reads is proved"
-CITED = [
-    (*BENCH, "wasm_below.proofs", "Blocks", "refused_now", REFUSED),
-    (*BENCH, "wasm_below.proofs", "PrefixCode", "byte_prefix_code signed_prefix_code signed_some", CODES),
-    (*BENCH, "wasm_below.proofs", "Steps", "number_prefix_code unsigned_some", CODES),
-    (*BENCH, "wasm_below.proofs", "TakesLemmas", "takes_then same_rest", "two calls in sequence"),
-    (*BENCH, "wasm_imm.proofs", "BlockTypes", "block_prefix_code block_empty", CODES),
-    (*BENCH, "wasm_imm.proofs", "BranchTables", "table_prefix_code", CODES),
-    (*BENCH, "wasm_imm.proofs", "FlagsNumber", "memarg_prefix_code", CODES),
-    (*BENCH, "wasm_imm.proofs", "ListLemmas", "each_more", "a longer list of texts"),
-    ("wasm_tests_sections", "wasm_grammars.proofs", "Steps", "begins ends_as fails_at placed stays then", STEPS),
-]
+CITED = TOP / "tools" / "edges.tsv"
 
 
 def allowed():
-    rows = ((crate, f"{lib}.{path}.{name}", why) for crate, lib, path, names, why in CITED for name in names.split())
-    return {(crate, lemma): why for crate, lemma, why in rows}
+    """Returns why a crate may cite a lemma, for each exception."""
+    found = {}
+    for row in rows_of(CITED):
+        for name in row["lemmas"].split():
+            found[row["crate"], f"{row['library']}.proofs.{row['file']}.{name}"] = row["why"]
+    return found
 
 
 def is_outside(name):
@@ -114,7 +106,7 @@ def main():
         else:
             wrong.append(f"{files[0]}: cites {lemma}: make it a clause or a law of the layer")
     gone = sorted(set(may) - set(found))
-    wrong += [f"tools/edges.py: {crate} does not cite {lemma}: take it out of CITED" for crate, lemma in gone]
+    wrong += [f"tools/edges.tsv: {crate} does not cite {lemma}: take it out" for crate, lemma in gone]
     print("\n".join(wrong), end="\n" if wrong else "")
     print(f"edges: {len(listed)} crates, {len(found)} lemmas cited by programs, callers and tests, {len(wrong)} wrong")
     sys.exit(1 if wrong else 0)

@@ -30,17 +30,8 @@ NUMBER = "09", "9"
 MEMARG = "410308"
 # The types of the table of types, as `OperandType` prints.
 TYPES = {
-    "i32": "I32",
-    "i64": "I64",
-    "f32": "F32",
-    "f64": "F64",
-    "v128": "V128",
-    "at": "Address",
-    "at(x)": "Address",
-    "(ref null eq)": "EqRef",
-    "(ref null array)": "ArrayRef",
-    "(ref null i31)": "I31Ref",
-    "(ref i31)": "I31",
+    "i32": "I32", "i64": "I64", "f32": "F32", "f64": "F64", "v128": "V128", "at": "Address", "at(x)": "Address",
+    "(ref null eq)": "EqRef", "(ref null array)": "ArrayRef", "(ref null i31)": "I31Ref", "(ref i31)": "I31",
 }
 # Operators whose types depend on the memory alone, and operators of fixed types that name a segment, which must exist.
 OF_MEMORY = ("MemorySize", "MemoryGrow", "MemoryFill")

@@ -89,31 +89,8 @@ def nested(n):
     return b"\0" + b"\x02\x40" * n + b"\x0b" * (n + 1)
 
 
-def alternating(n):
-    return b"\0" + b"\x02\x40\x0b" * n + b"\x0b"
-
-
 def targets(n):
-    return b"\0\x0e" + unsigned(n) + b"\0" * (n + 1) + b"\x0b"
-
-
-MOST_TARGETS = 7654321
-
-
-def too_many_targets(n):
-    return b"\0\x0e" + unsigned(MOST_TARGETS + 1) + b"\0" * n
-
-
-def locals_one_by_one(n):
-    return unsigned(n) + b"\x01\x7f" * n + b"\x0b"
-
-
-def nops(n):
-    return b"\0" + b"\x01" * n + b"\x0b"
-
-
-def with_an_error(n):
-    return 1, "error at 2: br_table size is out of bounds\n", 0
+    return b"\x0e" + unsigned(n) + b"\0" * (n + 1) + b"\x0b"
 
 
 def listed(count):
@@ -121,14 +98,17 @@ def listed(count):
     return lambda n: (0, "", count(n))
 
 
+MOST_TARGETS = 7654321
+TOO_MANY = b"\0\x0e" + unsigned(MOST_TARGETS + 1)
+REFUSED = (1, "error at 2: br_table size is out of bounds\n", 0)
 # Each body, its size, and how its listing ends.
 BODIES = {
     "nested": (nested, 1000000, listed(lambda n: 2 * n + 1)),
-    "alternating": (alternating, 1000000, listed(lambda n: 2 * n + 1)),
-    "targets": (targets, MOST_TARGETS, listed(lambda n: 2)),
-    "too many targets": (too_many_targets, MOST_TARGETS, with_an_error),
-    "locals": (locals_one_by_one, 50000000, listed(lambda n: 1)),
-    "nops": (nops, 5000000, listed(lambda n: n + 1)),
+    "alternating": (lambda n: b"\0" + b"\x02\x40\x0b" * n + b"\x0b", 1000000, listed(lambda n: 2 * n + 1)),
+    "targets": (lambda n: b"\0" + targets(n), MOST_TARGETS, listed(lambda n: 2)),
+    "too many targets": (lambda n: TOO_MANY + b"\0" * n, MOST_TARGETS, lambda n: REFUSED),
+    "locals": (lambda n: unsigned(n) + b"\x01\x7f" * n + b"\x0b", 50000000, listed(lambda n: 1)),
+    "nops": (lambda n: b"\0" + b"\x01" * n + b"\x0b", 5000000, listed(lambda n: n + 1)),
 }
 # The functions of large_bodies.c, the sizes of their bodies and the operators in a body of n.
 VISITS = {
@@ -183,35 +163,13 @@ def numbered(n):
     return FUNCTION + vector(params) + b"\0"
 
 
-def reference(index):
-    return b"\x63" + signed(index)
+def structure(index, mutability):
+    """Returns a structure type with a reference to a type."""
+    return STRUCT + vector([b"\x63" + signed(index) + mutability])
 
 
-def different(n):
-    return of_types([numbered(i) for i in range(1, n)])
-
-
-def equal(n):
-    return of_types([NO_FUNCTION] * n)
-
-
-def pairs(n):
-    """Groups of two types, of which the second differs."""
-    return of_types([GROUP + vector([NO_FUNCTION, numbered(i)]) for i in range(1, n)])
-
-
-def references(n):
-    """Structures that differ in the type that they refer to."""
-    return of_types([NO_FUNCTION] + [STRUCT + vector([reference(i) + b"\0"]) for i in range(n)])
-
-
-def empty_groups(n):
-    return of_types([NO_FUNCTION] * n + [GROUP + b"\0"] * n)
-
-
-def one_group(n):
-    """One group, whose types refer to the next."""
-    return of_types([GROUP + vector([STRUCT + vector([reference((i + 1) % n) + b"\1"]) for i in range(n)])])
+def with_results(count):
+    return FUNCTION + b"\0" + vector([I32] * count)
 
 
 def set_locals(n):
@@ -224,32 +182,28 @@ def set_locals(n):
     return module({1: vector([NO_FUNCTION]), 3: vector([b"\0"]), 9: elements, 10: code})
 
 
-def results(n):
-    """Calls of a function with 1,000 results."""
-    return of_types([FUNCTION + b"\0" + vector([I32] * 1000)], b"\0" + b"\x10\0" * n + b"\0" + END)
+def of_groups(group_of, first=0):
+    """Returns a function of the number of types, which makes a module of so many."""
+    return lambda n: of_types([group_of(i) for i in range(first, n)])
 
 
-def nested_blocks(n):
-    return of_types([NO_FUNCTION], nested(n))
-
-
-def branch_table(n):
-    """A branch table with operands."""
-    body = b"\0" + b"\x41\0" * 11 + targets(n)[1:]
-    return of_types([FUNCTION + b"\0" + vector([I32] * 10)], body)
-
-
+# Each module, by what its size counts, and its size.
 MODULES = {
-    "different types": (different, 400000),
-    "equal types": (equal, 900000),
-    "groups of two": (pairs, 200000),
-    "references": (references, 200000),
-    "empty groups": (empty_groups, 400000),
-    "one group": (one_group, 400000),
+    "different types": (of_groups(numbered, 1), 400000),
+    "equal types": (of_groups(lambda i: NO_FUNCTION), 900000),
+    # (the second type of a group differs)
+    "groups of two": (of_groups(lambda i: GROUP + vector([NO_FUNCTION, numbered(i)]), 1), 200000),
+    # (structures that differ in the type that they refer to)
+    "references": (lambda n: of_types([NO_FUNCTION, *(structure(i, b"\0") for i in range(n))]), 200000),
+    "empty groups": (lambda n: of_types([NO_FUNCTION] * n + [GROUP + b"\0"] * n), 400000),
+    # (each type refers to the next)
+    "one group": (lambda n: of_types([GROUP + vector([structure((i + 1) % n, b"\1") for i in range(n)])]), 400000),
     "set locals": (set_locals, 2000000),
-    "results": (results, 20000),
-    "nested": (nested_blocks, 1000000),
-    "targets": (branch_table, 1000000),
+    # (calls of a function with 1,000 results)
+    "results": (lambda n: of_types([with_results(1000)], b"\0" + b"\x10\0" * n + b"\0" + END), 20000),
+    "nested": (lambda n: of_types([NO_FUNCTION], nested(n)), 1000000),
+    # (with operands)
+    "targets": (lambda n: of_types([with_results(10)], b"\0" + b"\x41\0" * 11 + targets(n)), 1000000),
 }
 
 

@@ -9,6 +9,7 @@ replay.section, code sections of the same bodies; and globals.section.
 
 import random
 
+from c_answers import rows
 from shared.arguments import read
 from shared.crates import TOP
 from shared.modules import sized, vector
@@ -32,17 +33,13 @@ def prefixed(bodies):
     return b"".join(len(body).to_bytes(4, "little") + body for body in bodies)
 
 
-def rows(text):
-    return [line.split("\t") for line in text.split("\n")[1:] if line]
-
-
 def main():
     given = read(__doc__, "FILE", "FOLDER")
-    replay, samples = given.file.read_text(encoding="utf-8").split("\nname\t")
+    replay, samples = rows(given.file.read_text(encoding="utf-8"))
     folder = given.folder
     files = {
-        "replay": [bytes.fromhex(cells[2]) for cells in rows(replay)],
-        "samples": [bytes.fromhex("".join(cells[2:5])) for cells in rows(samples)],
+        "replay": [bytes.fromhex(row["hex"]) for row in replay],
+        "samples": [bytes.fromhex(row["before"] + row["operator"] + row["behind"]) for row in samples],
     }
     for name, bodies in files.items():
         (folder / f"{name}.bodies").write_bytes(prefixed(bodies))

@@ -33,8 +33,9 @@ COLUMNS = ["name", "label", "verdict", "offset", "message", "module"]
 # In a cell: the same as in the row before.
 SAME = '"'
 BATCH = 200
-SECONDS = 120
-REJECTED = re.compile(r"(?P<file>\S+): error at 0x(?P<offset>[0-9a-f]+)[^:]*: (?P<message>.*)")
+SECONDS = 300
+FUNCTION = r"(?: \(function \d+(?: <.*>)?\))?"
+REJECTED = re.compile(rf"(?P<file>\S+): error at 0x(?P<offset>[0-9a-f]+){FUNCTION}: (?P<message>.*)")
 
 
 @dataclass
@@ -69,35 +70,27 @@ def cases_of(path=TABLE):
     return out
 
 
-def file_of(number):
-    return f"{number:05}.wasm"
-
-
-def in_batches(folder, modules, program):
-    """Writes the modules into the folder, and returns the lines that a program writes of them."""
-    for number, module in enumerate(modules):
-        (Path(folder) / file_of(number)).write_bytes(module)
-    lines = []
-    for first in range(0, len(modules), BATCH):
-        names = [file_of(number) for number in range(first, min(first + BATCH, len(modules)))]
-        ran = subprocess.run([program, *names], cwd=folder, capture_output=True, text=True, timeout=SECONDS)
-        if ran.returncode not in (0, 1):
-            sys.exit(f"{program} ended with status {ran.returncode}: {ran.stderr[-300:]}")
-        lines += (ran.stdout + ran.stderr).splitlines()
-    return lines
+def rejected(program, options, names, folder):
+    """Returns the offset and the message of the error in each file that a program rejects."""
+    ran = subprocess.run([program, *options, *names], cwd=folder, capture_output=True, text=True, timeout=SECONDS)
+    if ran.returncode not in (0, 1):
+        sys.exit(f"{program} ended with status {ran.returncode}: {ran.stderr[-300:]}")
+    found = map(REJECTED.fullmatch, (ran.stdout + ran.stderr).splitlines())
+    return {it["file"]: (int(it["offset"], 16), it["message"]) for it in found if it}
 
 
 def compared(program, cases, messages):
     """Returns the cases of which a program says something else, a line each."""
+    names, found, out = [f"{number:05}.wasm" for number in range(len(cases))], {}, []
     with tempfile.TemporaryDirectory() as folder:
-        lines = in_batches(folder, [it.module for it in cases], program)
-    found = {match["file"]: match for match in map(REJECTED.fullmatch, lines) if match}
-    out = []
-    for number, it in enumerate(cases):
-        match = found.get(file_of(number))
-        said = ("", "") if match is None else (f"0x{match['offset']}", match["message"])
+        for name, it in zip(names, cases):
+            (Path(folder) / name).write_bytes(it.module)
+        for first in range(0, len(names), BATCH):
+            found |= rejected(program, [], names[first : first + BATCH], folder)
+    for name, it in zip(names, cases):
+        said = (f"0x{found[name][0]:x}", found[name][1]) if name in found else ("", "")
         parts = 2 if messages else 0 if it.verdict == "unsupported" else 1
-        if (match is None) != it.is_valid or said[:parts] != (it.offset, it.message)[:parts]:
+        if (name not in found) != it.is_valid or said[:parts] != (it.offset, it.message)[:parts]:
             text = " ".join(said).strip() or "ok"
             out.append(f"{it.name}, {it.label}: {it.verdict} ({it.offset} {it.message}), and {text} by the program: {it.module.hex()}")
     return out

@@ -25,24 +25,15 @@ from pathlib import Path
 
 from shared import modules
 from shared.arguments import read
+from typing_cases import SECONDS, rejected
 
 BATCH = 100
-SECONDS = 300
 PREAMBLE = 8
 CHANGES = 10
 SMITH = ["--max-memories=2", "--max-tables=3", "--gc-enabled=true", "--exceptions-enabled=true", "--simd-enabled=true"]
 SMITH += ["--relaxed-simd-enabled=true", "--tail-call-enabled=true", "--memory64-enabled=true", "--threads-enabled=true"]
 SMITH += ["--reference-types-enabled=true", "--bulk-memory-enabled=true", "--multi-value-enabled=true", "--extended-const-enabled=true"]
 FEATURES = ["--features", "MULTI_MEMORY|MEMORY64|CALL_INDIRECT_OVERLONG"]
-REJECTED = re.compile(r"(?P<file>\S+): error at 0x(?P<offset>[0-9a-f]+)(?: \(function \d+(?: <.*>)?\))?: (?P<message>.*)")
-
-
-def smith(engines, count, folder):
-    """Writes modules of `wasm-tools smith` from fixed seeds into a folder."""
-    inputs = (random.Random(seed).randbytes(200 + seed % 97 * 60) for seed in range(count))
-    for seed, module in engines.smith(SMITH, inputs):
-        (folder / f"smith{seed}.wasm").write_bytes(module)
-        yield folder / f"smith{seed}.wasm"
 
 
 def places(module, count, chosen, every_byte):
@@ -62,15 +53,7 @@ def copies(module, count, seed, every_byte):
         yield module[:at] + bytes([module[at] ^ chosen.randrange(1, 256)]) + module[at + 1 :]
 
 
-def verdicts_of_program(program, folder, names):
-    ran = subprocess.run([program, *FEATURES, *names], cwd=folder, capture_output=True, text=True, timeout=SECONDS)
-    if ran.returncode not in (0, 1):
-        sys.exit(f"{program} ended with status {ran.returncode}: {ran.stderr[-300:]}")
-    found = {match["file"]: match for match in map(REJECTED.fullmatch, ran.stderr.splitlines()) if match}
-    return [(int(found[name]["offset"], 16), found[name]["message"]) if name in found else None for name in names]
-
-
-def verdicts_of_peer(peer, folder, names):
+def rejected_by_peer(peer, names, folder):
     ran = subprocess.run([peer, "--default", "verdict", *names], cwd=folder, capture_output=True, text=True, timeout=SECONDS)
     found = {}
     for line in ran.stdout.splitlines():
@@ -78,11 +61,7 @@ def verdicts_of_peer(peer, folder, names):
         if name in names and said != "ok":
             offset, _, message = said.partition(" ")
             found[name] = (int(offset, 16), message)
-    return [found.get(name) for name in names]
-
-
-def place(verdict):
-    return None if verdict is None else verdict[0]
+    return found
 
 
 def text(verdict):
@@ -96,7 +75,8 @@ def main():
     with tempfile.TemporaryDirectory() as made:
         paths = [Path(it).absolute() for it in wanted.modules]
         if wanted.smith:
-            paths += smith(modules.Engines(wanted.engines), wanted.smith, Path(made))
+            inputs = (random.Random(seed).randbytes(200 + seed % 97 * 60) for seed in range(wanted.smith))
+            paths += modules.Engines(wanted.engines).smith(SMITH, inputs, Path(made))
         for first in range(0, len(paths), BATCH):
             with tempfile.TemporaryDirectory() as folder:
                 names = []
@@ -105,11 +85,11 @@ def main():
                     for copy, contents in enumerate([module, *copies(module, changes, number, wanted.every_byte)]):
                         names.append(f"{path.stem}-{copy}.wasm")
                         (Path(folder) / names[-1]).write_bytes(contents)
-                ours = verdicts_of_program(wanted.program, folder, names)
-                theirs = verdicts_of_peer(wanted.peer, folder, names)
-            for name, our, their in zip(names, ours, theirs):
+                ours = rejected(wanted.program, FEATURES, names, folder)
+                theirs = rejected_by_peer(wanted.peer, names, folder)
+            for name, our, their in ((name, ours.get(name), theirs.get(name)) for name in names):
                 files, accepted = files + 1, accepted + (our is None)
-                if place(our) != place(their):
+                if (our and our[0]) != (their and their[0]):
                     differ += 1
                     reasons[re.sub(r"\d+", "N", their[1] if their else "ok")] += 1
                     print(f"{name}: {text(our)}; wasmparser: {text(their)}")

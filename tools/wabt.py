@@ -180,27 +180,19 @@ def compared(program, module, folder):
 
 def other_modules(given):
     programs = built(CRATE.name, given.program)
+    if not shutil.which(THEIRS[0]):
+        return f"{THEIRS[0]}: not found"
     if not programs or not given.words:
         return "name a module" if programs else missing(CRATE.name, given.program)
     with tempfile.TemporaryDirectory() as folder:
         return not all([compared(programs[0], module, folder) for module in given.words])
 
 
-# Each command, and the program that it needs.
-COMMANDS = {
-    "stored": (stored_modules, None),
-    "objdump": (other_modules, THEIRS[0]),
-}
-
-
 def main():
     given = read(__doc__, "--program PROGRAM", "COMMAND", "WORD..")
-    if given.command not in COMMANDS:
-        sys.exit(f"{given.command}: the commands are {', '.join(COMMANDS)}")
-    command, needed = COMMANDS[given.command]
-    if needed and not shutil.which(needed):
-        sys.exit(f"{needed}: not found")
-    sys.exit(command(given) or 0)
+    if given.command not in ("stored", "objdump"):
+        sys.exit(f"{given.command}: the commands are stored and objdump")
+    sys.exit(stored_modules(given) if given.command == "stored" else other_modules(given))
 
 
 if __name__ == "__main__":

@@ -6,6 +6,7 @@ import re
 from pathlib import PurePosixPath
 
 from packing.builds import TOP
+from shared.tables import rows_of
 
 
 def packing(name):
@@ -38,25 +39,8 @@ NOTE = """\
 
 """
 CALLERS = "docs/CALLERS.md"
-# What the installed CALLERS.md has in place of the commands in a clone.
-IN_PLACE = [
-    (
-        r"Commands run in a clone's root\.",
-        "Commands run in a copy of this folder. The variable `prefix` is the path of the folder that has `bin`, and "
-        "`PKG_CONFIG_PATH` is `$prefix/lib/pkgconfig`.",
-    ),
-    (r"With the Rattle kit \(`rt doc` .*?, programs need neither clone nor kit:", "Programs need neither clone nor kit:"),
-    (
-        r"-Ic/include -o (\w+) c/examples/(\w+\.c) rust/native/libwasm_c\.a rust/native/liblibc_c\.a -lm",
-        r"-o \1 \2 $(pkg-config --cflags --libs wasm_operators)",
-    ),
-    (r"--manifest-path rust/Cargo\.toml", "--manifest-path CRATE/Cargo.toml --target-dir target"),
-    (r"<< 'TEXT'\n(wasm-operators = \{ path = )\"\.\./rust\"", r'<< TEXT\n\1"CRATE"'),
-    (r"path = \"\.\./rust\"", 'path = "CRATE"'),
-    (r"`rust`", "`CRATE`"),
-    (r"c/examples/|crates/wasm_objdump/data/", ""),
-    (r"\bDIR\b", "$prefix"),
-]
+# What the installed CALLERS.md has in place of the commands in a clone: patterns, and what replaces them.
+IN_PLACE = [tuple(row.values()) for row in rows_of(TOP / "tools/packing/callers.tsv")]
 LINK = re.compile(r"\[([^\]]*)\]\(([^)#\s]*)(#[^)\s]*)?\)")
 
 

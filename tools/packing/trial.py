@@ -106,7 +106,6 @@ def try_c(prefix, folder, env):
     flags = ran(["pkg-config", "--cflags", "--libs", "wasm_operators"], folder, env).split()
     for source in sorted((prefix / installed.DOC).glob("*.c")):
         ran(["cc", "-std=c99", "-Wall", "-Werror", "-o", source.stem, source, *flags], folder, env)
-    (folder / "body").write_bytes(BODY)
     (folder / "list").unlink()
     ran(["bash", "-euc", block_of(prefix, "sh")], folder, {**env, "prefix": str(prefix)})
     ran([folder / "list", "body"], folder, env, LISTED)
@@ -117,7 +116,6 @@ def try_shared(prefix, folder, env):
         return
     words = ["cc", "-std=c99", f"-I{prefix}/include", "-o", "by_shared", prefix / installed.DOC / "list.c"]
     ran([*words, f"-L{prefix}/lib", f"-Wl,-rpath,{prefix}/lib", "-lwasm_operators"], folder, env)
-    (folder / "body").write_bytes(BODY)
     ran([folder / "by_shared", "body"], folder, env, LISTED)
 
 
@@ -125,7 +123,6 @@ def try_cmake(prefix, folder, env):
     (folder / "cmake").mkdir()
     text = CMAKE.format(source=prefix / installed.DOC / "list.c", use=block_of(prefix, "cmake"))
     (folder / "cmake/CMakeLists.txt").write_text(text, encoding="utf-8")
-    (folder / "body").write_bytes(BODY)
     ran(["cmake", "-S", "cmake", "-B", "made", f"-DCMAKE_PREFIX_PATH={prefix}"], folder, env)
     ran(["cmake", "--build", "made"], folder, env)
     ran([folder / "made/list", "body"], folder, env, LISTED)
@@ -154,6 +151,7 @@ def run(out, archive=None):
         folder = Path(made)
         env = {name: value for name, value in os.environ.items() if name in ("HOME", "RUSTUP_HOME", "CARGO_HOME", "LANG")}
         env["PATH"] = path_without_rt(folder / "path")
+        (folder / "body").write_bytes(BODY)
         if any(shutil.which(name, path=env["PATH"]) for name in ("rt", "rattle")):
             raise Failed("rt is still on the PATH")
         prefix = unpacked(archive, folder, env) if archive else folder / "prefix"

@@ -10,8 +10,8 @@ INDENTED = re.compile(r"(?<=\n\n)((?: {4}.*\n|\n(?= {4}))+)")
 
 
 class Block:
-    def __init__(self, line, text, is_command=False):
-        self.line, self.text, self.is_command = line, text, is_command
+    def __init__(self, line, text):
+        self.line, self.text = line, text
         self.first = text.split("\n", 1)[0].strip()
 
 
@@ -29,7 +29,7 @@ def blocks_of(page):
     commands = {}
     for found in re.finditer(r"`([^`\n]+)`", INDENTED.sub("", prose)):
         if COMMAND.match(found[1]):
-            commands.setdefault(found[1], Block(0, found[1], is_command=True))
+            commands.setdefault(found[1], Block(0, found[1]))
     return [Block(line, text) for line, text in sorted(lines)], list(commands.values())
 
 

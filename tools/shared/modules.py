@@ -24,6 +24,15 @@ def code(module):
     return next(((start, end) for number, _, start, end in sections(module) if number == CODE), None)
 
 
+def bodies(module):
+    """Yields where each function body starts and ends."""
+    count, at = read(module, code(module)[0]) if code(module) else (0, 0)
+    for _ in range(count):
+        size, start = read(module, at)
+        at = start + size
+        yield start, at
+
+
 def vector(items):
     return unsigned(len(items)) + b"".join(items)
 
@@ -53,12 +62,15 @@ class Engines:
         command = [*loader, self.root / "usr/bin" / words[0], *words[1:]]
         return subprocess.run(command, input=given, capture_output=True, timeout=seconds)
 
-    def smith(self, flags, inputs):
-        """Yields the number and the module of each input from which `wasm-tools smith` makes one."""
+    def smith(self, flags, inputs, folder):
+        """Writes the module that `wasm-tools smith` makes of each input into a folder, and yields its path."""
+        folder.mkdir(exist_ok=True)
         for number, given in enumerate(inputs):
             ran = self.run(["wasm-tools", "smith", *flags], given)
             if ran.returncode == 0:
-                yield number, ran.stdout
+                path = folder / f"smith{number}.wasm"
+                path.write_bytes(ran.stdout)
+                yield path
             elif b"error: " in ran.stderr and b"Usage" in ran.stderr:
                 raise SystemExit(ran.stderr.decode(errors="replace"))
 

@@ -1,14 +1,11 @@
-import tempfile
 import unittest
-from pathlib import Path
 
 import blocks
 import contracts
 from pages.blocks import EXCEPTED, Block, blocks_of
+from tests import InFolder, data
 
-DATA = Path(__file__).parent / "data"
-PAGE = (DATA / "page.txt").read_text(encoding="utf-8")
-SOURCE = (DATA / "reader.rt.txt").read_text(encoding="utf-8")
+PAGE = data("page.txt")
 
 
 class Finding(unittest.TestCase):
@@ -46,7 +43,7 @@ class Finding(unittest.TestCase):
         self.assertIn("is in no crate", blocks.shown("page", block, blocks.Row("page\t\theld\tcrates/other/src/list.rt")))
 
 
-class Contracts(unittest.TestCase):
+class Contracts(InFolder):
     PAGE = "<!-- contracts\nlow/src/lib.rt Reader: next\n-->\n\n```text\nold\n```\n"
     QUOTE = """\
 fn Reader::next(&mut self, limit: usize) -> Result<u8> where Self: Sized
@@ -56,19 +53,15 @@ fn Reader::next(&mut self, limit: usize) -> Result<u8> where Self: Sized
 """
 
     def setUp(self):
-        folder = tempfile.TemporaryDirectory()
-        self.addCleanup(folder.cleanup)
-        self.top = Path(folder.name)
-        path = self.top / "crates" / "low" / "src" / "lib.rt"
-        path.parent.mkdir(parents=True)
-        path.write_text(SOURCE, encoding="utf-8")
+        super().setUp()
+        self.file("crates/low/src/lib.rt", data("reader.rt.txt"))
 
     def test_quote(self):
-        text, count = contracts.with_quotes(self.PAGE, self.top)
+        text, count = contracts.with_quotes(self.PAGE, self.folder)
         self.assertEqual((text, count), (self.PAGE.replace("old\n", self.QUOTE), 1))
-        self.assertEqual(contracts.with_quotes(text, self.top)[0], text)
+        self.assertEqual(contracts.with_quotes(text, self.folder)[0], text)
 
     def test_what_cannot_be_quoted(self):
         for names in ("low/src/lib.rt Reader: gone", "low/src/lib.rt Reader: unsaid", "low/src/gone.rt Reader: next"):
             with self.assertRaises(contracts.Wrong):
-                contracts.quoted(names, self.top)
+                contracts.quoted(names, self.folder)

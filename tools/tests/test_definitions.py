@@ -1,11 +1,10 @@
 import unittest
-from pathlib import Path
 
 from pages import rows, specs
+from shared.crates import TOP
+from tests import data
 
-DATA = Path(__file__).parent / "data"
-TOP = Path(__file__).resolve().parent.parent.parent
-SPEC = (DATA / "words.antt.txt").read_text(encoding="utf-8")
+SPEC = data("words.antt.txt")
 
 
 def file(text=SPEC, crate="wasm_low", name="Words"):

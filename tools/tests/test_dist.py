@@ -1,12 +1,9 @@
-import importlib.machinery
-import importlib.util
 import io
 import os
 import re
 import shutil
 import subprocess
 import tarfile
-import tempfile
 import unittest
 from contextlib import redirect_stdout
 from pathlib import Path
@@ -14,17 +11,12 @@ from unittest import mock
 
 import trust
 from packing import builds, installed, manual, package, rattle, release, shared_library, texts, trial
+from shared.crates import TOP
 from testing.crates import Crates
+from testing.over_libraries import loaded
+from tests import InFolder, data
 
-DATA = Path(__file__).parent / "data"
-TOP = Path(__file__).resolve().parent.parent.parent
-
-
-def tool(name):
-    loader = importlib.machinery.SourceFileLoader(name, str(TOP / "tools" / name))
-    module = importlib.util.module_from_spec(importlib.util.spec_from_loader(name, loader))
-    loader.exec_module(module)
-    return module
+dist = loaded(TOP / "tools/dist")
 
 
 class Pages(unittest.TestCase):
@@ -35,19 +27,7 @@ class Pages(unittest.TestCase):
                 self.assertTrue((TOP / path).exists(), f"{name}: {path}")
 
 
-class Folders(unittest.TestCase):
-    def setUp(self):
-        folder = tempfile.TemporaryDirectory()
-        self.addCleanup(folder.cleanup)
-        self.folder = Path(folder.name)
-
-    def file(self, path, text=""):
-        (self.folder / path).parent.mkdir(parents=True, exist_ok=True)
-        (self.folder / path).write_text(text)
-        return self.folder / path
-
-
-class Builds(Folders):
+class Builds(unittest.TestCase):
     def test_programs_and_what_they_need(self):
         crates = Crates(TOP)
         programs, libraries = builds.programs_of(crates), builds.libraries_of(crates)
@@ -58,12 +38,7 @@ class Builds(Folders):
             self.assertLessEqual(set(crates.below(name)), set(libraries[:at]), name)
 
 
-# Commands in place of the kit's.
-RT = (DATA / "rt.sh").read_text(encoding="utf-8")
-RATTLE = (DATA / "rattle.sh").read_text(encoding="utf-8")
-
-
-class Proved(Folders):
+class Proved(InFolder):
     def setUp(self):
         super().setUp()
         self.repo, self.kit = self.folder / "repo", self.folder / "kit"
@@ -75,8 +50,9 @@ class Proved(Folders):
         git("init", "-q")
         git("add", ".")
         git("commit", "-qm", "all")
-        self.file("kit/bin/rattle", RATTLE).chmod(0o755)
-        self.file("path/rt", RT).chmod(0o755)
+        # (commands in place of the kit's)
+        self.program(data("rattle.sh"), "kit/bin/rattle")
+        self.program(data("rt.sh"), "path/rt")
 
     def build(self, result="4 passed, 0 failed", verdict="logic=proved functions=1"):
         env = {"PATH": f"{self.folder}/path:{os.environ['PATH']}", "RESULT": result, "VERDICT": verdict}
@@ -103,7 +79,7 @@ class Proved(Folders):
             self.build(verdict="logic=not-proved")
 
 
-class Package(Folders):
+class Package(InFolder):
     def test_package(self):
         library = self.file("libwasm_c.a", "archive")
         made = package.make(self.folder / "made", [library], {"low-LICENSE": self.file("LICENSE", "free")})
@@ -127,10 +103,10 @@ class Package(Folders):
         self.assertIn("WASM_OPERATORS_LIBRARIES=$PWD/dist/lib", script)
 
 
-HELP = (DATA / "help.txt").read_text(encoding="utf-8")
+HELP = data("help.txt")
 
 
-class Manual(Folders):
+class Manual(InFolder):
     def test_man_page(self):
         page = manual.man_page("wasm_objdump", HELP, "abc", ["wasm_objdump", "wasm_dump"])
         self.assertTrue(page.startswith(f'.TH WASM_OBJDUMP 1 "" "{texts.release()} (abc)"\n.SH NAME\nwasm_objdump \\- lists the sections '))
@@ -161,7 +137,7 @@ class Manual(Folders):
 
 
 @unittest.skipUnless(shutil.which("cc"), "there is no cc")
-class Shared(Folders):
+class Shared(InFolder):
     def archive(self, name, text):
         source = self.file(f"{name}.c", text)
         subprocess.run(["cc", "-fPIC", "-c", "-o", source.with_suffix(".o"), source], check=True)
@@ -184,9 +160,9 @@ class Shared(Folders):
         self.assertFalse((self.folder / shared_library.NAME).exists())
 
 
-class Release(Folders):
+class Release(InFolder):
     def test_release(self):
-        self.file("dist/bin/low", "program").chmod(0o755)
+        self.program("program", "dist/bin/low")
         with self.assertRaises(builds.Failed):
             release.make(self.folder / "dist")
         self.file("dist/PROVED", "proved")
@@ -205,7 +181,7 @@ class Release(Folders):
         self.assertTrue((self.folder / f"{name}.md").read_text(encoding="utf-8").startswith("## "))
 
 
-class Texts(Folders):
+class Texts(InFolder):
     def test_links_of_installed_pages(self):
         text = "[a](b.md#c) [d](../x/y.rt) [e](https://e.example/f) [g](#h) [i](../x/z.c)"
         names = {"docs/b.md": "b.md", "x/z.c": "z.c"}
@@ -213,7 +189,7 @@ class Texts(Folders):
         self.assertEqual(changed, "[a](b.md#c) d [e](https://e.example/f) [g](#h) [i](z.c)")
 
     def test_installed_pages(self):
-        pages = [*tool("dist").PAGES, *tool("dist").EXAMPLES]
+        pages = [*dist.PAGES, *dist.EXAMPLES]
         for path in pages:
             self.file(Path(path).name, texts.installed_page(path, pages) if path.endswith(".md") else "")
         self.assertEqual(list(trial.dead_links(self.folder)), [])
@@ -221,19 +197,19 @@ class Texts(Folders):
         self.assertEqual(list(trial.dead_links(self.folder)), ["CALLERS.md: [x](lost.md)"])
 
     def test_one_release(self):
-        text = lambda path: (texts.TOP / path).read_text(encoding="utf-8")
+        text = lambda path: (TOP / path).read_text(encoding="utf-8")
         version = texts.release()
         self.assertEqual(package.field("version"), version)
         self.assertIn(f'name = "wasm-operators"\nversion = "{version}"\n', text("rust/Cargo.lock"))
         self.assertIn(f"/wasm-operators-{version}`", text("docs/CALLERS.md"))
         self.assertRegex(text("CHANGELOG.md"), rf"\A# Changelog\n[^#]*\n## {version}, ")
         self.assertIn("follows wasmparser 0.263.0", release.notes().split("\n")[0])
-        for path in texts.TOP.glob("crates/*/src/main.rt"):
+        for path in TOP.glob("crates/*/src/main.rt"):
             for found in re.findall(r'^const VERSION: &str = "(.*)";$', path.read_text(encoding="utf-8"), re.M):
                 self.assertEqual(found, f"{path.parts[-3]} {version}, follows wasmparser 0.263.0\\n")
 
 
-class Install(Folders):
+class Install(InFolder):
     DIST = ("bin/low", "lib/pkgconfig/a.pc", "include/a.h", "share/man/man1/low.1", "rattle/KIT", "PROVED", "README.md", "SHA256SUMS")
     PLACES = {
         "bin/low", "lib/pkgconfig/a.pc", "include/a.h", "share/man/man1/low.1", "share/wasm-operators/rattle/KIT",
@@ -274,14 +250,12 @@ class Install(Folders):
             installed.uninstall(self.prefix)
 
     def test_destdir(self):
-        prefix_of = tool("dist").prefix_of
-        with mock.patch.dict(os.environ, {"DESTDIR": "/staged"}):
-            self.assertEqual(prefix_of(Path("/usr")), Path("/staged/usr"))
-        with mock.patch.dict(os.environ, {"DESTDIR": ""}):
-            self.assertEqual(prefix_of(Path("/usr")), Path("/usr"))
+        for staged, wanted in {"/staged": "/staged/usr", "": "/usr"}.items():
+            with mock.patch.dict(os.environ, {"DESTDIR": staged}):
+                self.assertEqual(dist.prefix_of(Path("/usr")), Path(wanted))
 
 
-class RattleLibraries(Folders):
+class RattleLibraries(InFolder):
     def kit(self):
         for path in ("bin/rattle", "bin/rtlib.py", "c/libos_c.a", "rlibs/std.rlib/format", "rattle/std/src/lib.rt", "WHAT"):
             self.file(f"kit/{path}", path)
@@ -330,7 +304,7 @@ class RattleLibraries(Folders):
         self.assertIn("is no Rattle kit", self.add(out, self.folder).stderr)
 
 
-class Trust(Folders):
+class Trust(InFolder):
     def test_search(self):
         self.file("crates.txt", "low:\n")
         self.file("crates/low/src/lib.rt", 'extern "C" {\n    fn f();\n}\n// unsafe { }\nfn g() { unsafe { f() } }\n')

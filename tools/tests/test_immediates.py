@@ -68,9 +68,6 @@ class Records(unittest.TestCase):
 
 
 class Plain(unittest.TestCase):
-    def test_each_operator_has_a_shape(self):
-        self.assertEqual(unshaped(table()), [])
-
     def test_a_number_belongs_to_one_operator_but_for_the_two_of_a_select(self):
         ops = table()
         _, second = shared(ops)

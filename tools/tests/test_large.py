@@ -1,29 +1,23 @@
-import tempfile
-import unittest
-from pathlib import Path
 from types import SimpleNamespace
 from unittest import mock
 
 import large
+from tests import InFolder
 
 # Counts the bytes of a body as operators, except two; accepts modules.
 COUNTS = "#!/bin/sh\n[ -z \"$1\" ] || exit 0\nsize=$(wc -c)\nyes '1 Nop' | head -n $((size - 1))\n"
 REFUSES = "#!/bin/sh\ncat > /dev/null\necho 'error at 0: no' >&2\nexit 1\n"
 
 
-class Large(unittest.TestCase):
+class Large(InFolder):
     def faults(self, script, name):
         """Returns what is wrong with a program that lists a small body, or validates a module."""
-        with tempfile.TemporaryDirectory() as made, mock.patch("builtins.print"):
-            folder = Path(made)
-            (folder / "program").write_text(script, encoding="utf-8")
-            (folder / "program").chmod(0o755)
-            make, _, wanted = large.BODIES[name]
+        program, (make, _, wanted) = self.program(script), large.BODIES[name]
+        with mock.patch("builtins.print"), mock.patch.object(large, "LIBRARY", self.folder / "none"):
             with mock.patch.dict(large.BODIES, {name: (make, 1000, wanted)}, clear=True):
-                with mock.patch.object(large, "LIBRARY", folder / "none"):
-                    (listed,) = large.large_bodies(folder / "program", folder)
-            (validated,) = large.large_modules(folder / "program", ["nested"], folder)
-            return listed, validated
+                (listed,) = large.large_bodies(program, self.folder)
+            (validated,) = large.large_modules(program, ["nested"], self.folder)
+        return listed, validated
 
     def test_outputs(self):
         self.assertEqual(self.faults(COUNTS, "nops"), ([], []))

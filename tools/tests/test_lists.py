@@ -10,6 +10,7 @@ from rules import faults
 from shared.written import stale
 from table import COLUMNS, HEAD, rows_of, table
 from templates import FOLDER
+from tests import InFolder
 
 # Prefix byte and proposal of the groups that may grow. There are 256 SIMD operators already.
 GROUPS = {"Own": ("", "mvp"), "Gc": ("fb", "gc"), "Misc": ("fc", "bulk_memory"), "Atomic": ("fe", "threads")}
@@ -111,35 +112,24 @@ class Generated(unittest.TestCase):
         self.assertEqual(layout.laid_out(out), out)
         self.assertIn(f"    {long} {{\n        first_long_field: u32,\n", out["crates/wasm_instr_ops/src/misc.rt"])
 
+
+class Checked(InFolder):
     def test_check_compares_bytes(self):
-        wanted = {"a.rt": "one\ntwo\n", "b.rt": "é\n", "c.rt": ""}
-        with tempfile.TemporaryDirectory() as folder:
-            top = Path(folder)
-            (top / "a.rt").write_bytes(b"one\r\ntwo\r\n")
-            (top / "b.rt").write_bytes("é\n".encode())
-            self.assertEqual(stale(wanted, top), ["a.rt", "c.rt"])
+        (self.folder / "a.rt").write_bytes(b"one\r\ntwo\r\n")
+        self.file("b.rt", "é\n")
+        self.assertEqual(stale({"a.rt": "one\ntwo\n", "b.rt": "é\n", "c.rt": ""}, self.folder), ["a.rt", "c.rt"])
 
     def test_files_left_over(self):
-        with tempfile.TemporaryDirectory() as folder:
-            source = Path(folder) / "crates" / "wasm_low" / "src"
-            source.mkdir(parents=True)
-            for name in ("new.rt", "old.rt"):
-                (source / name).write_text(f"// {HEAD}\n")
-            (source / "own.rt").write_text("//! By hand.\n")
-            self.assertEqual(left_over({"crates/wasm_low/src/new.rt": ""}, Path(folder)), ["crates/wasm_low/src/old.rt"])
-
-
-class Counts(unittest.TestCase):
-    def test_counts_of_the_docs(self):
-        self.assertEqual(wrong_counts(table()), [])
+        for name, text in {"new": f"// {HEAD}\n", "old": f"// {HEAD}\n", "own": "//! By hand.\n"}.items():
+            self.file(f"crates/wasm_low/src/{name}.rt", text)
+        self.assertEqual(left_over({"crates/wasm_low/src/new.rt": ""}, self.folder), ["crates/wasm_low/src/old.rt"])
 
     def test_a_count_that_is_no_more(self):
-        with tempfile.TemporaryDirectory() as folder:
-            (Path(folder) / "README.md").write_text("All 628 operators,\n255 SIMD operators of 20 proposals, 627 visits.\n")
-            found = [it.split(": ")[1] for it in wrong_counts(table(), Path(folder))]
-            self.assertEqual(found, ["255 SIMD operators", "20 proposals"])
-            found = [it.split(": ")[1] for it in wrong_counts([*table(), table()[0]], Path(folder))]
-            self.assertEqual(found, ["628 operators", "255 SIMD operators", "20 proposals", "627 visits"])
+        self.file("README.md", "All 628 operators,\n255 SIMD operators of 20 proposals, 627 visits.\n")
+        found = lambda ops: [it.split(": ")[1] for it in wrong_counts(ops, self.folder)]
+        self.assertEqual(found(table()), ["255 SIMD operators", "20 proposals"])
+        more = found([*table(), table()[0]])
+        self.assertEqual(more, ["628 operators", "255 SIMD operators", "20 proposals", "627 visits"])
 
 
 class Templates(unittest.TestCase):

@@ -2,13 +2,15 @@ import re
 import unittest
 
 import expected_reading as reading
-from original import originals
+import expected_writing as writing
+from original import FOLDER, originals
 from printed_fields import printed_field_files
+from shared.crates import TOP
 from shared.leb128 import read
 from table import table
 
-
 ORIGINALS = originals()
+REPLAY = TOP / "crates" / "wasm_tests_replay"
 
 
 def prefix_and_code(operator):
@@ -56,3 +58,30 @@ class Printed(unittest.TestCase):
         for op in table():
             enum = "Operator" if op.group == "Own" else f"{op.group}Operator"
             self.assertEqual(len(re.findall(rf"\b{enum}::{op.name}\b", text)), 1 if op.fields else 0)
+
+
+class Written(unittest.TestCase):
+    def test_shortest_of_two_of_each(self):
+        rows, ops = list(writing.rows()), {op.name: op for op in ORIGINALS}
+        self.assertEqual([name for name, *_ in rows], [name for name in ops for _ in range(2)])
+        for name, _, given, _, short in rows:
+            self.assertLessEqual(len(short), len(given), name)
+            self.assertEqual(writing.shortest(ops[name], short), short)
+
+
+class Replay(unittest.TestCase):
+    lines = (REPLAY / "stdin").read_text(encoding="utf-8").splitlines()
+
+    def test_columns(self):
+        sizes = {len(line.split("\t")) for line in self.lines}
+        self.assertEqual(sizes, {15, 6})
+
+    def test_samples_are_those_of_the_original(self):
+        samples = [line for line in self.lines if len(line.split("\t")) == 6]
+        self.assertEqual(samples, (FOLDER / "samples.tsv").read_text(encoding="utf-8").splitlines())
+
+    def test_each_line_but_the_names_of_columns_is_a_case(self):
+        names = [line for line in self.lines if line.split("\t")[1] == "features"]
+        self.assertEqual(len(names), 2)
+        wanted = f"{len(self.lines) - len(names)} cases, 0 differ\n"
+        self.assertEqual((REPLAY / "stdout").read_text(encoding="utf-8"), wanted)

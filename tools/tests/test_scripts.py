@@ -1,11 +1,6 @@
-import importlib.machinery
-import importlib.util
 import io
 import os
-import sys
-import tempfile
 import unittest
-from pathlib import Path
 
 import allocations
 import cases
@@ -14,9 +9,11 @@ import edges
 import gate_table
 import timed
 from pages import specs
+from shared.crates import TOP
+from testing.over_libraries import loaded
+from tests import InFolder, data
 
-DATA = Path(__file__).parent / "data"
-LOG = (DATA / "gate.log").read_text(encoding="utf-8")
+LOG = data("gate.log")
 
 
 class GateTable(unittest.TestCase):
@@ -116,13 +113,9 @@ class Edges(unittest.TestCase):
         self.assertEqual(edges.cited(several, "tests", LISTED), {"low.proofs.Words.word", "low.proofs.Words.other", "low.proofs.Sums"})
 
 
-class Cases(unittest.TestCase):
+class Cases(InFolder):
     def ended(self, script, **row):
-        with tempfile.TemporaryDirectory() as folder:
-            program = Path(folder) / "program"
-            program.write_text(f"#!/bin/sh\n{script}\n", encoding="utf-8")
-            program.chmod(0o755)
-            return cases.ended(program, {"words": "", "input": "", "output": "", **row})
+        return cases.ended(self.program(f"#!/bin/sh\n{script}\n"), {"words": "", "input": "", "output": "", **row})
 
     def test_words(self):
         self.assertEqual(cases.words_of('all "" A|\\xff\\xc3'), [b"all", b"", b"A|\xff\xc3"])
@@ -139,20 +132,8 @@ class Cases(unittest.TestCase):
     def test_closed_pipe(self):
         self.assertEqual(self.ended("trap '' PIPE; echo one 2>/dev/null || exit 7", output="closed"), ("7", "closed", ""))
 
-    def test_files_of_the_repository(self):
-        for path in cases.TOP.glob("crates/*/cases.tsv"):
-            for case in cases.cases_of(path):
-                with self.subTest(f"{path.parent.name}: {case['case']}"):
-                    self.assertTrue(case["case"] and case["status"].isdigit())
-                    with tempfile.TemporaryDirectory() as folder:
-                        cases.opened(folder, case)
 
-
-# Rows that allocate twice if the argument is `short`, first to be read.
-COUNTS_ROWS = (DATA / "rows.sh").read_text(encoding="utf-8")
-
-
-class Allocations(unittest.TestCase):
+class Allocations(InFolder):
     def test_ends_of_rows(self):
         plain = (0, b"312 rows, 0 differ\nmore: 0 differ\n", b"")
         one_less = (0, b"312 rows, 0 differ, 1 out of memory\nmore: 0 differ\n", b"")
@@ -167,20 +148,16 @@ class Allocations(unittest.TestCase):
         self.assertFalse(allocations.is_end_of_rows(no_rows, no_rows))
 
     def test_program_of_rows(self):
-        for text, is_well in ((COUNTS_ROWS, True), (COUNTS_ROWS.replace("0 differ", "1 differ"), False)):
-            with self.subTest(text), tempfile.TemporaryDirectory() as folder:
-                crate = Path(folder)
-                (crate / "refused").write_text("rows\n", encoding="utf-8")
-                (crate / "stdout.short").write_text("7 rows, 0 differ\n", encoding="utf-8")
-                (crate / "program").write_text(text, encoding="utf-8")
-                (crate / "program").chmod(0o755)
-                count, wrong = allocations.follow_program(crate / "program", crate, "")
-                self.assertEqual((count, not wrong), (2, is_well))
+        self.file("refused", "rows\n")
+        self.file("stdout.short", "7 rows, 0 differ\n")
+        # (it allocates twice if the argument is `short`, first to read the rows)
+        counts_rows = data("rows.sh")
+        for text, is_well in ((counts_rows, True), (counts_rows.replace("0 differ", "1 differ"), False)):
+            count, wrong = allocations.follow_program(self.program(text), self.folder, "")
+            self.assertEqual((count, not wrong), (2, is_well))
 
 
-SOURCE = (DATA / "contracts.rt.txt").read_text(encoding="utf-8")
-
-
+SOURCE = data("contracts.rt.txt")
 # What the names in `specs` of two crates lead to.
 NAMES = {"wasm_low": {"Words": None, "base": ("wasm_base", [])}, "wasm_base": {"Source": None}}
 
@@ -216,17 +193,9 @@ class Definitions(unittest.TestCase):
         ])
 
 
-def tool(name):
-    loader = importlib.machinery.SourceFileLoader(name, str(cases.TOP / "tools" / name))
-    out = importlib.util.module_from_spec(importlib.util.spec_from_loader(name, loader))
-    sys.dont_write_bytecode = True
-    loader.exec_module(out)
-    return out
-
-
 class Run(unittest.TestCase):
     def test_each_says_what_it_does(self):
-        run = tool("run")
+        run = loaded(TOP / "tools/run")
         found = run.commands()
         self.assertTrue({"lists", "gate", "touches", "bench"} <= set(found))
         for name, path in found.items():
@@ -239,10 +208,10 @@ class Run(unittest.TestCase):
 
 class Touches(unittest.TestCase):
     def test_names_it(self):
-        touches = tool("touches")
-        source = touches.names_it(cases.TOP / "crates" / "wasm_below" / "specs" / "Source.antt", "wasm_below")
+        touches = loaded(TOP / "tools/touches")
+        source = touches.names_it(TOP / "crates" / "wasm_below" / "specs" / "Source.antt", "wasm_below")
         for line in ("use Rattle.wasm_below.specs.Source.{rest}", "ghost use Rattle.wasm_operators.specs.below.Source.{rest};"):
             self.assertTrue(source.search(line), line)
         self.assertIsNone(source.search("use Rattle.wasm_imm.specs.Sources.{rest}"))
-        steps = touches.names_it(cases.TOP / "crates" / "wasm_below" / "proofs" / "Steps.antt", "wasm_below")
+        steps = touches.names_it(TOP / "crates" / "wasm_below" / "proofs" / "Steps.antt", "wasm_below")
         self.assertTrue(steps.search("use Rattle.wasm_below.proofs.Steps.{unsigned_some}"))

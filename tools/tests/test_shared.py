@@ -1,10 +1,8 @@
 import contextlib
 import io
 import unittest
-import xml.etree.ElementTree
 from pathlib import Path
 
-from pages import speed
 from shared import arguments, crates
 
 DOC = "Does it.\n\n    tools/it.py 100%\n"
@@ -44,11 +42,3 @@ class CratesTxt(unittest.TestCase):
         listed = crates.listed("# NAME: those\nlow: kit # for it\nhigh staticlib: low\ntop: high low\n\n")
         self.assertEqual(listed, {"low": ["kit"], "high": ["low"], "top": ["high", "low"]})
         self.assertEqual(crates.below(listed, "top"), ["low", "high"])
-
-
-class Speed(unittest.TestCase):
-    def test_picture(self):
-        root = xml.etree.ElementTree.fromstring(speed.picture())
-        rows = sum(map(len, speed.panels().values()))
-        bars = [it for it in root if it.tag.endswith("rect") and it.get("height") == "16"]
-        self.assertEqual((rows, len(bars)), (10, 20))

@@ -1,12 +1,12 @@
-import tempfile
 import time
 import unittest
-from pathlib import Path
 from unittest import mock
 
-from testing import built, items, outcome, pool, running, selftest
+from shared.crates import TOP
+from testing import items, outcome, pool, running, selftest
 from testing.crates import Crates
 from testing.programs import Builder
+from tests import InFolder
 
 CRATES = """\
 # NAME: what it uses
@@ -17,16 +17,12 @@ program: middle
 """
 
 
-def repository(folder, files):
-    texts = {"crates.txt": CRATES, **files}
-    for name in ("low", "middle", "library"):
-        texts.setdefault(f"crates/{name}/src/lib.rt", "")
-    texts.setdefault("crates/program/src/main.rt", "")
-    for name, text in texts.items():
-        path = Path(folder) / name
-        path.parent.mkdir(parents=True, exist_ok=True)
-        path.write_text(text, encoding="utf-8")
-    return Crates(Path(folder))
+class InRepository(InFolder):
+    def setUp(self):
+        super().setUp()
+        self.file("crates.txt", CRATES)
+        for path in ("low/src/lib.rt", "middle/src/lib.rt", "library/src/lib.rt", "program/src/main.rt"):
+            self.file(f"crates/{path}")
 
 
 class Job:
@@ -41,25 +37,24 @@ class Job:
             yield item, found, 1
 
 
-class Finding(unittest.TestCase):
-    def items(self, files, is_full=False):
-        with tempfile.TemporaryDirectory() as folder:
-            jobs = items.find_jobs(repository(folder, files), is_full)
+class Finding(InRepository):
+    def items(self, is_full=False):
+        jobs = items.find_jobs(Crates(self.folder), is_full)
         return [it for job in jobs for it in job.items if it not in items.CHECKS]
 
-    def test_a_program_without_output_is_no_item(self):
-        self.assertEqual(self.items({}), [])
-
     def test_items_by_files(self):
-        files = {"crates/program/stdout": "", "crates/program/cases.tsv": "", "crates/program/data/a.wasm": ""}
-        self.assertEqual(self.items(files), ["program", "program/cases"])
+        self.assertEqual(self.items(), [])
+        for path in ("stdout", "cases.tsv", "data/a.wasm"):
+            self.file(f"crates/program/{path}")
+        self.assertEqual(self.items(), ["program", "program/cases"])
         with mock.patch.dict(items.OVER_MODULES, {"program": ["wabt.py", "stored"]}):
-            self.assertEqual(self.items(files), ["program", "program/cases", "program/modules"])
-            self.assertEqual(self.items(files, is_full=True)[-1], "program/allocations")
+            self.assertEqual(self.items(), ["program", "program/cases", "program/modules"])
+            self.assertEqual(self.items(is_full=True)[-1], "program/allocations")
 
     def test_what_needs_the_library(self):
-        listed = {"crates.txt": CRATES + "wasm_c_exports staticlib: low\n", "crates/wasm_c_exports/src/lib.rt": ""}
-        self.assertEqual(self.items(listed), [items.REPLAY, items.BLOCKS])
+        self.file("crates.txt", CRATES + "wasm_c_exports staticlib: low\n")
+        self.file("crates/wasm_c_exports/src/lib.rt")
+        self.assertEqual(self.items(), [items.REPLAY, items.BLOCKS])
 
     def test_chosen(self):
         jobs = [Job("low", 1), Job("program", 1, 2, 3), Job("program_of_tests", 1)]
@@ -68,20 +63,17 @@ class Finding(unittest.TestCase):
         self.assertEqual(items.chosen(jobs, ["program/2", "prog", "low"]), ({"program/2", "low"}, ["prog"]))
 
 
-class Building(unittest.TestCase):
+class Building(InRepository):
     def test_digest(self):
-        with tempfile.TemporaryDirectory() as folder:
-            top = Path(folder)
-            digest = lambda: Builder(top, Crates(top), top, top, False).digest("program")
-            repository(folder, {})
-            first = digest()
-            (top / "crates/library/src/lib.rt").write_text("one", encoding="utf-8")
-            self.assertEqual(digest(), first)
-            (top / "crates/low/src/lib.rt").write_text("one", encoding="utf-8")
-            second = digest()
-            self.assertNotEqual(second, first)
-            (top / "crates.txt").write_text(CRATES.replace("low: bitflags", "low:"), encoding="utf-8")
-            self.assertNotEqual(digest(), second)
+        digest = lambda: Builder(self.folder, Crates(self.folder), self.folder, self.folder, False).digest("program")
+        first = digest()
+        self.file("crates/library/src/lib.rt", "one")
+        self.assertEqual(digest(), first)
+        self.file("crates/low/src/lib.rt", "one")
+        second = digest()
+        self.assertNotEqual(second, first)
+        self.file("crates.txt", CRATES.replace("low: bitflags", "low:"))
+        self.assertNotEqual(digest(), second)
 
 
 class Pool(unittest.TestCase):
@@ -127,7 +119,7 @@ class Running(unittest.TestCase):
 
 class SelfTest(unittest.TestCase):
     def test_each_break_changes_its_file(self):
-        crates = Crates(built.TOP)
+        crates = Crates(TOP)
         found = selftest.breaks(crates)
         jobs = items.find_jobs(crates, is_full=False)
         self.assertEqual({it.item for it in found}, {it for job in jobs for it in job.items})

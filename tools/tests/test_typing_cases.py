@@ -1,10 +1,9 @@
-import tempfile
 import unittest
 from collections import Counter
-from pathlib import Path
 
 import typing_cases as typing
 from shared.crates import TOP
+from tests import InFolder
 from typing_cases import Case
 
 HEAD = bytes.fromhex("0061736d01000000")
@@ -14,13 +13,6 @@ CASES = [
     Case("Drop", "more", "invalid", "0x9", "type mismatch: b", HEAD),
     Case("Try", "ok", "unsupported", "0x8", "not enabled", HEAD + b"\x01"),
 ]
-
-
-def program(folder, text):
-    path = Path(folder) / "program"
-    path.write_text(f"#!/usr/bin/env python3\nimport sys\n{text}", encoding="utf-8")
-    path.chmod(0o755)
-    return str(path)
 
 
 class Table(unittest.TestCase):
@@ -46,17 +38,17 @@ class Table(unittest.TestCase):
             self.assertIn(bytes.fromhex(cells[-2]), case.module, cells[0])
 
 
-class Compared(unittest.TestCase):
+class Compared(InFolder):
+    def found(self, text, messages=False):
+        return typing.compared(self.program(f"#!/usr/bin/env python3\nimport sys\n{text}"), CASES, messages)
+
     def test_same_and_different(self):
         says = {"00001.wasm": "0x9 (function 0): type mismatch: c", "00002.wasm": "0x8: type mismatch: b", "00003.wasm": "0x7: no"}
-        with tempfile.TemporaryDirectory() as folder:
-            text = f"says = {says}\nfor it in sys.argv[1:]:\n    if it in says: print(f'{{it}}: error at {{says[it]}}')\nsys.exit(1)\n"
-            path = program(folder, text)
-            (found,) = typing.compared(path, CASES, False)
-            self.assertIn("Drop, more: invalid (0x9 type mismatch: b), and 0x8 type mismatch: b by the program", found)
-            self.assertEqual([it.split(":")[0] for it in typing.compared(path, CASES, True)], ["Nop, more", "Drop, more", "Try, ok"])
+        said = "    if it in says: print(f'{it}: error at {says[it]}')"
+        text = f"says = {says}\nfor it in sys.argv[1:]:\n{said}\nsys.exit(1)\n"
+        (found,) = self.found(text)
+        self.assertIn("Drop, more: invalid (0x9 type mismatch: b), and 0x8 type mismatch: b by the program", found)
+        self.assertEqual([it.split(":")[0] for it in self.found(text, True)], ["Nop, more", "Drop, more", "Try, ok"])
 
     def test_a_wrong_verdict(self):
-        with tempfile.TemporaryDirectory() as folder:
-            found = typing.compared(program(folder, ""), CASES, False)
-            self.assertEqual([it.split(":")[0] for it in found], ["Nop, more", "Drop, more", "Try, ok"])
+        self.assertEqual([it.split(":")[0] for it in self.found("")], ["Nop, more", "Drop, more", "Try, ok"])

@@ -1,16 +1,8 @@
-import tempfile
-import unittest
-from pathlib import Path
-
 import wabt
-
-DATA = Path(__file__).parent / "data"
-# Writes a file, or the list of its sections. Of its input, writes a function if it begins with 0, fails with x, and ends
-# badly with y and z.
-ECHOES = (DATA / "echoes.sh").read_text(encoding="utf-8")
+from tests import InFolder, data
 
 
-class Stored(unittest.TestCase):
+class Stored(InFolder):
     def test_spoiled(self):
         found = dict(wabt.spoiled(b"ab"))
         self.assertEqual(found["byte 0 changed"], b"Nb")
@@ -24,14 +16,12 @@ class Stored(unittest.TestCase):
             self.assertFalse(wabt.is_answer(status, complaint), (status, complaint))
 
     def faults(self, module, text, code_end=1):
-        with tempfile.TemporaryDirectory() as folder:
-            program, path = Path(folder) / "program", Path(folder) / "a.wasm"
-            program.write_text(ECHOES, encoding="utf-8")
-            program.chmod(0o755)
-            path.write_bytes(module)
-            path.with_suffix(".txt").write_bytes(text)
-            path.with_suffix(".sections.txt").write_text(f"     Code start=0x0 end=0x{code_end:x} (size=0x1) count: 1\n", encoding="utf-8")
-            return wabt.stored(program, path)
+        path = self.folder / "a.wasm"
+        path.write_bytes(module)
+        path.with_suffix(".txt").write_bytes(text)
+        self.file("a.sections.txt", f"     Code start=0x0 end=0x{code_end:x} (size=0x1) count: 1\n")
+        # (a program that writes a file, or the list of its sections: of its input, a function if that begins with 0)
+        return wabt.stored(self.program(data("echoes.sh")), path)
 
     def test_compared(self):
         self.assertEqual(self.faults(b"xa", b"xa"), ([], 6))
@@ -40,6 +30,6 @@ class Stored(unittest.TestCase):
         function = b"000030 func[0]:"
         self.assertEqual(self.faults(function, function)[0], [])
         self.assertEqual(len(self.faults(function, function, 3)[0]), 2)
-        # a run that ends with no complaint, and one that is killed
+        # a run that ends with no complaint, and one that is killed (`y` and `z`; with `x` it fails)
         self.assertEqual(len(self.faults(b"ya", b"ya")[0]), 2)
         self.assertEqual(len(self.faults(b"za", b"za")[0]), 2)

@@ -1,0 +1,2 @@
+#!/bin/sh
+exec '{clang}' "$@" -fno-sanitize=address

@@ -1,0 +1,3 @@
+#!/bin/sh
+case " $* " in *" -fsanitize=address "*) cp module.bc '{keep}' && {then} ;; esac
+exec '{clang}' "$@"
