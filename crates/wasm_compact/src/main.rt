@@ -133,6 +133,6 @@ fn main(rt: HostRuntime) -> ExitCode {
         Ok(Request::Help) => print_text(&rt, PROGRAM, HELP),
         Ok(Request::Version) => print_text(&rt, PROGRAM, VERSION),
         Ok(Request::Options(options)) => rewrite(&rt, options),
-        Err(mistake) => complain_mistake(&rt, PROGRAM, mistake),
+        Err(mistake) => complain_mistake(&rt, PROGRAM, mistake, HELP),
     })
 }

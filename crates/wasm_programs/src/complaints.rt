@@ -82,14 +82,27 @@ fn mistake_message(alloc: Global, mistake: &Mistake) -> Result<String, AllocErro
     shown_text(alloc, text.as_str())
 }
 
-/// Prints why the arguments are wrong, with escaped control characters, and returns the exit status.
-pub fn complain_mistake(rt: &HostRuntime, program: &str, mistake: &Mistake) -> u8 {
+/// Prints the first line of a help text on standard error.
+fn print_usage(rt: &HostRuntime, help: &str) {
+    let usage = match help.split_once('\n') {
+        Some((line, _)) => line,
+        None => help,
+    };
+    let _ = eprintln!(rt; "{usage}");
+}
+
+/// Prints why the arguments are wrong, with escaped control characters, and returns the exit status. If
+/// no file is named, the first line of `help` follows: how the program is called.
+pub fn complain_mistake(rt: &HostRuntime, program: &str, mistake: &Mistake, help: &str) -> u8 {
     if let Mistake::Memory = mistake {
         return complain_memory(rt, program);
     }
     match mistake_message(rt.alloc(), mistake) {
         Ok(message) => {
             let _ = eprintln!(rt; "{program}: {message}");
+            if let Mistake::NoFile = mistake {
+                print_usage(rt, help);
+            }
             USAGE
         }
         Err(_) => complain_memory(rt, program),
