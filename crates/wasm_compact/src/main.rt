@@ -15,8 +15,8 @@ use wasm_compaction::{Choices, CompactionFault, compact};
 use wasm_module::CustomSection;
 use wasm_operators::BinaryReader;
 use wasm_programs::{
-    Mistake, OUTSIDE, REFUSED, complain_input, complain_mistake, complain_output, print_text,
-    read_module, shown_path, words_of,
+    Mistake, OUTSIDE, REFUSED, complain_input, complain_memory, complain_mistake, complain_output,
+    print_text, read_module, shown_path, words_of,
 };
 
 /// The name of the program, in messages.
@@ -88,7 +88,10 @@ fn complain_module(rt: &HostRuntime, path: &str, bytes: &[u8], fault: Compaction
 /// Rewrites the module, and returns the exit status.
 fn rewrite(rt: &HostRuntime, options: &Options) -> u8 {
     let path = options.file.as_str();
-    let shown = shown_path(path);
+    let Ok(shown) = shown_path(rt.alloc(), path) else {
+        return complain_memory(rt, PROGRAM);
+    };
+    let shown = shown.as_str();
     let bytes = match read_module(rt, path) {
         Ok(bytes) => bytes,
         Err(error) => return complain_input(rt, PROGRAM, shown, error),
@@ -130,6 +133,6 @@ fn main(rt: HostRuntime) -> ExitCode {
         Ok(Request::Help) => print_text(&rt, PROGRAM, HELP),
         Ok(Request::Version) => print_text(&rt, PROGRAM, VERSION),
         Ok(Request::Options(options)) => rewrite(&rt, options),
-        Err(mistake) => complain_mistake(&rt, PROGRAM, mistake),
+        Err(mistake) => complain_mistake(&rt, PROGRAM, mistake, HELP),
     })
 }

@@ -22,8 +22,8 @@ use wasm_disassembly::{
 };
 use wasm_module::{Functions, ModuleFault};
 use wasm_programs::{
-    Mistake, complain_input, complain_mistake, complain_output, print_text, read_module,
-    shown_path, words_of,
+    Mistake, complain_input, complain_memory, complain_mistake, complain_output, print_text,
+    read_module, shown_path, words_of,
 };
 use wasm_rows::{has_section, list_contents};
 
@@ -243,15 +243,15 @@ fn dump_listings(
     status
 }
 
-/// Writes what is requested of a module, and returns the exit status.
+/// Writes what is requested of a module, and returns the exit status. `shown` is its path as shown in
+/// messages.
 fn dump_module(
     rt: &HostRuntime,
     options: &Options,
-    path: &str,
+    shown: &str,
     bytes: &[u8],
     writer: &mut Output<'_>,
 ) -> u8 {
-    let shown = shown_path(path);
     let mut printed = Printed::new(rt, shown);
     let title = match shown.rsplit_once('/') {
         Some((_, name)) => Some(name),
@@ -263,20 +263,27 @@ fn dump_module(
     dump_listings(rt, options, title, bytes, writer, &mut printed)
 }
 
+/// Writes what is requested of the module in a file, and returns the exit status.
+fn dump_file(rt: &HostRuntime, options: &Options, path: &str, writer: &mut Output<'_>) -> u8 {
+    let Ok(shown) = shown_path(rt.alloc(), path) else {
+        let _ = writer.flush();
+        return complain_memory(rt, PROGRAM);
+    };
+    match read_module(rt, path) {
+        Ok(bytes) => dump_module(rt, options, shown.as_str(), bytes.as_slice(), writer),
+        Err(error) => {
+            let _ = writer.flush();
+            complain_input(rt, PROGRAM, shown.as_str(), error)
+        }
+    }
+}
+
 /// Writes what the options request of all files, until standard output fails. Returns the largest
 /// exit status.
 fn dump_files(rt: &HostRuntime, options: &Options, writer: &mut Output<'_>) -> u8 {
     let mut worst: u8 = 0;
     for path in &options.files {
-        let path = path.as_str();
-        let status = match read_module(rt, path) {
-            Ok(bytes) => dump_module(rt, options, path, bytes.as_slice(), writer),
-            Err(error) => {
-                let _ = writer.flush();
-                complain_input(rt, PROGRAM, shown_path(path), error)
-            }
-        };
-        worst = worst.max(status);
+        worst = worst.max(dump_file(rt, options, path.as_str(), writer));
         if writer.failure().is_some() {
             return worst;
         }
@@ -288,7 +295,7 @@ fn dump_files(rt: &HostRuntime, options: &Options, writer: &mut Output<'_>) -> u
 /// Writes what is requested, and returns the exit status.
 fn dump(rt: &HostRuntime, options: &Options) -> u8 {
     let Ok(buffered) = BufWriter::with_capacity(rt.alloc(), WRITTEN, io::writer(rt)) else {
-        return complain_mistake(rt, PROGRAM, &Mistake::Memory);
+        return complain_memory(rt, PROGRAM);
     };
     let mut writer = Watched::new(buffered);
     let status = dump_files(rt, options, &mut writer);
@@ -314,6 +321,6 @@ fn main(rt: HostRuntime) -> ExitCode {
         Ok(Request::Help) => print_text(&rt, PROGRAM, HELP),
         Ok(Request::Version) => print_text(&rt, PROGRAM, VERSION),
         Ok(Request::Options(options)) => dump(&rt, options),
-        Err(mistake) => complain_mistake(&rt, PROGRAM, mistake),
+        Err(mistake) => complain_mistake(&rt, PROGRAM, mistake, HELP),
     })
 }

@@ -4,6 +4,7 @@ ghost use Rattle.std.specs.Prelude.{⊤};
 use std::io;
 use wasm_disassembly::{Complaints, Fault};
 use wasm_operators::Error;
+use wasm_programs::{complain_memory, shown_text};
 
 /// The name of the program, in messages.
 pub const PROGRAM: &str = "wasm_objdump";
@@ -41,18 +42,24 @@ impl<'a> Printed<'a> {
         fault.status()
     }
 
+    /// Prints that no thing of a kind has the requested name, and returns the exit status.
+    fn no_thing(&self, kind: &str, name: &str) -> u8 {
+        let file = self.file;
+        let Ok(shown) = shown_text(self.rt.alloc(), name) else {
+            return complain_memory(self.rt, PROGRAM);
+        };
+        let _ = eprintln!(self.rt; "{PROGRAM}: {file}: no {kind} is named {shown}");
+        1
+    }
+
     /// Prints that no function has the requested name, and returns the exit status.
     pub fn no_name(&self, name: &str) -> u8 {
-        let file = self.file;
-        let _ = eprintln!(self.rt; "{PROGRAM}: {file}: no function is named {name}");
-        1
+        self.no_thing("function", name)
     }
 
     /// Prints that no section has the requested name, and returns the exit status.
     pub fn no_section(&self, name: &str) -> u8 {
-        let file = self.file;
-        let _ = eprintln!(self.rt; "{PROGRAM}: {file}: no section is named {name}");
-        1
+        self.no_thing("section", name)
     }
 }
 

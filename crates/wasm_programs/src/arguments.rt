@@ -36,8 +36,15 @@ pub enum Argument {
     Version,
 }
 
-/// How many bytes a suggestion has in common with the word, at least: two letters after the dashes.
+/// How many bytes a suggestion has in common with the word, at least, if the word is not near to it: two
+/// letters after the dashes.
 const LEAST: usize = 4;
+
+/// The options of all programs.
+const COMMON: [Choice; 2] = [
+    Choice("--help", None, Kind::Flag),
+    Choice("--version", None, Kind::Flag),
+];
 
 /// The arguments so far.
 #[derive(Drop)]
@@ -63,18 +70,68 @@ fn same_start(one: &str, other: &str) -> usize {
     count
 }
 
-/// Returns the first option of those with the most bytes at the start in common with the word.
-fn suggested(choices: &[Choice], word: &str) -> Option<&'static str> {
+/// Returns whether both texts start with the same two bytes in exchanged order, and are the same after
+/// them.
+fn starts_exchanged(one: &[u8], other: &[u8]) -> bool {
+    match (one, other) {
+        ([first, second, one @ ..], [third, fourth, other @ ..]) => {
+            first == fourth && second == third && one == other
+        }
+        _ => false,
+    }
+}
+
+/// Returns whether a name becomes an option's if one byte is added, dropped or replaced, or if two
+/// neighbours are exchanged.
+fn is_near(name: &str, option: &str) -> bool {
+    let same = same_start(name, option);
+    let Some(name) = name.as_bytes().get(same..) else {
+        return false;
+    };
+    let Some(option) = option.as_bytes().get(same..) else {
+        return false;
+    };
+    match (name, option) {
+        ([_, after @ ..], [_, wanted @ ..]) => {
+            after == wanted || after == option || name == wanted || starts_exchanged(name, option)
+        }
+        _ => name.len().max(option.len()) <= 1,
+    }
+}
+
+/// Returns the first option that a name is near to.
+fn near(choices: &[Choice], name: &str) -> Option<&'static str> {
+    for choice in choices {
+        if is_near(name, choice.long()) {
+            return Some(choice.long());
+        }
+    }
+    None
+}
+
+/// Returns the first option of those with the most bytes at the start in common with the name.
+fn similar(choices: &[Choice], name: &str) -> Option<&'static str> {
     let mut found = None;
     let mut most = LEAST - 1;
     for choice in choices {
-        let count = same_start(word, choice.long());
+        let count = same_start(name, choice.long());
         if count > most {
             most = count;
             found = Some(choice.long());
         }
     }
     found
+}
+
+/// Returns the option that a word is probably meant to be: one that its name is near to, or else one
+/// that starts like it.
+fn suggested(choices: &[Choice], word: &str) -> Option<&'static str> {
+    let name = match word.split_once('=') {
+        Some((name, _)) => name,
+        None => word,
+    };
+    let option = near(choices, name).or(near(&COMMON, name));
+    option.or(similar(choices, name)).or(similar(&COMMON, name))
 }
 
 /// Returns the index of the option with this name.

@@ -1,5 +1,7 @@
 use crate::mistake::Mistake;
+use std::alloc::{AllocError, Global};
 use std::io;
+use wasm_escapes::write_escaped;
 
 /// The exit status if a module has an error.
 pub const REFUSED: u8 = 1;
@@ -13,9 +15,17 @@ pub const OUTSIDE: u8 = 3;
 /// The exit status of a program that SIGPIPE ends, in shells.
 pub const CLOSED_PIPE: u8 = 141;
 
-/// Returns a path as shown in messages: `<stdin>` for `-`.
-pub fn shown_path(path: &str) -> &str {
-    if path == "-" { "<stdin>" } else { path }
+/// Returns a text as shown in messages: ASCII control characters are escaped.
+pub fn shown_text(alloc: Global, text: &str) -> Result<String, AllocError> {
+    let mut shown = String::new(alloc);
+    write_escaped(alloc, &mut shown, text.as_bytes())?;
+    Ok(shown)
+}
+
+/// Returns the path of a module as shown in messages: `<stdin>` for `-`, otherwise with escaped control
+/// characters.
+pub fn shown_path(alloc: Global, path: &str) -> Result<String, AllocError> {
+    shown_text(alloc, if path == "-" { "<stdin>" } else { path })
 }
 
 /// Returns an error's text without its number.
@@ -26,15 +36,20 @@ fn without_number(text: &str) -> &str {
     }
 }
 
-/// Prints why `what` could not be read or written, and returns the exit status. `program` is the
-/// program's name.
+/// Returns the message that `what` could not be read or written.
+fn input_message(alloc: Global, what: &str, error: io::Error) -> Result<String, AllocError> {
+    let text = error.to_string(alloc)?;
+    let reason = without_number(text.as_str());
+    let message = format!(in alloc; "{what}: {reason}")?;
+    shown_text(alloc, message.as_str())
+}
+
+/// Prints why `what`, such as a path, could not be read or written, and returns the exit status.
+/// Control characters are escaped. `program` is the program's name.
 pub fn complain_input(rt: &HostRuntime, program: &str, what: &str, error: io::Error) -> u8 {
-    let _ = match error.to_string(rt.alloc()) {
-        Ok(text) => {
-            let reason = without_number(text.as_str());
-            eprintln!(rt; "{program}: {what}: {reason}")
-        }
-        Err(_) => eprintln!(rt; "{program}: {what}: {error}"),
+    let _ = match input_message(rt.alloc(), what, error) {
+        Ok(message) => eprintln!(rt; "{program}: {message}"),
+        Err(_) => eprintln!(rt; "{program}: {error}"),
     };
     OUTSIDE
 }
@@ -55,11 +70,41 @@ pub fn print_text(rt: &HostRuntime, program: &str, text: &str) -> u8 {
     }
 }
 
-/// Prints why the arguments are wrong, and returns the exit status.
-pub fn complain_mistake(rt: &HostRuntime, program: &str, mistake: &Mistake) -> u8 {
-    let _ = eprintln!(rt; "{program}: {mistake}");
-    match mistake {
-        Mistake::Memory => OUTSIDE,
-        _ => USAGE,
+/// Prints that allocation failed, and returns the exit status.
+pub fn complain_memory(rt: &HostRuntime, program: &str) -> u8 {
+    let _ = eprintln!(rt; "{program}: {}", Mistake::Memory);
+    OUTSIDE
+}
+
+/// Returns the message about a mistake.
+fn mistake_message(alloc: Global, mistake: &Mistake) -> Result<String, AllocError> {
+    let text = format!(in alloc; "{mistake}")?;
+    shown_text(alloc, text.as_str())
+}
+
+/// Prints the first line of a help text on standard error.
+fn print_usage(rt: &HostRuntime, help: &str) {
+    let usage = match help.split_once('\n') {
+        Some((line, _)) => line,
+        None => help,
+    };
+    let _ = eprintln!(rt; "{usage}");
+}
+
+/// Prints why the arguments are wrong, with escaped control characters, and returns the exit status. If
+/// no file is named, the first line of `help` follows: how the program is called.
+pub fn complain_mistake(rt: &HostRuntime, program: &str, mistake: &Mistake, help: &str) -> u8 {
+    if let Mistake::Memory = mistake {
+        return complain_memory(rt, program);
+    }
+    match mistake_message(rt.alloc(), mistake) {
+        Ok(message) => {
+            let _ = eprintln!(rt; "{program}: {message}");
+            if let Mistake::NoFile = mistake {
+                print_usage(rt, help);
+            }
+            USAGE
+        }
+        Err(_) => complain_memory(rt, program),
     }
 }

@@ -4,7 +4,7 @@ use std::fmt;
 /// Why arguments are wrong.
 #[derive(Drop)]
 pub enum Mistake {
-    /// An argument is no option of the program. The text is an option that starts in the same way.
+    /// An argument is no option of the program. The text is an option with a similar name.
     Unknown(String, Option<&'static str>),
     /// An argument is empty.
     Empty,

@@ -14,7 +14,8 @@ use crate::timed::validate_timed;
 use std::process::ExitCode;
 use wasm_operators::BinaryReader;
 use wasm_programs::{
-    Mistake, complain_input, complain_mistake, print_text, read_module, shown_path, words_of,
+    Mistake, complain_input, complain_memory, complain_mistake, print_text, read_module,
+    shown_path, words_of,
 };
 use wasm_validation::validate_module;
 
@@ -42,7 +43,10 @@ const VERSION: &str = "wasm_validate 0.1.0, follows wasmparser 0.263.0\n";
 
 /// Validates the module in a file. Returns the exit status, after a message unless it is 0.
 fn validate(rt: &HostRuntime, options: &Options, path: &str) -> u8 {
-    let shown = shown_path(path);
+    let Ok(shown) = shown_path(rt.alloc(), path) else {
+        return complain_memory(rt, PROGRAM);
+    };
+    let shown = shown.as_str();
     let bytes = match read_module(rt, path) {
         Ok(bytes) => bytes,
         Err(error) => return complain_input(rt, PROGRAM, shown, error),
@@ -77,6 +81,6 @@ fn main(rt: HostRuntime) -> ExitCode {
         Ok(Request::Help) => print_text(&rt, PROGRAM, HELP),
         Ok(Request::Version) => print_text(&rt, PROGRAM, VERSION),
         Ok(Request::Options(options)) => validate_files(&rt, options),
-        Err(mistake) => complain_mistake(&rt, PROGRAM, mistake),
+        Err(mistake) => complain_mistake(&rt, PROGRAM, mistake, HELP),
     })
 }
